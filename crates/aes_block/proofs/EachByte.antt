@@ -36,7 +36,7 @@ pub agree_at : (f g : ℕ → ℕ) → agree f g ≡ true → (b : ℕ) → b < 
 unfolding each_byte
 agree_at f g h b low = agree_below 256 f g h b low
 
--- a function gives bytes at each byte
+-- a function takes each byte to a byte
 abbrev pub gives_bytes : (ℕ → ℕ) → Bool
 gives_bytes f = list_all (λ b. nat_lt (f b) 256) each_byte
 

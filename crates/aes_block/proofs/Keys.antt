@@ -7,7 +7,7 @@ use Rattle.std.specs.Prelude.{slice_set}
 use Rattle.aes_block.specs.State.{mix_columns}
 use Rattle.aes_block.specs.RoundKey.{round_key, next_key}
 use Rattle.aes_block.specs.Word.{block_of_words}
-use Rattle.aes_block.specs.Schedule.{IsExpanded, key_at_place}
+use Rattle.aes_block.specs.KeySchedule.{IsExpanded, key_at_place}
 
 pub round_key-zero : (key : List ℕ) → round_key key 0 ≡ key
 unfolding round_key

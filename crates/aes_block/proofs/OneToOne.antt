@@ -32,7 +32,7 @@ sub_bytes-one_to_one s t b c e =
     ∙ ap (λ (x : List ℕ). from_places (λ i. inverse_s_box (slice_index x i))) e
     ∙ unsubstituted t c
 
--- a row that has moved by itself four times stands where it was
+-- a row that has moved four times stands where it was
 shift_rows-four : (s : List ℕ) → length s ≡ 16 → shift_rows (shift_rows (shift_rows (shift_rows s))) ≡ s
 unfolding shift_rows from_places
 shift_rows-four s long = spelled s long

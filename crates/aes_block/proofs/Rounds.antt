@@ -49,8 +49,8 @@ IsBytes-after_rounds key s k b (suc j) =
     IsBytes-block_sum _ _ (IsBytes-mix_columns (shift_rows (sub_bytes (after_rounds key j s))))
     (IsBytes-round_key key k (j + 1))
 
--- the state after j rounds are undone: a block that has come to it before the last step of round 9 - j, counted from the
--- first addition, is enciphered to the old one
+-- the state after j rounds are undone: a block that has turned into it before the last step of round 9 - j, counted
+-- from the first addition, is enciphered to the old one
 pub record IsUndone (key old : List ℕ) (j : ℕ) (s : List ℕ) : Type 0 where
   pub enciphers : (p : List ℕ) → shift_rows (sub_bytes (after_rounds key (9 - j) p)) ≡ s → encrypted key p ≡ old
 

@@ -79,7 +79,7 @@ look_up tables x =
     (bit_xor (slice_index (table_in tables 0) x.first) (slice_index (table_in tables 1) x.second))
     (bit_xor (slice_index (table_in tables 2) x.third) (slice_index (table_in tables 3) x.fourth))
 
--- with a key word, in the place where the code adds it
+-- with a key word, at the place where the code adds it
 unfoldable pub look_up_keyed : List (List ℕ) → Column → ℕ → ℕ
 look_up_keyed tables x k =
     bit_xor

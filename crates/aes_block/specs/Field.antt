@@ -3,7 +3,7 @@
 use Rattle.std.specs.Prelude.{ℕ, zero, suc, ◌*◌, ◌/◌, ◌%◌, nat_eq, nat_lt, if◌then◌else◌, bit_xor, find, unwrap_or}
 use Rattle.aes_block.specs.Bytes.{each_byte}
 
--- x times b: a shift, less the modulus 0x11b where x^8 appears
+-- x times b: a shift, less the modulus 0x11b if x^8 appears
 unfoldable pub times_x : ℕ → ℕ
 times_x b = if nat_lt b 128 then b * 2 else bit_xor (b * 2) 0x11b
 

@@ -6,4 +6,4 @@ pub mod State
 pub mod RoundKey
 pub mod Word
 pub mod Cipher
-pub mod Schedule
+pub mod KeySchedule

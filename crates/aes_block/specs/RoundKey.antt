@@ -18,8 +18,8 @@ substituted_word w =
 unfoldable pub round_constant : ℕ → Column
 round_constant j = record { first = power_of_x (j - 1); second = 0; third = 0; fourth = 0 }
 
--- round key j from the one before: each word is the sum of the one four before and the last, where for the first of
--- them the last is rotated and substituted, and the round constant is added
+-- round key j from the one before: each word is the sum of the one four before and the last; for the first of them
+-- the last is rotated and substituted, and the round constant is added
 unfoldable pub next_key : ℕ → List ℕ → List ℕ
 next_key j k =
     let added = column_sum (substituted_word (rotated_word (column_of k 3))) (round_constant j) in

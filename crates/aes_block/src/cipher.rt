@@ -11,14 +11,14 @@ use std::marker::Model;
 
 /// The round keys of one key. A contract sees it as the key: a list of 16 bytes.
 #[derive(Drop)]
-pub struct Schedule {
+pub struct KeySchedule {
     keys: [[u32; 4]; 11],
     inverse_keys: [[u32; 4]; 9],
 }
 
-impl Model for Schedule {
+impl Model for KeySchedule {
     ghost use Rattle.std.specs.Prelude.{List, ℕ};
-    ghost use Rattle.aes_block.specs.Schedule.{IsExpanded, key_at_place};
+    ghost use Rattle.aes_block.specs.KeySchedule.{IsExpanded, key_at_place};
 
     ghost Value = { List ℕ };
 
@@ -27,9 +27,9 @@ impl Model for Schedule {
     ghost invariant = { λ s. IsExpanded s.keys s.inverse_keys };
 }
 
-impl Schedule {
+impl KeySchedule {
     /// Expands the key, once for all blocks under it.
-    pub fn new(key: &[u8; 16]) -> Schedule
+    pub fn new(key: &[u8; 16]) -> KeySchedule
         ensures { result ≡ key.now }
     {
         let mut keys = [words_of(key); 11];
@@ -40,7 +40,7 @@ impl Schedule {
         for i in 0..9 {
             inverse_keys[i] = unmixed_key(&keys[9 - i]);
         }
-        Schedule { keys, inverse_keys }
+        KeySchedule { keys, inverse_keys }
     }
 
     /// Enciphers a block that is given by its words.
@@ -68,7 +68,7 @@ impl Schedule {
     }
 
     /// Deciphers a block that is given by its words.
-    // Each round by itself: in a loop LLVM would keep the state in one vector and take it apart for each look-up.
+    // Each round on its own: in a loop LLVM would keep the state in one vector and take it apart for each look-up.
     #[inline(always)]
     pub fn decrypt_words(&self, s: &mut [u32; 4])
         ensures enciphers_back { encrypted self.now (block_of_words s.new) ≡ block_of_words s.old }
@@ -88,7 +88,7 @@ impl Schedule {
         last_inverse_round(s, &self.keys[0]);
     }
 
-    /// Deciphers a block in place: gives the one block whose encryption stood there.
+    /// Deciphers a block in place: it becomes the one block whose encryption stood there.
     pub fn decrypt_block(&self, b: &mut [u8; 16])
         ensures enciphers_back { encrypted self.now b.new ≡ b.old }
         ensures only_one { (p : List ℕ) → IsBytes 16 p → encrypted self.now p ≡ b.old → b.new ≡ p }

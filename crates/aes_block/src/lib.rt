@@ -1,6 +1,6 @@
 //! AES-128 on single blocks (FIPS 197).
 //!
-//! A [`Schedule`] holds the round keys of one key, expanded once. A block and a key are 16 bytes; a block's byte in row
+//! A [`KeySchedule`] holds the round keys of one key, expanded once. A block and a key are 16 bytes; a block's byte in row
 //! `r` and column `c` of the standard's state stands at place `r + 4c`.
 //!
 //! The definitions in `specs/` are the standard's own: the field of 256 elements with its product and inverse (section
@@ -18,5 +18,5 @@ mod cipher;
 mod tables;
 mod words;
 
-pub use cipher::Schedule;
+pub use cipher::KeySchedule;
 pub use words::{add_words, words_of, write_words};

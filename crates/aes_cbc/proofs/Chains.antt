@@ -107,7 +107,7 @@ sealed_end key whole now last s =
     ∙ append-nil (take 4096 now)
     ∙ take_all 4096 now (omega arith))
 
--- a page whose first j blocks are opened: whatever stands behind them, sealing gives back the blocks that stood there
+-- a page whose first j blocks are opened: whatever stands after them, sealing gives back the blocks that stood there
 -- and goes on from the last; and they begin every page that seals to the old one
 pub record IsOpenedTo (key iv old : List ℕ) (j : ℕ) (now last : List ℕ) : Type 0 where
   pub long : length now ≡ 4096
@@ -118,7 +118,7 @@ pub record IsOpenedTo (key iv old : List ℕ) (j : ℕ) (now last : List ℕ) : 
 pub opened_start : (key iv page : List ℕ) → length page ≡ 4096 → IsOpenedTo key iv page 0 page iv
 opened_start key iv page long = record { long = long; behind = refl; seals = λ t. refl; only = λ q b is. refl }
 
--- one block, where the block cipher gives the one block whose encryption stood there
+-- one block, when the block cipher gives the one block whose encryption stood there
 pub opened_block : (key last sealed plain : List ℕ) → length plain ≡ 16 → IsBytes 16 last → encrypted key plain ≡ sealed → ((p : List ℕ) → IsBytes 16 p → encrypted key p ≡ sealed → plain ≡ p) → IsOpened key last sealed (block_sum plain last)
 opened_block key last sealed plain long last_bytes back only = record {
   back = ap (λ (b : List ℕ). encrypted key b) (block_sum-block_sum plain last long) ∙ back;

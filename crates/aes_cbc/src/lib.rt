@@ -4,7 +4,7 @@
 //! and enciphered; there is no padding. A page is worked on in place, block after block, and no call fails or takes
 //! memory.
 //!
-//! The layer above may rely on this: `seal_page` gives `cbc key iv page`, and `open_page` gives the one page whose
+//! The layer above may rely on this: `seal_page` leaves `cbc key iv page`, and `open_page` leaves the one page whose
 //! `cbc` stood there, whatever bytes those were. Nothing here tells a changed page from an unchanged one, and nothing
 //! is said of what a ciphertext hides.
 #![tactic(auto)]
@@ -17,7 +17,7 @@ ghost use Rattle.aes_block.specs.Cipher.{encrypted};
 ghost use Rattle.cloak_model.specs.Chain.{chained, cbc};
 ghost use Rattle.aes_cbc.specs.Opened.{IsOpened};
 
-use aes_block::{Schedule, add_words, words_of, write_words};
+use aes_block::{KeySchedule, add_words, words_of, write_words};
 
 fn block_at(page: &[u8; 4096], j: usize) -> [u8; 16]
     requires { j < 256 }
@@ -36,7 +36,7 @@ fn put_block(page: &mut [u8; 4096], j: usize, block: &[u8; 16])
 }
 
 /// Enciphers the block that follows cipher block `last`.
-fn seal_block(k: &Schedule, last: &mut [u32; 4], block: &mut [u8; 16])
+fn seal_block(k: &KeySchedule, last: &mut [u32; 4], block: &mut [u8; 16])
     ensures sealed { block.new ≡ encrypted k.now (block_sum block.old (block_of_words last.old)) }
     ensures next { block_of_words last.new ≡ block.new }
 {
@@ -48,7 +48,7 @@ fn seal_block(k: &Schedule, last: &mut [u32; 4], block: &mut [u8; 16])
 }
 
 /// Deciphers the block that follows cipher block `last`.
-fn open_block(k: &Schedule, last: &mut [u32; 4], block: &mut [u8; 16])
+fn open_block(k: &KeySchedule, last: &mut [u32; 4], block: &mut [u8; 16])
     ensures opened { IsOpened k.now (block_of_words last.old) block.old block.new }
     ensures next { block_of_words last.new ≡ block.old }
 {
@@ -61,7 +61,7 @@ fn open_block(k: &Schedule, last: &mut [u32; 4], block: &mut [u8; 16])
 }
 
 /// Enciphers a page in place.
-pub fn seal_page(k: &Schedule, iv: &[u8; 16], p: &mut [u8; 4096])
+pub fn seal_page(k: &KeySchedule, iv: &[u8; 16], p: &mut [u8; 4096])
     ensures { p.new ≡ cbc k.now iv.now p.old }
 {
     let mut last = words_of(iv);
@@ -73,7 +73,7 @@ pub fn seal_page(k: &Schedule, iv: &[u8; 16], p: &mut [u8; 4096])
 }
 
 /// Deciphers a page in place, whatever its bytes.
-pub fn open_page(k: &Schedule, iv: &[u8; 16], p: &mut [u8; 4096])
+pub fn open_page(k: &KeySchedule, iv: &[u8; 16], p: &mut [u8; 4096])
     ensures seals_back { cbc k.now iv.now p.new ≡ p.old }
     ensures only_one { (q : List ℕ) → IsBytes 4096 q → cbc k.now iv.now q ≡ p.old → p.new ≡ q }
 {
@@ -86,7 +86,7 @@ pub fn open_page(k: &Schedule, iv: &[u8; 16], p: &mut [u8; 4096])
 }
 
 /// Enciphers any number of blocks in place, as one chain.
-pub fn seal_blocks(k: &Schedule, iv: &[u8; 16], p: &mut [[u8; 16]])
+pub fn seal_blocks(k: &KeySchedule, iv: &[u8; 16], p: &mut [[u8; 16]])
     ensures { p.new ≡ chained k.now iv.now p.old }
 {
     let mut last = words_of(iv);

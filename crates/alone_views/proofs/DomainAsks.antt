@@ -1,5 +1,5 @@
--- A step of a program that runs alone asks at most two questions, and changes its pages only behind the last one. So
--- where an answer is missing, nothing has changed.
+-- A step of a program that runs alone asks at most two questions, and changes its pages only after the last one. So if
+-- an answer is missing, nothing has changed.
 use Rattle.std.proofs.Common.{◌≡◌, ◌∙◌, ◌<◌, ◌≤◌, ◌+◌, ◌%◌, ◌⊎◌, inl, inr, ℕ, Bool, true, false, cond, List, [], ◌∷◌, length, Option, Some, None, Result, Ok, Err, refl, ap, sym, subst, arith, unwrap_or}
 use Rattle.std.specs.Prelude.{◌==◌}
 use Rattle.cloak_base.specs.declared.names.Kind.{Kind}
@@ -51,20 +51,20 @@ pub record Kept (k : ℕ) (h now : Handed) : Type 0 where
   pub plain : now.plain ≡ h.plain
   pub used : length h.answers ≤ length now.answers + k
 
--- A question found no answer of its kind: the pages have not changed, and where none is left, fewer than two were
+-- A question found no answer of its kind: the pages have not changed, and if none is left, fewer than two were
 -- handed in.
 pub record Lacks (h now : Handed) : Type 0 where
   pub unfit : now.unfit ≡ true
   pub plain : now.plain ≡ h.plain
   pub few : now.answers ≡ [] → length h.answers < 2
 
--- Either each question found its answer, or one did not, and then this was answered.
+-- Either each question found its answer, or one did not, and then Stops is true of the result.
 abbrev pub Outcome : {A : Type 0} → Handed → (A → Handed → Type 0) → (A → Type 0) → A → World → Type 0
 Outcome h Good Stops a (Flat ram) = ⊥
 Outcome h Good Stops a (Cloaked c) = ⊥
 Outcome h Good Stops a (Alone now) = Good a now ⊎ (Lacks h now × Stops a)
 
--- what goes on behind a missing answer changes nothing, and answers so
+-- what goes on after a missing answer changes nothing, and Stops is true of its result
 abbrev pub Quits : {A : Type 0} → (A → Type 0) → Handed → Told A → Type 0
 Quits Stops now t = (t.world ≡ Alone now) × Stops t.answer
 
@@ -129,7 +129,7 @@ asked_get : (h now : Handed) (k va width : ℕ) → k ≤ 1 → Kept k h now →
 unfolding ask_get
 asked_get h now k va width low kept = cut h (k + 1) width _ _ (asked_next h now k is_for_value now.answers low refl kept)
 
--- an answer, and what goes on with it: where none was found it goes on as with Stopped
+-- an answer, and what goes on with it: if none was found it goes on as with Stopped
 then_asked : (B : Type 0) (h : Handed) (k : ℕ) (GoodNext : B → Handed → Type 0) (StopsNext : B → Type 0) (next : Answer → Asking B) (t : Told Answer) →
     Asked k h t →
     ((a : Answer) (now : Handed) → Kept k h now → Outcome h GoodNext StopsNext (next a (Alone now)).answer (next a (Alone now)).world) →
@@ -141,7 +141,7 @@ then_asked B h k GoodNext StopsNext next t o goes quits =
 
 -- An instruction.
 
--- at an ecall one answer was taken, nothing was written, and nothing has changed
+-- at an ecall at most one answer was taken, nothing was written, and nothing has changed
 abbrev pub AfterRan : Handed → Option WordPlace → Ran → Handed → Type 0
 AfterRan h wrote ran.Ecall now = Kept 1 h now × (wrote ≡ None)
 AfterRan h wrote ran.Stay now = now.unfit ≡ false

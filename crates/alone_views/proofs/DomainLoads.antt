@@ -49,7 +49,7 @@ loads_copy slot d c copied.Stopped = no_load (length d.loads)
 loads_copy slot d c copied.Refused = no_load (length d.loads)
 loads_copy slot d c (copied.Loaded address byte) = one_load d address byte
 
--- a write behind a step
+-- a write after a step
 loads_written : (wrote : Option WordPlace) (d : Domain) (s : DomainStepped) → LoadsOnce d s → LoadsOnce d (step.after_write wrote s)
 loads_written None d s once = once
 loads_written (Some place) d s once = once
@@ -204,7 +204,7 @@ pub few_taken : (d : ℕ) (schedule : List ℕ) (s : model.DomainAlone) (i : Ite
 unfolding take_domain_item
 few_taken d schedule s i = few_either (is_some s.unfit) s s _ (no_load (loads_of s)) (few_takes d schedule i s)
 
--- the loads behind so many items
+-- the loads after these items
 pub few_loads : (d : ℕ) (schedule : List ℕ) (s : model.DomainAlone) (items : List Item) → length (domain_taken d schedule s items).part.domain.loads ≤ length s.part.domain.loads + length items
 unfolding domain_taken
 few_loads d schedule s [] = omega arith

@@ -138,7 +138,7 @@ slots_copy slot d c copied.Stopped = refl
 slots_copy slot d c copied.Refused = set_slot slot _ d.control
 slots_copy slot d c (copied.Loaded address byte) = set_slot slot _ d.control
 
--- a write behind a step
+-- a write after a step
 slots_written : (wrote : Option WordPlace) (d : Control) (s : DomainStepped) → SameSlots d s.domain.control → SameSlots d (step.after_write wrote s).domain.control
 slots_written None d s same = same
 slots_written (Some place) d s same = length-map s.domain.control.contexts (unless_reserved place) ∙ same

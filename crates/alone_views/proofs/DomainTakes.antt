@@ -81,7 +81,7 @@ other_made mid machine handing.Wrong answers s (Over p) n tried other is steps =
 other_made mid machine handing.Wrong answers s Wants n tried other is steps = absurd tried
 other_made mid machine handing.Wrong answers s Wrong n tried other is steps = stands_unfit machine s n is steps
 
--- where the items stand behind the last answer
+-- where the items stand after the last answer
 place_behind : (b : Bool) (hart : ℕ) → cond b model.Stopped model.Done ≡ place_told hart (cond b place.Stopped place.Done)
 place_behind true hart = refl
 place_behind false hart = refl
@@ -120,7 +120,7 @@ wrong_answered mid machine slot so_far a answers s (Over p) n tried is steps = a
 wrong_answered mid machine slot so_far a answers s Wants n tried is steps = absurd tried
 wrong_answered mid machine slot so_far a answers s Wrong n tried is steps = stands_unfit machine s n is steps
 
--- The same of answers, and of a hart, that are equal.
+-- The same for answers, and for a hart, that are equal.
 
 pub made_with : (machine : DomainAlone) (slot : ℕ) (s : model.DomainAlone) (l all : List Answer) → l ≡ all →
     StandsForState machine (made_by (try_with slot l s.part) s) → StandsForState machine (made_by (try_with slot all s.part) s)

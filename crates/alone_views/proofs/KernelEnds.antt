@@ -7,7 +7,7 @@ use Rattle.cloak_model.specs.KernelAlone.{opened_kernel}
 use Rattle.cloak_model.specs.Memory.{zero_ram}
 use Rattle.cloak_model.specs.Opening.{started_harts, started_kernel, with_segments}
 use Rattle.cloak_model.specs.declared.image.KernelImage.{KernelImage}
-use Rattle.outside_io.specs.Told.{Counts, Puts}
+use Rattle.io_traits.specs.Told.{Counts, Puts}
 use Rattle.alone_views.specs.KernelConsole.{ConsoleCounts}
 use Rattle.alone_views.specs.KernelPlaces.{stood_place}
 use Rattle.alone_views.specs.KernelStanding.{StandsForKernel, turns_of}

@@ -52,7 +52,7 @@ tested_outside b x y outside = ap (λ (c : Bool). cond c x y) outside
 
 -- Answers.
 
--- the one world of a memory decides what a question comes to
+-- the one world of a memory decides what a question results in
 pub follows_flat : {A : Type 0} (old new : FlatRam) (given : A) (ask : Asking A) →
     given ≡ (ask (Flat (seen_by old))).answer → (ask (Flat (seen_by old))).world ≡ Flat (seen_by new) →
     Follows IsWorld old new given ask

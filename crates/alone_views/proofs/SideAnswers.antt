@@ -28,7 +28,7 @@ pub next_answer-unfit : (is_fit : Answer → Bool) (second : Option Answer) (h :
 unfolding next_answer
 next_answer-unfit is_fit second h a left not_fit = rw (← left, not_fit) refl
 
--- the second answer is the next behind the first
+-- the second answer is the next after the first
 pub answers_in-taken : (second : Option Answer) → answers_in second None ≡ one_answer second
 answers_in-taken None = refl
 answers_in-taken (Some a) = refl

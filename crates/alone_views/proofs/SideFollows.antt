@@ -23,7 +23,7 @@ place q = q.resource * 1024 + q.page
 abbrev pub Takes : HandedSide → HandedSide → Answer → (Answer → Bool) → Type 0
 Takes side side' given is_fit = (h : Handed) → StandsForHanded side h → FollowsFrom IsAloneNow side' given (next_answer is_fit h.answers h)
 
--- so too where a question was noted before
+-- the same if a question was noted before
 pub takes_noted : (side noted side' : HandedSide) (given : Answer) (is_fit : Answer → Bool) → noted.pages.items ≡ side.pages.items →
     noted.first ≡ side.first → noted.second ≡ side.second → noted.unfit ≡ side.unfit → Takes noted side' given is_fit →
     Takes side side' given is_fit

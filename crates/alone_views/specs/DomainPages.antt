@@ -7,7 +7,7 @@ use Rattle.cloak_model.specs.Ending.{ask_end, handed_for}
 use Rattle.cloak_model.specs.Opening.{program_page}
 use Rattle.cloak_model.specs.World.{Alone}
 
--- these are the pages of all resources, one resource of 1024 pages behind another
+-- these are the pages of all resources, one resource of 1024 pages after another
 abbrev pub HasPlain : List (List ℕ) → (ℕ → ℕ → List ℕ) → Type 0
 HasPlain pages plain = (resource page : ℕ) → resource < 16 → page < 1024 →
     slice_index_or pages (resource * 1024 + page) [] ≡ plain resource page

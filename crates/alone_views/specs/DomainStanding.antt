@@ -102,8 +102,8 @@ pub record StepsAlone (machine : DomainAlone) (told : Told DomainStepped) : Type
   pub domain : StandsFor machine.domain told.answer.domain
   pub side : IsAloneNow machine.side told.world
 
--- A step ended as was tried with these answers: where it is over, the program is that of the part; where it wants
--- another answer, it is as it was, and it had fewer than two.
+-- A step ended as was tried with these answers: if it is over, the program is that of the part; if it wants another
+-- answer, the program is as it was, and the step had fewer than two.
 abbrev pub IsTried : DomainAlone → Handing → List Answer → model.DomainAlone → Tried → Type 0
 IsTried machine handing.Over answers s (Over p) = StandsForPart machine p
 IsTried machine handing.Over answers s Wants = ⊥

@@ -47,7 +47,7 @@ pub record Gains {E : Type 0} (gave : E → E → List Piece → Type 0) (e e' :
   pub at_most_one : length more ≤ 1
   pub emits : Emits gave e e' (shown_each more)
 
--- what is answered where this is unfit
+-- what is returned if this is unfit
 abbrev pub answer_for : Option ℕ → Result Unit Unfit
 answer_for None = Ok tt
 answer_for (Some step) = Err (record { step = step })

@@ -22,7 +22,7 @@ abbrev pub one_answer : Option Answer → List Answer
 one_answer None = []
 one_answer (Some a) = a ∷ []
 
--- a next answer, and the one behind it
+-- a next answer, and the one after it
 abbrev pub answers_in : Option Answer → Option Answer → List Answer
 answers_in None second = []
 answers_in (Some a) second = a ∷ one_answer second

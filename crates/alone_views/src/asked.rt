@@ -4,7 +4,7 @@ use cloak_base::{Kind, PageId};
 
 /// A question of a step that takes an answer for an access or a value.
 #[derive(Clone, Copy, Debug, PartialEq, Eq)]
-pub enum Asked {
+pub enum AskedAccess {
     /// None was asked.
     Nothing,
     /// An access to a cloaked address, where this page lies.

@@ -9,23 +9,23 @@ ghost use Rattle.cloak_model.specs.DomainState.{domain_line};
 ghost use Rattle.cloak_model.specs.DomainStep.{domain_step, resume_slot};
 ghost use Rattle.cloak_model.specs.World.{Alone, Handed};
 ghost use Rattle.hypercalls.specs.Standing.{StandsFor, control_of, number_of};
-ghost use Rattle.outside_io.specs.Sinks.{PutsTo};
-ghost use Rattle.outside_io.specs.Told.{Counts};
+ghost use Rattle.io_traits.specs.Sinks.{PutsTo};
+ghost use Rattle.io_traits.specs.Told.{Counts};
 ghost use Rattle.alone_views.specs.Side.{answers_in, one_answer};
 
-use crate::asked::Asked;
+use crate::asked::AskedAccess;
 use crate::side::{HandedSide, Handing};
 use crate::unfit::Unfit;
 use cloak_base::{Failed, HartId, NoMemory};
 use cloak_model::{Answer, Item, KernelImage, Program, Went};
 use hypercalls::Domain;
-use outside_io::{Sink, put_all};
+use io_traits::{Sink, put_all};
 use std::alloc::Global;
 
 /// Where the items stand.
 #[derive(Clone, Copy)]
 pub(crate) enum DomainPlace {
-    /// In no step: before the first one, or behind the last.
+    /// In no step: before the first one, or after the last.
     Between,
     /// In a step whose hart runs none of the program's contexts.
     Other,
@@ -99,12 +99,12 @@ impl DomainAlone {
         }
     }
 
-    /// What the step asked to which the last answer belongs: its first two questions for an access or a value, in order.
-    pub fn asked(&self) -> [Asked; 2] {
+    /// What the step of the last answer asked: its first two questions for an access or a value, in order.
+    pub fn asked(&self) -> [AskedAccess; 2] {
         self.side.asked
     }
 
-    /// The space of a slot's context and the hart on which this runs, none exactly where the slot is free or above 7.
+    /// The space of a slot's context and the hart on which this runs, none exactly if the slot is free or above 7.
     pub fn context(&self, slot: u32) -> Option<(u32, Option<HartId>)>
         ensures below_eight { IfSome result (λ told. told.0 < 8) }
         ensures value { (number : ℕ) (schedule : List ℕ) (s : spec.DomainAlone) →
@@ -138,7 +138,7 @@ impl DomainAlone {
         put_all(out, &line[..count])
     }
 
-    /// Takes an item where none was unfit.
+    /// Takes an item if none was unfit.
     fn take_fit(&mut self, i: &Item)
         ensures takes { TakesAs self.old self.new
             (spec.domain_takes (number_in self.old) (schedule_in self.old) i.now) }
@@ -345,7 +345,7 @@ impl DomainAlone {
         }
     }
 
-    /// Takes an answer behind the one that the step of the context of a slot has.
+    /// Takes an answer after the one that the step of the context of a slot has.
     fn answer_step(&mut self, slot: u32, answer: Option<Answer>, a: Answer)
         ensures takes { TakesAs self.old self.new (λ s. spec.answered_by slot (one_answer answer) a
             (spec.try_with slot (one_answer answer ++ a ∷ []) s.part) s) }
@@ -446,7 +446,7 @@ impl DomainAlone {
         self.place = DomainPlace::Done;
     }
 
-    /// The context of a slot runs on the hart of the step, where it is there and runs on none.
+    /// The context of a slot runs on the hart of the step, if it is there and runs on none.
     fn resume(&mut self, slot: u32, answer: u32)
         ensures takes { TakesAs self.old self.new (λ s. spec.resumed_by
             (resume_slot slot (hart_at (schedule_in self.old) self.old.steps) answer s.part.domain.control) s) }
@@ -460,7 +460,7 @@ impl DomainAlone {
     }
 }
 
-/// Where the items stand behind the last answer of a step.
+/// Where the items stand after the last answer of a step.
 fn place_behind(a: Answer) -> DomainPlace
     ensures { result ≡ (if spec.is_stopped a then DomainPlace.Stopped else DomainPlace.Done) }
 {
@@ -470,7 +470,7 @@ fn place_behind(a: Answer) -> DomainPlace
     }
 }
 
-/// The answer so far, if there is one, and the next one behind it.
+/// The answer so far, if there is one, and the next one after it.
 fn answers_behind(answer: Option<Answer>, a: Answer) -> (Answer, Option<Answer>)
     ensures { answers_in (Some result.0) result.1 ≡ one_answer answer ++ a ∷ [] }
 {

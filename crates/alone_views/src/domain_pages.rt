@@ -1,4 +1,4 @@
-//! The bytes of a program's pages: 16 resources of 1024 pages, one behind another.
+//! The bytes of a program's pages: 16 resources of 1024 pages, one after another.
 ghost use Rattle.std.specs.Prelude.{◌≡◌, ◌<◌, ◌≤◌, ◌+◌, ◌*◌, ℕ, [], slice_index_or, length, IfOk};
 ghost use Rattle.cloak_base.specs.Pages.{zero_page};
 ghost use Rattle.cloak_model.specs.DomainAlone.{started_page};

@@ -7,8 +7,8 @@ ghost use Rattle.cloak_model.specs.Exchange.{EmitsSome};
 ghost use Rattle.cloak_model.specs.KernelAlone as spec;
 ghost use Rattle.cloak_model.specs.Record.{IsItem};
 ghost use Rattle.cloak_model.specs.Report.{kernel_lines};
-ghost use Rattle.outside_io.specs.Sinks.{PutsTo};
-ghost use Rattle.outside_io.specs.Told.{Counts};
+ghost use Rattle.io_traits.specs.Sinks.{PutsTo};
+ghost use Rattle.io_traits.specs.Told.{Counts};
 ghost use Rattle.alone_views.specs.KernelPlaces.{IsPlaceAmong};
 
 use crate::kernel_place::KernelPlace;
@@ -18,8 +18,8 @@ use crate::unfit::Unfit;
 use cloak_base::{Failed, NoMemory};
 use cloak_model::{Emit, Item, KernelImage};
 use host_calls::{Disk, Hart};
+use io_traits::Sink;
 use kernel_report::{Console, KernelLines, put_kernel};
-use outside_io::Sink;
 use sha2::{Digest, Sha256};
 use std::alloc::Global;
 
@@ -78,7 +78,7 @@ impl KernelAlone {
         self.unfit = Some(self.steps);
     }
 
-    /// Takes an item, where none was unfit.
+    /// Takes an item if none was unfit.
     fn take_fit<E: Emit>(&mut self, i: &Item, e: &mut E)
         ensures gains { (turns : List ℕ) (s : spec.KernelAlone) → IsItem i.now → StandsForKernel self.old turns s →
             Gains E.gave e.old e.new self.new turns s (spec.kernel_takes turns i.now s) }
@@ -123,7 +123,7 @@ impl KernelAlone {
         self.take_fit(i, e);
     }
 
-    /// What is answered behind the last item.
+    /// What is returned after the last item.
     fn answer(&self) -> Result<(), Unfit>
         ensures { result ≡ answer_for (unfit_step self.now) }
     {

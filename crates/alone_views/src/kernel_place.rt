@@ -1,7 +1,7 @@
 /// Where the items of a kernel that runs alone stand.
 #[derive(Clone, Copy)]
 pub enum KernelPlace {
-    /// In no step: before the first Step, or behind Close.
+    /// In no step: before the first Step, or after Close.
     Between,
     /// In a step of this hart, which is outside.
     Outside { hart: usize },

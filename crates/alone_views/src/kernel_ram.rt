@@ -18,7 +18,7 @@ use host_calls::{Ram, Reservations};
 use rv_atomic::{AtomicOp, combine};
 use sha2::{Digest, Sha256};
 use std::alloc::Global;
-use sv32_walk::{Words, walk};
+use sv32_walk::{WordMemory, walk};
 
 /// RAM without cloaked pages: its frames as the kernel sees them, and the reservations of the harts.
 #[derive(Drop)]
@@ -187,7 +187,7 @@ impl FlatRam {
 }
 
 #[tactic(auto, unfolding(cloak_model::specs::Ask::ask_word))]
-impl Words for FlatRam {
+impl WordMemory for FlatRam {
     ghost use Rattle.alone_views.specs.KernelWorld.{IsWorld};
 
     ghost stands_for = { λ first side w. IsWorld first side w };
@@ -301,7 +301,7 @@ fn store_bytes(frames: &mut [[u8; 4096]], address: u32, bytes: &[u8])
     }
 }
 
-/// RAM as a run of so many harts begins: zeros, and then the segments in their order. No hart has a reservation.
+/// RAM as a run of this many harts begins: zeros, and then the segments in their order. No hart has a reservation.
 pub fn load_segments(
     alloc: Global,
     count: u32,

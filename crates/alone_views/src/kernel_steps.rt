@@ -1,5 +1,5 @@
 //! The steps of a kernel that runs alone: each begins as its Step is read, and ends as the next one or Close is. A hart
-//! outside then makes its plain step, behind the step's Ciphers.
+//! outside then makes its plain step, after the step's Ciphers.
 ghost use Rattle.std.specs.Prelude.{◌≡◌, ◌-◌, ◌%◌, ◌<◌, ◌++◌, ℕ, List, length, slice_index};
 ghost use Rattle.cloak_model.specs.Exchange.{EmitsSome};
 ghost use Rattle.cloak_model.specs.KernelAlone as spec;
@@ -88,7 +88,7 @@ impl KernelAlone {
         }
     }
 
-    /// Takes a Step behind the end of the last one.
+    /// Takes a Step after the end of the last one.
     pub(crate) fn take_step(&mut self, number: u32)
         ensures { ChangesTo self.old self.new (spec.take_kernel_step (turns_of self.old) number) }
     {

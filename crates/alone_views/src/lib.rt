@@ -2,11 +2,11 @@
 //!
 //! `KernelAlone` is the kernel on the items that it could see; inward items are ignored. `DomainAlone` is one program on
 //! the markers of steps and its own inward items. Each is the fold of the definitions (`cloak_model`, `specs/KernelAlone`
-//! and `specs/DomainAlone`) over any list of items, also over one that no run wrote: for every state that the machine
-//! stood for, `take` answers whether the item fits or the step at which one did not, and the machine then stands for the
-//! state behind the item; of the kernel's, the byte that its console gains is emitted. Once an item was unfit nothing
-//! changes. `harts`, `frames`, `context` and `asked` tell what a machine is at a moment (what `asked` tells no clause says).
-//! `report` writes the machine's lines of the report. After the opening no call takes memory.
+//! and `specs/DomainAlone`) over any list of items, even over one that no run wrote: for every state that the machine
+//! stood for, `take` tells whether the item fits or the step at which one did not, and the machine then stands for the
+//! state after the item; the kernel's `take` also emits the byte that its console gains. Once an item was unfit nothing
+//! changes. `harts`, `frames`, `context` and `asked` tell what a machine is at a moment (no clause says what `asked`
+//! tells). `report` writes the machine's lines of the report. After the opening no call takes memory.
 //!
 //! `FlatRam` is the memory of a kernel alone: frames in which nothing is settled, and the reservations of its harts. The plain
 //! step and the walk are made over it as over any `Ram`.
@@ -28,7 +28,7 @@ mod kernel_steps;
 mod side;
 mod unfit;
 
-pub use asked::Asked;
+pub use asked::AskedAccess;
 pub use domain::DomainAlone;
 pub use kernel::KernelAlone;
 pub use kernel_ram::FlatRam;

@@ -8,7 +8,7 @@ ghost use Rattle.cloak_model.specs.Effect.{IsWidth};
 ghost use Rattle.cloak_model.specs.World.{Handed};
 ghost use Rattle.alone_views.specs.DomainPages.{HasPlain, ended_plain};
 
-use crate::asked::Asked;
+use crate::asked::AskedAccess;
 use crate::domain_pages::{page_place, started_pages, wipe, wipe_all};
 use cloak_base::{Kind, NoMemory, PageId};
 use cloak_model::{Answer, PageSide, Program, set_value_in, value_in};
@@ -26,15 +26,15 @@ pub(crate) enum Question {
 #[derive(Drop)]
 pub(crate) struct HandedSide {
     pub domain: u32,
-    /// 16 resources of 1024 pages, one behind another.
+    /// 16 resources of 1024 pages, one after another.
     pub pages: Vec<[u8; 4096]>,
-    /// The next answer; there is no second one behind none.
+    /// The next answer; if there is none, there is no second one.
     pub first: Option<Answer>,
     pub second: Option<Answer>,
     /// A question found no answer of its kind.
     pub unfit: bool,
     /// What was asked since answers were handed in, up to two questions.
-    pub asked: [Asked; 2],
+    pub asked: [AskedAccess; 2],
     ghost all: { length pages.items ≡ 16384 },
 }
 
@@ -80,7 +80,7 @@ impl HandedSide {
             first: None,
             second: None,
             unfit: false,
-            asked: [Asked::Nothing; 2],
+            asked: [AskedAccess::Nothing; 2],
         })
     }
 
@@ -95,7 +95,7 @@ impl HandedSide {
         self.first = first;
         self.second = second;
         self.unfit = false;
-        self.asked = [Asked::Nothing; 2];
+        self.asked = [AskedAccess::Nothing; 2];
     }
 
     /// The domain ends: all pages become zeros.
@@ -107,7 +107,7 @@ impl HandedSide {
     }
 
     /// One question more is asked.
-    fn note(&mut self, question: Asked)
+    fn note(&mut self, question: AskedAccess)
         ensures pages { self.new.pages.items ≡ self.old.pages.items }
         ensures domain { self.new.domain ≡ self.old.domain }
         ensures first { self.new.first ≡ self.old.first }
@@ -116,7 +116,7 @@ impl HandedSide {
     {
         let [first, _] = self.asked;
         self.asked = match first {
-            Asked::Nothing => [question, Asked::Nothing],
+            AskedAccess::Nothing => [question, AskedAccess::Nothing],
             _ => [first, question],
         };
     }
@@ -137,7 +137,7 @@ impl HandedSide {
         }
     }
 
-    /// The next answer, where it is one that the question takes.
+    /// The next answer, if it is one that the question takes.
     fn take(&mut self, question: Question) -> Answer
         ensures follows { (h : Handed) → StandsForHanded self.old h →
             FollowsFrom IsAloneNow self.new result (next_answer (is_fit question) h.answers h) }
@@ -201,7 +201,7 @@ impl PageSide for HandedSide {
     ghost is_unused = { λ side n. Unit {0} };
 
     fn reach(&mut self, page: PageId, address: u32, kind: Kind) -> Answer {
-        self.note(Asked::Page {
+        self.note(AskedAccess::Page {
             page,
             address,
             kind,
@@ -218,13 +218,13 @@ impl PageSide for HandedSide {
     }
 
     fn get(&mut self, address: u32, width: u32) -> Answer {
-        self.note(Asked::Uncloaked { address });
+        self.note(AskedAccess::Uncloaked { address });
         let taken = self.take(Question::Value);
         of_width(width, taken)
     }
 
     fn put(&mut self, address: u32, _: u32, _: u32) -> Answer {
-        self.note(Asked::Uncloaked { address });
+        self.note(AskedAccess::Uncloaked { address });
         self.take(Question::Access)
     }
 

@@ -1,6 +1,6 @@
 -- The cause of a reason that is no fault of reading.
 use Rattle.std.proofs.Common.{List, ℕ}
-use Rattle.program_parts.specs.Outside.{FilesOutside, OnlyRead}
+use Rattle.command_parts.specs.Outside.{FilesOutside, OnlyRead}
 use Rattle.asm_text.specs.declared.making.Reason.{Reason}
 use Rattle.asm_text.specs.declared.making.Reason.TheVariants.{ReadFault, NoMemory, Faulty}
 use Rattle.asm_text.specs.Making.{HasReason, IsWhy}

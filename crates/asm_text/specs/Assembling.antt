@@ -3,7 +3,7 @@ use Rattle.std.specs.Prelude.{ℕ, ◌≡◌, ◌<◌, ◌≤◌, List, [], leng
 use Rattle.std.specs.List.{flat_map}
 use Rattle.std.specs.Str.{IsUtf8}
 use Rattle.cloak_model.specs.Bits.{word}
-use Rattle.rv_asm.specs.declared.item.Item.{Item}
+use Rattle.rv_asm.specs.declared.image_word.ImageWord.{ImageWord}
 use Rattle.rv_asm.specs.Assembly.{assembled, AreWords, FailsAs}
 use Rattle.asm_text.specs.declared.fault.TextFault.{TextFault}
 use Rattle.asm_text.specs.declared.fault.TextFault.TheVariants.{NoBytes, TooLarge, NotText, Faulty}
@@ -12,10 +12,10 @@ use Rattle.asm_text.specs.declared.fault.TextFault.TheVariants.{NoBytes, TooLarg
 abbrev pub longest_text : ℕ
 longest_text = 16777216
 
--- These bytes are the words of the text, one behind another.
+-- These bytes are the words of the text, one after another.
 pub record IsAssembled (text bytes : List ℕ) : Type 0 where
   pub few : length text ≤ longest_text
-  pub items : List Item
+  pub items : List ImageWord
   pub words : List ℕ
   pub spelled : assembled text ≡ Ok items
   pub are_words : AreWords items words

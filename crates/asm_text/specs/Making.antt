@@ -2,13 +2,13 @@
 -- shows why there are none. `IsDue` says which bytes are due, and `IsTold` which text tells what is faulty.
 use Rattle.std.specs.Prelude.{ℕ, ◌≡◌, ◌≤◌, ◌⊎◌, List, length, take, Vec, string_bytes, Result, Ok, Err}
 use Rattle.std.specs.declared.alloc.Global.{Global}
-use Rattle.outside_io.specs.Told.{Tells, Grows, GrowsByFront, SameFiles, OtherFiles, Rose}
-use Rattle.program_parts.specs.Outside.{FilesOutside, Outside, Output, OnlyRead}
-use Rattle.program_parts.specs.Refusal.{refusal_line}
-use Rattle.program_parts.specs.declared.refusal.Refusal.{Refusal}
-use Rattle.program_parts.specs.declared.refusal.Refusal.TheVariants as refusal
-use Rattle.program_parts.specs.declared.status.Status.{Status}
-use Rattle.program_parts.specs.declared.status.Status.TheVariants as status
+use Rattle.io_traits.specs.Told.{Tells, Grows, GrowsByFront, SameFiles, OtherFiles, Rose}
+use Rattle.command_parts.specs.Outside.{FilesOutside, Outside, Output, OnlyRead}
+use Rattle.command_parts.specs.Refusal.{refusal_line}
+use Rattle.command_parts.specs.declared.refusal.Refusal.{Refusal}
+use Rattle.command_parts.specs.declared.refusal.Refusal.TheVariants as refusal
+use Rattle.command_parts.specs.declared.status.Status.{Status}
+use Rattle.command_parts.specs.declared.status.Status.TheVariants as status
 use Rattle.asm_text.specs.declared.making.Reason.{Reason}
 use Rattle.asm_text.specs.declared.making.Reason.TheVariants.{ReadFault, NoMemory, Faulty}
 
@@ -103,7 +103,7 @@ Concludes (Ok bytes) name before after answer =
 Concludes (Err reason) name before after answer =
     ShowsWhy reason before.output after.output answer × (after.files ≡ before.files)
 
--- what such a command answers, which makes the file of this name
+-- what such a command, which makes the file of this name, returns
 pub record MakesAs {S O : Type 0} (IsDue IsTold : List ℕ → Type 0) (name : List ℕ) (before after : Outside S O) (answer : Status)
     : Type 0 where
   pub made : MadeFile

@@ -5,11 +5,11 @@ use Rattle.rv_asm.specs.declared.fault.AsmFault.TheVariants as asm
 use Rattle.asm_text.specs.declared.fault.TextFault.{TextFault}
 use Rattle.asm_text.specs.declared.fault.TextFault.TheVariants.{NoBytes, TooLarge, NotText, Faulty}
 
--- the line of this number, counted from 1; empty where there is none
+-- the line of this number, counted from 1; empty if there is none
 abbrev pub line_numbered : List ℕ → ℕ → List ℕ
 line_numbered text number = get_or (lines_of text) (number - 1) []
 
--- the number of the faulty line, where one is
+-- the number of the faulty line, if one is
 abbrev pub faulty_line : TextFault → Option ℕ
 faulty_line (Faulty (asm.UnknownWord n)) = Some n
 faulty_line (Faulty (asm.BadOperand n)) = Some n

@@ -12,7 +12,7 @@ use std::alloc::Global;
 /// The most bytes that a text may have.
 pub const LONGEST_TEXT: u64 = 16_777_216;
 
-/// The bytes of words, one word behind another, each with its lowest byte first.
+/// The bytes of words, one word after another, each with its lowest byte first.
 fn flat_bytes(alloc: Global, words: &[u32]) -> Result<Vec<u8>, NoMemory>
     ensures { IfOk result (λ bytes. bytes.items ≡ flat_map word words.now) }
 {

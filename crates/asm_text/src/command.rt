@@ -1,7 +1,7 @@
 //! The command `asm`.
 ghost use Rattle.std.specs.Prelude.{◌≡◌, ◌↔◌, ℕ, List, Option, IsTrue};
 ghost use Rattle.rv_asm.specs.declared.fault.AsmFault.TheVariants as asm;
-ghost use Rattle.program_parts.specs.Outside.{files, outside};
+ghost use Rattle.command_parts.specs.Outside.{files, outside};
 ghost use Rattle.asm_text.specs.declared.fault.TextFault.TheVariants.{Faulty};
 ghost use Rattle.asm_text.specs.Assembling.{FailsToAssemble};
 ghost use Rattle.asm_text.specs.Making.{ReadsFor, IsWhy};
@@ -11,8 +11,8 @@ use crate::assembling::{LONGEST_TEXT, assembled};
 use crate::fault::TextFault;
 use crate::making::{Reason, conclude, reason_of};
 use crate::telling::{FaultyText, shown_text};
-use outside_io::{Shelf, Sink};
-use program_parts::{Status, read_front};
+use command_parts::{Status, read_front};
+use io_traits::{Shelf, Sink};
 use rv_asm::AsmFault;
 use std::alloc::Global;
 

@@ -1,13 +1,13 @@
 //! The end of a command that makes a file of what it read.
 ghost use Rattle.std.specs.Prelude.{◌≡◌, ◌≤◌, ◌⊎◌, ℕ, length, take, Err, OnOk, OnErr};
-ghost use Rattle.outside_io.specs.Told.{Counts, OtherFiles, Tells};
-ghost use Rattle.program_parts.specs.Outside.{outside, output, files};
-ghost use Rattle.program_parts.specs.Files.{ReadsFile};
+ghost use Rattle.io_traits.specs.Told.{Counts, OtherFiles, Tells};
+ghost use Rattle.command_parts.specs.Outside.{outside, output, files};
+ghost use Rattle.command_parts.specs.Files.{ReadsFile};
 ghost use Rattle.asm_text.specs.Making.{Concludes, ShowsWhy, refusal_reason};
 
 use cloak_base::Failed;
-use outside_io::{Shelf, Sink, put_all};
-use program_parts::{Refusal, Status, refuse};
+use command_parts::{Refusal, Status, refuse};
+use io_traits::{Shelf, Sink, put_all};
 
 /// Why there is nothing to write.
 #[derive(Debug, Drop)]
@@ -43,7 +43,7 @@ fn write_file<S: Shelf>(shelf: &mut S, name: &str, bytes: &[u8]) -> Result<(), F
     shelf.flush()
 }
 
-/// Shows the text of a reason, and answers its status, or the write fault.
+/// Shows the text of a reason, and returns its status, or the write fault.
 fn show_reason<O: Sink>(out: &mut O, reason: &Reason) -> Status
     ensures { ShowsWhy reason.now (output O.Sink out.old) (output O.Sink out.new) result }
 {
@@ -57,7 +57,7 @@ fn show_reason<O: Sink>(out: &mut O, reason: &Reason) -> Status
     }
 }
 
-/// Writes what was made to the file of a name, or shows why there is nothing to write. It answers the status.
+/// Writes what was made to the file of a name, or shows why there is nothing to write. It returns the status.
 pub fn conclude<S: Shelf, O: Sink>(
     made: &Result<Vec<u8>, Reason>,
     name: &str,

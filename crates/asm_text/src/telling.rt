@@ -35,7 +35,7 @@ fn first_line(text: &str) -> &str
     }
 }
 
-/// What stands behind the first line of a text.
+/// What stands after the first line of a text.
 fn behind_line(text: &str) -> &str
     ensures { result.now ≡ after_first (λ b. b == 10) text.now }
 {
@@ -45,7 +45,7 @@ fn behind_line(text: &str) -> &str
     }
 }
 
-/// The line of this number, counted from 1; empty where there is none.
+/// The line of this number, counted from 1; empty if there is none.
 fn line_numbered(text: &str, number: u32) -> &str
     ensures { result.now ≡ spec.line_numbered text.now number }
 {
@@ -56,7 +56,7 @@ fn line_numbered(text: &str, number: u32) -> &str
     first_line(rest)
 }
 
-/// The number of the faulty line, where one is.
+/// The number of the faulty line, if one is.
 fn faulty_line(fault: TextFault) -> Option<u32>
     ensures { result ≡ spec.faulty_line fault }
 {

@@ -40,7 +40,7 @@ use Rattle.cloak_model.specs.Joint.{pages_for}
 use Rattle.cloak_model.specs.KernelStep.{atomic_kind, misaligned}
 use Rattle.cloak_model.specs.Memory.{value_in}
 use Rattle.cloak_model.specs.Resources.{Resources, page_at}
-use Rattle.cloak_model.specs.World.{World, Cloak, Flat, Cloaked, Alone, view_of, plain_of}
+use Rattle.cloak_model.specs.World.{World, Cloak, Flat, Cloaked, Alone, regime_of, plain_of}
 use Rattle.domain_isolation.proofs.Answers.{question_answered}
 use Rattle.domain_isolation.proofs.Scripts.{Question, Reach, Get}
 use Rattle.cause_law.specs.Presented.{Executes, AsksAt, Fetches, LoadsAt, StoresAt, AtomicAt, CopiesFrom, CopiesTo}
@@ -53,7 +53,7 @@ pub record MetIn (d : Domain) (c : Context) (begun v : World) : Type 0 where
   pub kind : Kind
   pub lies : pages_for d (Some c) va ≡ Some page
   pub at : Cloak
-  pub view : at.view ≡ view_of begun
+  pub regime : at.regime ≡ regime_of begun
   pub asks : AsksAt d c begun va kind (Cloaked at)
   pub met : Met page va kind at v
 
@@ -75,31 +75,31 @@ abbrev Goes : Domain → Context → World → Answer → World → Type 0
 Goes d c begun a w = Calm w ⊎ ((a ≡ told.Stopped) × MetIn d c begun w)
 
 met_in : (d : Domain) (c : Context) (begun : World) (q : PageId) (va : ℕ) (kind : Kind) (k : Cloak) →
-    pages_for d (Some c) va ≡ Some q → k.view ≡ view_of begun → AsksAt d c begun va kind (Cloaked k) →
+    pages_for d (Some c) va ≡ Some q → k.regime ≡ regime_of begun → AsksAt d c begun va kind (Cloaked k) →
     (t : Told Answer) → CalmOrMet q va kind k t → Goes d c begun t.answer t.world
-met_in d c begun q va kind k lies view asks t (inl calm) = inl calm
-met_in d c begun q va kind k lies view asks t (inr met) = inr (
+met_in d c begun q va kind k lies regime asks t (inl calm) = inl calm
+met_in d c begun q va kind k lies regime asks t (inr met) = inr (
   met.0,
-  record { page = q; va = va; kind = kind; lies = lies; at = k; view = view; asks = asks; met = met.1 },
+  record { page = q; va = va; kind = kind; lies = lies; at = k; regime = regime; asks = asks; met = met.1 },
 )
 
 asks_goes : (d : Domain) (c : Context) (begun w : World) (q : PageId) (va : ℕ) (kind : Kind) →
-    pages_for d (Some c) va ≡ Some q → view_of w ≡ view_of begun → AsksAt d c begun va kind w → Calm w →
+    pages_for d (Some c) va ≡ Some q → regime_of w ≡ regime_of begun → AsksAt d c begun va kind w → Calm w →
     let t = ask_reach q va kind w in Goes d c begun t.answer t.world
-asks_goes d c begun (Flat ram) q va kind lies view asks calm = absurd calm
-asks_goes d c begun (Cloaked k) q va kind lies view asks calm =
-    met_in d c begun q va kind k lies view asks _ (asked_meets q va kind k calm)
-asks_goes d c begun (Alone h) q va kind lies view asks calm = absurd calm
+asks_goes d c begun (Flat ram) q va kind lies regime asks calm = absurd calm
+asks_goes d c begun (Cloaked k) q va kind lies regime asks calm =
+    met_in d c begun q va kind k lies regime asks _ (asked_meets q va kind k calm)
+asks_goes d c begun (Alone h) q va kind lies regime asks calm = absurd calm
 
-reach_view : (q : PageId) (va : ℕ) (kind : Kind) (w : World) → Calm w → view_of (ask_reach q va kind w).world ≡ view_of w
-reach_view q va kind w calm =
+reach_regime : (q : PageId) (va : ℕ) (kind : Kind) (w : World) → Calm w → regime_of (ask_reach q va kind w).world ≡ regime_of w
+reach_regime q va kind w calm =
     let question : Question q.domain = Reach q refl va kind in
-    (question_answered question w (is_cloaked_calm w calm)).replied.view
+    (question_answered question w (is_cloaked_calm w calm)).replied.regime
 
-get_view : (va width : ℕ) (w : World) → Calm w → view_of (ask_get va width w).world ≡ view_of w
-get_view va width w calm =
+get_regime : (va width : ℕ) (w : World) → Calm w → regime_of (ask_get va width w).world ≡ regime_of w
+get_regime va width w calm =
     let question : Question 0 = Get va width in
-    (question_answered question w (is_cloaked_calm w calm)).replied.view
+    (question_answered question w (is_cloaked_calm w calm)).replied.regime
 
 -- Loads and stores.
 
@@ -150,22 +150,22 @@ calms_store_put c va (told.Word value) w = Calms-refl w
 calms_store_put c va told.Stopped w = Calms-refl w
 
 load_meets : (d : Domain) (c : Context) (begun : World) (rd va width : ℕ) (is_signed : Bool) (o : Option PageId)
-    (w : World) → pages_for d (Some c) va ≡ o → view_of w ≡ view_of begun → AsksAt d c begun va Load w → Calm w →
+    (w : World) → pages_for d (Some c) va ≡ o → regime_of w ≡ regime_of begun → AsksAt d c begun va Load w → Calm w →
     EndsCalmOrMet IsStoppedRun d c begun (load_inside c rd va width is_signed o w)
 unfolding load_inside
-load_meets d c begun rd va width is_signed None w lies view asks calm =
+load_meets d c begun rd va width is_signed None w lies regime asks calm =
     inl ((Calms-trans _ _ _ (calms_asks_get va width w) (calms_load_got c rd va width is_signed _ _)).by calm)
-load_meets d c begun rd va width is_signed (Some q) w lies view asks calm =
-    load_goes d c begun q rd va width is_signed _ _ (asks_goes d c begun w q va Load lies view asks calm)
+load_meets d c begun rd va width is_signed (Some q) w lies regime asks calm =
+    load_goes d c begun q rd va width is_signed _ _ (asks_goes d c begun w q va Load lies regime asks calm)
 
 store_meets : (d : Domain) (c : Context) (begun : World) (va width value : ℕ) (o : Option PageId) (w : World) →
-    pages_for d (Some c) va ≡ o → view_of w ≡ view_of begun → AsksAt d c begun va Store w → Calm w →
+    pages_for d (Some c) va ≡ o → regime_of w ≡ regime_of begun → AsksAt d c begun va Store w → Calm w →
     EndsCalmOrMet IsStoppedRun d c begun (store_inside c va width value o w)
 unfolding store_inside
-store_meets d c begun va width value None w lies view asks calm =
+store_meets d c begun va width value None w lies regime asks calm =
     inl ((Calms-trans _ _ _ (calms_asks_put va width value w) (calms_store_put c va _ _)).by calm)
-store_meets d c begun va width value (Some q) w lies view asks calm =
-    store_goes d c begun q va width value _ _ (asks_goes d c begun w q va Store lies view asks calm)
+store_meets d c begun va width value (Some q) w lies regime asks calm =
+    store_goes d c begun q va width value _ _ (asks_goes d c begun w q va Store lies regime asks calm)
 
 -- Instructions.
 
@@ -176,20 +176,20 @@ calms_system c Ebreak w = Calms-refl w
 calms_system c i w = Calms-refl w
 
 done_meets : (d : Domain) (c : Context) (begun : World) (word : ℕ) (i : Instr) (e : Effect) (w : World) →
-    Executes d c begun word w → instruction word ≡ Some i → effect i c.regs c.pc ≡ e → view_of w ≡ view_of begun →
+    Executes d c begun word w → instruction word ≡ Some i → effect i c.regs c.pc ≡ e → regime_of w ≡ regime_of begun →
     Calm w →
     EndsCalmOrMet IsStoppedRun d c begun (done_inside d.control.number d.control.resources c i e w)
 unfolding done_inside
-done_meets d c begun word i (does.Write rd value) w runs found is view calm = inl calm
-done_meets d c begun word i (does.Jump rd link target) w runs found is view calm = inl calm
-done_meets d c begun word i (does.Go target) w runs found is view calm = inl calm
-done_meets d c begun word i (does.Load rd va width is_signed) w runs found is view calm =
-    load_meets d c begun rd va width is_signed _ w refl view (LoadsAt word i runs found rd width is_signed is refl) calm
-done_meets d c begun word i (does.Store va width value) w runs found is view calm =
-    store_meets d c begun va width value _ w refl view (StoresAt word i runs found width value is refl) calm
-done_meets d c begun word i does.System w runs found is view calm = inl ((calms_system c i w).by calm)
-done_meets d c begun word i does.Nothing w runs found is view calm = inl calm
-done_meets d c begun word i (does.Raise cause value) w runs found is view calm = inl calm
+done_meets d c begun word i (does.Write rd value) w runs found is regime calm = inl calm
+done_meets d c begun word i (does.Jump rd link target) w runs found is regime calm = inl calm
+done_meets d c begun word i (does.Go target) w runs found is regime calm = inl calm
+done_meets d c begun word i (does.Load rd va width is_signed) w runs found is regime calm =
+    load_meets d c begun rd va width is_signed _ w refl regime (LoadsAt word i runs found rd width is_signed is refl) calm
+done_meets d c begun word i (does.Store va width value) w runs found is regime calm =
+    store_meets d c begun va width value _ w refl regime (StoresAt word i runs found width value is refl) calm
+done_meets d c begun word i does.System w runs found is regime calm = inl ((calms_system c i w).by calm)
+done_meets d c begun word i does.Nothing w runs found is regime calm = inl calm
+done_meets d c begun word i (does.Raise cause value) w runs found is regime calm = inl calm
 
 -- Atomic instructions.
 
@@ -223,59 +223,59 @@ atomic_goes d c begun rd op q va operand (told.Absent cause) w (inr met) = let i
 atomic_goes d c begun rd op q va operand (told.Word value) w (inr met) = let is = met.0 in absurd cc
 
 placed_meets : (d : Domain) (c : Context) (begun : World) (rd : ℕ) (op : AtomicOp) (va operand : ℕ)
-    (o : Option PageId) (w : World) → pages_for d (Some c) va ≡ o → view_of w ≡ view_of begun →
+    (o : Option PageId) (w : World) → pages_for d (Some c) va ≡ o → regime_of w ≡ regime_of begun →
     AsksAt d c begun va (atomic_kind op) w → Calm w →
     EndsCalmOrMet IsStoppedRun d c begun (atomic_placed c rd op va operand o w)
 unfolding atomic_placed
-placed_meets d c begun rd op va operand None w lies view asks calm = inl calm
-placed_meets d c begun rd op va operand (Some q) w lies view asks calm =
-    atomic_goes d c begun rd op q va operand _ _ (asks_goes d c begun w q va (atomic_kind op) lies view asks calm)
+placed_meets d c begun rd op va operand None w lies regime asks calm = inl calm
+placed_meets d c begun rd op va operand (Some q) w lies regime asks calm =
+    atomic_goes d c begun rd op q va operand _ _ (asks_goes d c begun w q va (atomic_kind op) lies regime asks calm)
 
 aligned_meets : (aligned : Bool) (d : Domain) (c : Context) (begun : World) (word : ℕ) (a : Atomic) (w : World) →
     let va = register c.regs a.rs1 in
     (va % 4 == 0) ≡ aligned → Executes d c begun word w → atomic_instruction word ≡ Some a →
-    view_of w ≡ view_of begun → Calm w →
+    regime_of w ≡ regime_of begun → Calm w →
     EndsCalmOrMet IsStoppedRun d c begun (cond aligned
     (atomic_placed c a.rd a.op va (register c.regs a.rs2) (page_at d.control.number d.control.resources c.space va) w)
     (traps c (misaligned a.op) va w))
-aligned_meets true d c begun word a w is runs found view calm =
+aligned_meets true d c begun word a w is runs found regime calm =
     let va = register c.regs a.rs1 in
-    placed_meets d c begun a.rd a.op va (register c.regs a.rs2) _ w refl view
+    placed_meets d c begun a.rd a.op va (register c.regs a.rs2) _ w refl regime
     (AtomicAt word a runs found refl (eqb-true (va % 4) 0 is) refl) calm
-aligned_meets false d c begun word a w is runs found view calm = inl calm
+aligned_meets false d c begun word a w is runs found regime calm = inl calm
 
 atomic_meets : (d : Domain) (c : Context) (begun : World) (word : ℕ) (o : Option Atomic) (w : World) →
-    Executes d c begun word w → atomic_instruction word ≡ o → view_of w ≡ view_of begun → Calm w →
+    Executes d c begun word w → atomic_instruction word ≡ o → regime_of w ≡ regime_of begun → Calm w →
     EndsCalmOrMet IsStoppedRun d c begun (atomic_inside d.control.number d.control.resources c o w)
 unfolding atomic_inside
-atomic_meets d c begun word None w runs found view calm = inl calm
-atomic_meets d c begun word (Some a) w runs found view calm =
-    aligned_meets _ d c begun word a w refl runs found view calm
+atomic_meets d c begun word None w runs found regime calm = inl calm
+atomic_meets d c begun word (Some a) w runs found regime calm =
+    aligned_meets _ d c begun word a w refl runs found regime calm
 
 decoded_meets : (d : Domain) (c : Context) (begun : World) (word : ℕ) (o : Option Instr) (w : World) →
-    Executes d c begun word w → instruction word ≡ o → view_of w ≡ view_of begun → Calm w →
+    Executes d c begun word w → instruction word ≡ o → regime_of w ≡ regime_of begun → Calm w →
     EndsCalmOrMet IsStoppedRun d c begun (decoded_inside d.control.number d.control.resources c word o w)
 unfolding decoded_inside
-decoded_meets d c begun word None w runs found view calm =
-    atomic_meets d c begun word (atomic_instruction word) w runs refl view calm
-decoded_meets d c begun word (Some i) w runs found view calm =
-    done_meets d c begun word i _ w runs found refl view calm
+decoded_meets d c begun word None w runs found regime calm =
+    atomic_meets d c begun word (atomic_instruction word) w runs refl regime calm
+decoded_meets d c begun word (Some i) w runs found regime calm =
+    done_meets d c begun word i _ w runs found refl regime calm
 
 fetched_goes : (d : Domain) (c : Context) (begun : World) (q : PageId) (a : Answer) (w : World) → c.phase ≡ Plain →
     pages_for d (Some c) c.pc ≡ Some q → ask_reach q c.pc Fetch begun ≡ record { answer = a; world = w } →
-    view_of w ≡ view_of begun → Goes d c begun a w →
+    regime_of w ≡ regime_of begun → Goes d c begun a w →
     EndsCalmOrMet IsStoppedRun d c begun (fetched_inside d.control.number d.control.resources c q a w)
 unfolding fetched_inside executed_inside ask_read
-fetched_goes d c begun q told.Ok w plain lies granted view (inl calm) =
+fetched_goes d c begun q told.Ok w plain lies granted regime (inl calm) =
     decoded_meets d c begun (value_in (plain_of w q) (c.pc % 4096) 4) _ w
-    (record { plain = plain; page = q; lies = lies; granted = granted; has = refl }) refl view calm
-fetched_goes d c begun q (told.Absent cause) w plain lies granted view (inl calm) = inl calm
-fetched_goes d c begun q (told.Word value) w plain lies granted view (inl calm) = inl calm
-fetched_goes d c begun q told.Stopped w plain lies granted view (inl calm) = inl calm
-fetched_goes d c begun q told.Stopped w plain lies granted view (inr met) = inr (refl, met.1)
-fetched_goes d c begun q told.Ok w plain lies granted view (inr met) = let is = met.0 in absurd cc
-fetched_goes d c begun q (told.Absent cause) w plain lies granted view (inr met) = let is = met.0 in absurd cc
-fetched_goes d c begun q (told.Word value) w plain lies granted view (inr met) = let is = met.0 in absurd cc
+    (record { plain = plain; page = q; lies = lies; granted = granted; has = refl }) refl regime calm
+fetched_goes d c begun q (told.Absent cause) w plain lies granted regime (inl calm) = inl calm
+fetched_goes d c begun q (told.Word value) w plain lies granted regime (inl calm) = inl calm
+fetched_goes d c begun q told.Stopped w plain lies granted regime (inl calm) = inl calm
+fetched_goes d c begun q told.Stopped w plain lies granted regime (inr met) = inr (refl, met.1)
+fetched_goes d c begun q told.Ok w plain lies granted regime (inr met) = let is = met.0 in absurd cc
+fetched_goes d c begun q (told.Absent cause) w plain lies granted regime (inr met) = let is = met.0 in absurd cc
+fetched_goes d c begun q (told.Word value) w plain lies granted regime (inr met) = let is = met.0 in absurd cc
 
 fetch_meets : (d : Domain) (c : Context) (begun : World) (o : Option PageId) → c.phase ≡ Plain →
     pages_for d (Some c) c.pc ≡ o → Calm begun →
@@ -283,7 +283,7 @@ fetch_meets : (d : Domain) (c : Context) (begun : World) (o : Option PageId) →
 unfolding fetch
 fetch_meets d c begun None plain lies calm = inl calm
 fetch_meets d c begun (Some q) plain lies calm =
-    fetched_goes d c begun q _ _ plain lies refl (reach_view q c.pc Fetch begun calm)
+    fetched_goes d c begun q _ _ plain lies refl (reach_regime q c.pc Fetch begun calm)
     (asks_goes d c begun begun q c.pc Fetch lies refl (Fetches plain refl refl refl) calm)
 
 -- Hypercalls.
@@ -406,15 +406,15 @@ got_goes : (d : Domain) (c : Context) (begun : World) (q : PageId) (done total :
     pages_for d (Some c) (byte_address (buffer c) done) ≡ Some q →
     is_cloaked d.control.resources c (byte_address (area c) done) ≡ false →
     ask_get (byte_address (area c) done) 1 begun ≡ record { answer = a; world = w } →
-    view_of w ≡ view_of begun → Calm w →
+    regime_of w ≡ regime_of begun → Calm w →
     EndsCalmOrMet IsStoppedCopy d c begun (out_got c q done total a w)
 unfolding out_got
-got_goes d c begun q done total (told.Word byte) w phase more lies is got view calm =
-    out_goes d c begun q done total byte _ _ (asks_goes d c begun w q (byte_address (buffer c) done) Store lies view
+got_goes d c begun q done total (told.Word byte) w phase more lies is got regime calm =
+    out_goes d c begun q done total byte _ _ (asks_goes d c begun w q (byte_address (buffer c) done) Store lies regime
     (CopiesTo done total byte phase (leb-false total done more) refl is got refl) calm)
-got_goes d c begun q done total (told.Absent cause) w phase more lies is got view calm = inl calm
-got_goes d c begun q done total told.Ok w phase more lies is got view calm = inl calm
-got_goes d c begun q done total told.Stopped w phase more lies is got view calm = inl calm
+got_goes d c begun q done total (told.Absent cause) w phase more lies is got regime calm = inl calm
+got_goes d c begun q done total told.Ok w phase more lies is got regime calm = inl calm
+got_goes d c begun q done total told.Stopped w phase more lies is got regime calm = inl calm
 
 out_meets : (d : Domain) (c : Context) (begun : World) (done total : ℕ) (o : Option PageId) (cloaked : Bool) →
     c.phase ≡ CopyOut done total → nat_le total done ≡ false →
@@ -426,7 +426,7 @@ out_meets d c begun done total None cloaked phase more lies is calm = inl calm
 out_meets d c begun done total (Some q) true phase more lies is calm = inl calm
 out_meets d c begun done total (Some q) false phase more lies is calm =
     let from : ℕ = byte_address (area c) done in
-    got_goes d c begun q done total _ _ phase more lies is refl (get_view from 1 begun calm)
+    got_goes d c begun q done total _ _ phase more lies is refl (get_regime from 1 begun calm)
     ((calms_asks_get from 1 begun).by calm)
 
 out_step_meets : (d : Domain) (c : Context) (begun : World) (done total : ℕ) (all : Bool) →

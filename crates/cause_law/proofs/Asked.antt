@@ -1,4 +1,4 @@
--- What each question of a program leaves: a memory that is kept and has met nothing wrong, or it is stopped, where the
+-- What each question of a program leaves: a memory that is kept and has met nothing wrong, or it is stopped, when the
 -- program's page is found in a frame that differs from what was last shown of it.
 use Rattle.std.proofs.Common.{◌≡◌, ◌∙◌, ◌⊎◌, ℕ, zero, suc, ◌+◌, Bool, true, false, cond, List, [], ◌∷◌, ◌++◌, Some, None, Result, Ok, Err, refl, sym, ap, inl, inr}
 use Rattle.std.proofs.lemmas.List.{length-set}
@@ -41,7 +41,7 @@ pub record HasMet (q : PageId) (va : ℕ) (kind : Kind) (asked c : Cloak) : Type
   pub finds : FindsOther q va kind frame asked
   pub differs : Differs q frame c.memory
   pub walked : Walked
-  pub leads : walk c.memory.ram asked.view.satp (access_of asked.view kind va) ≡ Ok walked
+  pub leads : walk c.memory.ram asked.regime.satp (access_of asked.regime kind va) ≡ Ok walked
   pub there : frame_of walked.pa ≡ frame
 
 abbrev pub Calm : World → Type 0
@@ -196,7 +196,7 @@ CalmOrMet q va kind asked t = Calm t.world ⊎ ((t.answer ≡ told.Stopped) × M
 
 offered_meets : (q : PageId) (va pa : ℕ) (kind : Kind) (k c : Cloak) (a : Offer) →
     ask_inside_address va kind (Cloaked k) ≡ record { answer = Ok pa; world = Cloaked c } →
-    LeadsStill k.view kind va pa c.memory → c.memory.ledger.missed ≡ false → IsCalm c →
+    LeadsStill k.regime kind va pa c.memory → c.memory.ledger.missed ≡ false → IsCalm c →
     let o = offer q (frame_of pa) (is_store kind) c.memory in
     o.answer ≡ a →
     CalmOrMet q va kind k (offered_by q va kind (frame_of pa) a
@@ -239,7 +239,7 @@ offered_meets q va pa kind k c Mismatch is leads drawn calm answers =
 
 reached_meets : (q : PageId) (va : ℕ) (kind : Kind) (k : Cloak) (to : Result ℕ ℕ) (w : World) →
     ask_inside_address va kind (Cloaked k) ≡ record { answer = to; world = w } →
-    ((pa : ℕ) → to ≡ Ok pa → OfMemory (LeadsStill k.view kind va pa) w) → is_missed w ≡ false → Calm w →
+    ((pa : ℕ) → to ≡ Ok pa → OfMemory (LeadsStill k.regime kind va pa) w) → is_missed w ≡ false → Calm w →
     CalmOrMet q va kind k (reached q va kind to w)
 unfolding reached ask_offer
 reached_meets q va kind k (Err cause) w is leads drawn calm = inl ((calms_replies _ w).by calm)
@@ -250,7 +250,7 @@ reached_meets q va kind k (Ok pa) (Alone h) is leads drawn calm = absurd calm
 
 drawn_meets : (q : PageId) (va : ℕ) (kind : Kind) (k : Cloak) (to : Result ℕ ℕ) (w : World) (missed : Bool) →
     ask_inside_address va kind (Cloaked k) ≡ record { answer = to; world = w } →
-    ((pa : ℕ) → to ≡ Ok pa → OfMemory (LeadsStill k.view kind va pa) w) → is_missed w ≡ missed → Calm w →
+    ((pa : ℕ) → to ≡ Ok pa → OfMemory (LeadsStill k.regime kind va pa) w) → is_missed w ≡ missed → Calm w →
     CalmOrMet q va kind k (cond missed (replies told.Stopped w) (reached q va kind to w))
 drawn_meets q va kind k to w true is leads drawn calm = inl ((calms_replies _ w).by calm)
 drawn_meets q va kind k to w false is leads drawn calm = reached_meets q va kind k to w is leads drawn calm

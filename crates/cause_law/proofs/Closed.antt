@@ -25,7 +25,7 @@ use Rattle.cause_law.proofs.Settled.{shown_if, settles}
 abbrev shows : List (List ℕ) → ℕ → Item
 shows ram f = item.Cipher f (slice_index_or ram f [])
 
--- What the frames below n are behind their settling, and what was written.
+-- What the frames below n are after their settling, and what was written.
 record Below (n : ℕ) (c c' : Cloak) : Type 0 where
   pub places : HasPlaces c'.memory
   pub count : length c'.memory.ram ≡ length c.memory.ram

@@ -1,4 +1,4 @@
--- What an offer compares: it is refused exactly where the frame, once it and the page are shown, differs from what was
+-- What an offer compares: it is refused exactly if the frame, once it and the page are shown, differs from what was
 -- last shown of the page.
 use Rattle.std.proofs.Common.{◌≡◌, ◌≢◌, ◌∙◌, ℕ, Bool, true, false, cond, List, [], ◌++◌, Option, Some, None, refl, sym, ap}
 use Rattle.std.specs.Prelude.{slice_index_or, ◌||◌}

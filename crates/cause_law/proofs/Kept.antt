@@ -1,5 +1,5 @@
 -- What every step keeps: each frame has its place among what is owed, and no page is owed by two frames. And what an
--- offer leaves: where it is refused, the frame differs from what was last shown of the page.
+-- offer leaves: if it is refused, the frame differs from what was last shown of the page.
 use Rattle.std.proofs.Common.{◌≡◌, ◌≢◌, ◌∙◌, ◌<◌, ◌≤◌, ◌⊎◌, ℕ, Bool, true, false, cond, List, [], ◌++◌, length, Option, Some, None, nat_lt, is_some, refl, sym, ap, subst, arith, inl, inr}
 use Rattle.std.specs.Prelude.{slice_index_or, slice_set}
 use Rattle.std.specs.List.{position_or_len}
@@ -29,7 +29,7 @@ not_none q o none some = (let clash : None ≡ Some q = sym none ∙ some in abs
 
 -- Settling.
 
--- what is owed behind a settling was owed before it
+-- what is owed after a settling was owed before it
 still_owed : (f : ℕ) (m : CloakedMemory) (s : AfterSettling) → Settles f m s → (g : ℕ) (q : PageId) →
     owed_in s.memory g ≡ Some q → owed_in m g ≡ Some q
 still_owed f m s settled g q is = elim (decided g f) [
@@ -46,7 +46,7 @@ kept_settled f m kept =
       once = λ g h q one two. kept.once g h q (still_owed f m _ s g q one) (still_owed f m _ s h q two);
     }
 
--- a frame that was owed nothing is so still
+-- a frame that was owed nothing is still owed nothing
 clean_settled : (f : ℕ) (m : CloakedMemory) → IsKept m → (g : ℕ) → owed_in m g ≡ None →
     owed_in (settle f m).memory g ≡ None
 clean_settled f m kept g none =

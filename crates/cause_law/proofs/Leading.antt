@@ -5,7 +5,7 @@ use Rattle.cloak_base.specs.declared.names.Kind.{Kind}
 use Rattle.cloak_base.specs.declared.names.Mode.TheVariants.{U}
 use Rattle.cloak_model.specs.declared.access.Access.{Access}
 use Rattle.cloak_model.specs.declared.access.Walked.{Walked}
-use Rattle.cloak_model.specs.declared.view.View.{View}
+use Rattle.cloak_model.specs.declared.regime.InsideRegime.{InsideRegime}
 use Rattle.cloak_model.specs.Ask.{shown_word, ask_word, ask_second, ask_after, ask_first, ask_walk, ask_inside, ask_translate, ask_led}
 use Rattle.cloak_model.specs.AskPages.{ask_inside_address}
 use Rattle.cloak_model.specs.Asking.{Told}
@@ -148,11 +148,11 @@ walks satp a c kept = walks_by (has_paging satp) satp a c kept refl
 -- An address.
 
 -- a program's access
-abbrev pub access_of : View → Kind → ℕ → Access
+abbrev pub access_of : InsideRegime → Kind → ℕ → Access
 access_of v kind va = record { mode = U; sum = v.sum; mxr = v.mxr; va = va; kind = kind }
 
 -- It leads to this address, whatever else is settled.
-pub record LeadsStill (v : View) (kind : Kind) (va pa : ℕ) (m : CloakedMemory) : Type 0 where
+pub record LeadsStill (v : InsideRegime) (kind : Kind) (va pa : ℕ) (m : CloakedMemory) : Type 0 where
   pub walked : Walked
   pub at : walked.pa ≡ pa
   pub leads : (m' : CloakedMemory) → Extends m m' → walk m'.ram v.satp (access_of v kind va) ≡ Ok walked
@@ -161,7 +161,7 @@ inside_by : (b : Bool) (to pa fault : ℕ) → cond b (Ok to) (Err fault) ≡ Ok
 inside_by true to pa fault is = cc
 inside_by false to pa fault is = absurd cc
 
-inside_leads : (v : View) (kind : Kind) (va pa : ℕ) (w : Walk) (u : World) →
+inside_leads : (v : InsideRegime) (kind : Kind) (va pa : ℕ) (w : Walk) (u : World) →
     (ask_inside (access_of v kind va) w u).answer ≡ Ok pa →
     OfMemory (Walks v.satp (access_of v kind va) w) u →
     OfMemory (LeadsStill v kind va pa) (ask_inside (access_of v kind va) w u).world
@@ -174,10 +174,10 @@ inside_leads v kind va pa (Ok walked) (Cloaked c) is walks =
 
 pub address_leads : (va : ℕ) (kind : Kind) (c : Cloak) (pa : ℕ) → IsKept c.memory →
     let t = ask_inside_address va kind (Cloaked c) in
-    t.answer ≡ Ok pa → OfMemory (LeadsStill c.view kind va pa) t.world
+    t.answer ≡ Ok pa → OfMemory (LeadsStill c.regime kind va pa) t.world
 unfolding ask_inside_address ask_led ask_translate
 address_leads va kind c pa kept is =
-    let a = access_of c.view kind va in
-    let c' : Cloak = record c { events = c.events ++ Look c.view.satp a ∷ [] } in
-    let t = ask_walk c.view.satp a (Cloaked c') in
-    inside_leads c.view kind va pa t.answer t.world is (walks c.view.satp a c' kept)
+    let a = access_of c.regime kind va in
+    let c' : Cloak = record c { events = c.events ++ Look c.regime.satp a ∷ [] } in
+    let t = ask_walk c.regime.satp a (Cloaked c') in
+    inside_leads c.regime kind va pa t.answer t.world is (walks c.regime.satp a c' kept)

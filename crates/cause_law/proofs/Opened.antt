@@ -21,7 +21,7 @@ use Rattle.kernel_isolation.proofs.Opened.{is_opened}
 use Rattle.cause_law.proofs.Ends.{IsSound}
 use Rattle.cause_law.proofs.Over.{AreEmpty, AreListed, started_empty, started_listed}
 
--- a memory, where there is one, has this owed
+-- a memory, if there is one, has this owed
 abbrev HasOwed : List (Option PageId) → Option CloakedMemory → Type 0
 HasOwed owed None = Unit {0}
 HasOwed owed (Some m) = m.ledger.owed ≡ owed

@@ -1,5 +1,5 @@
--- What has ended: a step itself ends no domain, and gives none that has ended a context. So none could be resumed, and
--- none could make a step.
+-- What has ended: a step itself ends no domain, and gives no context to one that has ended. So none could be resumed,
+-- and none could make a step.
 use Rattle.std.proofs.Common.{◌≡◌, ◌<◌, length, subst, ◌∙◌, ◌+◌, ℕ, zero, suc, Bool, true, false, cond, List, [], ◌∷◌, Option, Some, None, Result, Ok, Err, refl, sym, ap, inl, inr}
 use Rattle.std.specs.Prelude.{is_some, slice_index_or, replicate, slice_get, slice_set}
 use Rattle.std.proofs.lemmas.Bool.{false≢true, cases_lt}

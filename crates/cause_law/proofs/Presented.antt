@@ -219,7 +219,7 @@ out_stops slot d c q w v done total byte t there phase more lies clear got same 
     ∙ (ap (λ (u : Told Answer). copied_out slot d (out_reached c q done total byte u.answer u.world)) same
     ∙ ap (λ (a : Answer). copied_out slot d (out_reached c q done total byte a t.world)) stops))))))
 
--- Every step: where a page for which it asks is refused, it is stopped.
+-- Every step: if a page for which it asks is refused, it is stopped.
 
 question_at : (q : PageId) (va va' : ℕ) (kind kind' : Kind) (w w' : World) → va ≡ va' → kind ≡ kind' → w ≡ w' →
     ask_reach q va' kind' w' ≡ ask_reach q va kind w

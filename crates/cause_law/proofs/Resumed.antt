@@ -1,4 +1,5 @@
--- Resuming: it is refused where there is no such context, or it runs, or its space has another page table, and so.
+-- Resuming: it is refused if there is no such context, or it runs, or its space has another page table, each by its
+-- violation.
 use Rattle.std.proofs.Common.{◌≡◌, ◌∙◌, ℕ, Bool, true, false, cond, Option, Some, None, Result, Ok, Err, is_some, refl, ap}
 use Rattle.std.specs.Prelude.{slice_get, option_and_then}
 use Rattle.std.proofs.lemmas.Bool.{false≢true}

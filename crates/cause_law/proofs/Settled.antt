@@ -1,4 +1,4 @@
--- What settling a frame leaves: it owes nothing, every other frame stays, and it is shown where it was owed a page.
+-- What settling a frame leaves: it owes nothing, every other frame stays, and it is shown if it was owed a page.
 use Rattle.std.proofs.Common.{◌≡◌, ◌≢◌, ◌∙◌, ◌<◌, ℕ, Bool, false, cond, List, [], ◌∷◌, length, Option, Some, None, is_some, refl, sym, ap, subst, inl, inr}
 use Rattle.std.specs.Prelude.{slice_index_or, slice_set}
 use Rattle.std.proofs.lemmas.Bool.{false≢true, cases_lt}
@@ -10,7 +10,7 @@ use Rattle.cloak_model.specs.Cloaking.{CloakedMemory, AfterSettling, owed_in, se
 use Rattle.cloak_model.specs.Ledger.{vector_of}
 use Rattle.kernel_isolation.proofs.Settlings.{HasPlaces}
 
--- the frames that the kernel is shown by settling one: itself, where it was owed a page
+-- the frames that the kernel is shown by settling one: itself, if it was owed a page
 abbrev pub shown_if : Bool → ℕ → List ℕ → List (ℕ × List ℕ)
 shown_if owed f bytes = cond owed ((f, bytes) ∷ []) []
 

@@ -13,7 +13,7 @@ use Rattle.cloak_model.specs.declared.inside.Went.TheVariants as went
 use Rattle.cloak_model.specs.declared.item.Item.{Item}
 use Rattle.cloak_model.specs.declared.outcome.Kernel.{Kernel}
 use Rattle.cloak_model.specs.declared.outcome.Kernel.TheVariants as kernel
-use Rattle.cloak_model.specs.declared.view.View.{View}
+use Rattle.cloak_model.specs.declared.regime.InsideRegime.{InsideRegime}
 use Rattle.cloak_model.specs.Ahead.{is_owed, settle_found, settle_while, settle_touched, settled_step, made_after}
 use Rattle.cloak_model.specs.Asking.{Told}
 use Rattle.cloak_model.specs.Cloaking.{CloakedMemory, AfterSettling, seen_in, settle}
@@ -118,7 +118,7 @@ ended_met m s j number h e c went.Stopped same owner is at =
         walked = met.walked;
         leads = subst (λ (x : CloakedMemory).
             table_leads (ticked (hart_of_step m)) x.ram at.kind at.va ≡ Ok met.walked) (sym same)
-            (subst (λ (view : View). walk c.memory.ram view.satp (access_of view at.kind at.va) ≡ Ok met.walked) at.view
+            (subst (λ (regime : InsideRegime). walk c.memory.ram regime.satp (access_of regime at.kind at.va) ≡ Ok met.walked) at.regime
             met.leads);
         there = met.there;
         differs = subst (Differs at.page met.frame) (sym same) met.differs;
@@ -230,7 +230,7 @@ touched_kept : (h : Hart) (disk : List ℕ) (m : CloakedMemory) → IsKept m →
 unfolding settle_touched
 touched_kept h disk m kept = while_kept (λ ram. touched h ram disk) (length m.ledger.owed) m kept
 
--- the machine behind the plain step of a hart outside
+-- the machine after the plain step of a hart outside
 abbrev pub told_outside : Moment → Told SteppedKernel
 told_outside m = settled_step (hart_of_step m) m.joint.disk (cloak_outside m.joint.memory (hart_of_step m))
 

@@ -272,7 +272,7 @@ unfolding by_interrupt after_interrupt
 interrupted_tells d true j number h ctx was owner there =
     interrupt_tells d (Some ctx) _ number h (domain_of ctx) (interrupt (slot_of ctx) was.control).went
 interrupted_tells d false j number h ctx was owner there =
-    played_tells d j number h ctx (slot_of ctx) was _ (record { form = refl; view = sym owner }) refl owner there
+    played_tells d j number h ctx (slot_of ctx) was _ (record { form = refl; regime = sym owner }) refl owner there
 
 running_tells : (d : ℕ) (runs : Bool) (j : Joint) (number : ℕ) (h : Hart) (ctx : ℕ) (was : Domain) →
     was.control.number ≡ domain_of ctx → slice_get j.domains (domain_of ctx) ≡ Some was →

@@ -15,7 +15,7 @@
 //! The laws hold from every beginning, also over the files of an earlier run, whatever they hold. What such a file has as
 //! the ciphertext of a page is recorded as the run begins: it counts as last shown until the page is shown again.
 //!
-//! No body turns a law, so there is no wrong body to refuse here. These changed definitions were tried on a copy, and
+//! No body changes a law, so there is no wrong body to refuse here. These changed definitions were tried on a copy, and
 //! with none of them did the proofs go through. Of the closing: the last frame is not settled. Of violations and
 //! refusals: a resume with another page table meets the violation of a context that cannot run; the violation of a
 //! page names the next frame; the frame of a page is compared before it is settled; the step of an access is one in

@@ -1,4 +1,4 @@
--- How many slots are in use, where one is taken or given back.
+-- How many slots are in use, when one is taken or given back.
 use Rattle.std.proofs.Common.{◌≡◌, ◌≤◌, ◌<◌, ◌+◌, ℕ, zero, suc, List, [], ◌∷◌, length, replicate, slice_get, slice_set, Option, Some, None, refl, sym, ap, arith}
 use Rattle.std.specs.List.{filter_map}
 use Rattle.std.proofs.lemmas.Option.{none-some, same_Some}
@@ -13,13 +13,13 @@ module _ {X : Type 0} where
   few_lying (None ∷ os) = omega (arith, few_lying os)
   few_lying (Some x ∷ os) = omega (arith, few_lying os)
 
-  -- where no slot is free, as many are in use as there are
+  -- if no slot is free, as many are in use as there are
   pub all_lying : (os : List (Option X)) → ((s : ℕ) → slice_get os s ≡ Some None → ⊥) → length (lying os) ≡ length os
   all_lying [] none = refl
   all_lying (None ∷ os) none = absurd (none zero refl)
   all_lying (Some x ∷ os) none = ap suc (all_lying os (λ s. none (suc s)))
 
-  -- where one is free, fewer are in use
+  -- if one is free, fewer are in use
   pub fewer_lying : (os : List (Option X)) (s : ℕ) → slice_get os s ≡ Some None → length (lying os) < length os
   fewer_lying [] s free = absurd (none-some None free)
   fewer_lying (None ∷ os) zero free = omega (arith, few_lying os)

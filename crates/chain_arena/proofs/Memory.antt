@@ -68,7 +68,7 @@ module _ (E : El) {M : Type 1} {𝓤 : Ura M} (𝓛 : Logic 𝓤) where
   abbrev pub Row : List X → ℕ → ℕ → Fml
   Row xs b o = part_at (Array (R E) (length xs)) full_share xs b o
 
-  -- the room behind k of n places
+  -- the room after k of n places
   abbrev pub Room : ℕ → ℕ → ℕ → ℕ → Fml
   Room n k b o = room_for (array_of (R E) (n - k)) (block_ptr b o +ₚ k * s)
 
@@ -130,7 +130,7 @@ module _ (E : El) {M : Type 1} {𝓤 : Ura M} (𝓛 : Logic 𝓤) where
       flt_i ! (n * s) (2 ^ 63) small $ flt_i ! (length xs) (n + 1) (subst (λ (m : ℕ). m < n + 1) (sym long) most) $
       fjoin ! $ fjoin ! $ done !
 
-  -- a value is written behind the others
+  -- a value is written after the others
   pub one_more : (n : ℕ) (xs : List X) (y : X) (b o : ℕ) → length xs < n → n * s < 2 ^ 63
       → ent 𝓤 (sep 𝓤 (sem 𝓛 (part_at (R E) full_share y b (length xs * s + o)))
       (sep 𝓤 (sem 𝓛 (Row xs b o)) (sem 𝓛 (Room n (length xs + 1) b o))))

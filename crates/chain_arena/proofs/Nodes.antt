@@ -240,7 +240,7 @@ module _ {X : Type 0} where
   payload-elsewhere (suc i) used value zero (x ∷ xs) d = refl
   payload-elsewhere (suc i) used value (suc at) (x ∷ xs) d = payload-elsewhere i used value at xs (λ e. d (ap suc e))
 
-  -- a node is put behind another
+  -- a node is put after another
 
   module _ (k : Link) (s a : ℕ) (xs : List (Node X)) where
     abbrev f : ℕ

@@ -32,7 +32,7 @@ chain_of link.First d = (chain.First, refl)
 chain_of link.Second d = (chain.Second, refl)
 chain_of link.Free d = absurd (d refl)
 
--- the head's link leads past the slots exactly where the chain is empty
+-- the head's link leads past the slots exactly if the chain is empty
 
 none_past : (nx pv : ℕ → ℕ) (n a : ℕ) (xs : List ℕ) (b i : ℕ) → IsLinked nx pv a xs b → ((i : ℕ) → IsMemberOf i xs → i < n)
     → n ≤ nx a → Not (IsMemberOf i xs)

@@ -1,4 +1,4 @@
--- How an arena lies in its block: the slots are the first nodes; behind them come the heads, each a node for all four
+-- How an arena lies in its block: the slots are the first nodes; after them come the heads, each a node for all four
 -- kinds; the last node is the head of the chain of the free slots.
 use Rattle.std.specs.Prelude.{◌≡◌, ℕ, ◌+◌, ◌^◌, ◌<◌, List, [], map, length, get_or, Option, None}
 use Rattle.std.specs.List.{filter_map, range_with_len}
@@ -56,5 +56,5 @@ module _ {X : Type 0} where
     pub made : AreMade a.block a.nodes a.heads (held a.block a.nodes a.heads)
     pub sorted : AreSorted a.block a.nodes a.heads (held a.block a.nodes a.heads)
     pub small : a.nodes + a.heads + 1 < 2 ^ 64
-    -- so many slots are in use
+    -- this many slots are in use
     pub counted : a.used ≡ length (filter_map (λ o. o) (payloads_of a.block a.nodes))

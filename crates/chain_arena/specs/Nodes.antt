@@ -38,7 +38,7 @@ module _ {X : Type 0} where
   with_content zero used value (x ∷ xs) = record x { used = used; value = value } ∷ xs
   with_content (suc i) used value (x ∷ xs) = x ∷ with_content i used value xs
 
-  -- the node s is put behind the node a
+  -- the node s is put after the node a
   abbrev pub linked_in : Link → ℕ → ℕ → List (Node X) → List (Node X)
   linked_in k s a xs = with_next k a s (with_previous k (next_of k xs a) s
       (with_previous k s a (with_next k s (next_of k xs a) xs)))

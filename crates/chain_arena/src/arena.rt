@@ -60,7 +60,7 @@ fn lone_nodes<T: Copy>(alloc: Global, count: usize, empty: T) -> Result<Block<No
     Ok(block)
 }
 
-/// The slot that a link leads to, where it does not lead to a head.
+/// The slot that a link leads to, if it does not lead to a head.
 fn slot_at(node: usize, slots: usize) -> Option<Slot>
     ensures below { node < slots → result ≡ Some node }
     ensures past { slots ≤ node → result ≡ None }
@@ -72,7 +72,7 @@ fn slot_at(node: usize, slots: usize) -> Option<Slot>
     }
 }
 
-/// Puts the node `s` behind the node `a`.
+/// Puts the node `s` after the node `a`.
 fn link_in<T: Copy>(block: &mut Block<Node<T>>, link: Link, s: usize, a: usize)
     requires { (s < length block.old) × (a < length block.old) × (next_of link block.old a < length block.old) }
     ensures { block.new ≡ linked_in link s a block.old }
@@ -143,7 +143,7 @@ impl<T: Copy> ChainArena<T> {
         })
     }
 
-    /// Takes a free slot for a payload. None where all are in use.
+    /// Takes a free slot for a payload. None if all are in use.
     pub fn take(&mut self, value: T) -> Option<Slot>
         ensures full { IfNone result ((s : ℕ) → IsFree self.old s → ⊥) }
         ensures unchanged { IfNone result (self.new ≡ self.old) }
@@ -209,7 +209,7 @@ impl<T: Copy> ChainArena<T> {
         slot_at(self.block.get(at).next.get(c.link()), self.nodes)
     }
 
-    /// The slot behind this one in its chain of this kind.
+    /// The slot after this one in its chain of this kind.
     pub fn next(&self, s: Slot, c: Chain) -> Option<Slot>
         requires in_use { IsInUse self.now s }
         requires stands { Stands self.now c s }

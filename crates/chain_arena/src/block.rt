@@ -1,7 +1,7 @@
 //! A block of items that are all there, seen as their list.
 ghost use Rattle.std.specs.Prelude.{◌≡◌, ◌<◌, length, replicate, slice_get, slice_set, Some, IfOk};
 
-use crate::cells::{Base, Cells, Deed};
+use crate::cells::{Base, BlockRight, Cells};
 use std::alloc::{AllocError, Global};
 use std::marker::Model;
 use std_alloc::room::may_hold;
@@ -11,7 +11,7 @@ pub struct Block<N: Copy> {
     base: Base<N>,
     count: usize,
     cells: Cells<N>,
-    deed: Deed<N, Global>,
+    deed: BlockRight<N, Global>,
     alloc: Global,
 }
 

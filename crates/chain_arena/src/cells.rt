@@ -1,7 +1,7 @@
 //! A block of memory behind a raw pointer. No other file touches it.
 //!
 //! The block has places for a number of values. They are written one after the other, from the first place on; those
-//! that are written can be read and changed. What stands for the memory takes no space: who calls keeps the pointer.
+//! that are written can be read and changed. What stands for the memory takes no space: the caller keeps the pointer.
 ghost use Rattle.std.specs.Prelude.{◌≡◌, ℕ, ◌<◌, List, [], ◌∷◌, ◌++◌, length, slice_get, Some, IfOk, ⊤};
 ghost use Rattle.std.specs.Borrow.{sem};
 ghost use Rattle.std.specs.Vec.Ownership.{FitsInBlock};
@@ -45,14 +45,14 @@ impl<T> Model for Cells<T> {
 }
 
 /// The right to give a block back to its allocator.
-pub struct Deed<T, A: Allocator> {
+pub struct BlockRight<T, A: Allocator> {
     mark: PhantomData<*const (T, A)>,
     ghost at: { Ptr },
     ghost places: { ℕ },
     ghost alloc: { A },
 }
 
-impl<T, A: Allocator> Model for Deed<T, A> {
+impl<T, A: Allocator> Model for BlockRight<T, A> {
     ghost also_owns = { λ d. deed_owns T.row (A.dealloc_token d.alloc) d.at d.places };
 
     ghost also_shares = { λ _ _ _. ftrue };
@@ -66,7 +66,7 @@ impl<T> Cells<T> {
     pub(crate) fn allocate<A: Allocator>(
         alloc: &A,
         places: usize,
-    ) -> Result<(Base<T>, Cells<T>, Deed<T, A>), AllocError>
+    ) -> Result<(Base<T>, Cells<T>, BlockRight<T, A>), AllocError>
         requires { FitsInBlock T.row places }
         ensures { IfOk result (λ r. HasPlaces r.1 r.0.ptr places [] × IsDeedOf r.2 r.0.ptr places alloc.now) }
     {
@@ -78,7 +78,7 @@ impl<T> Cells<T> {
                 Ok((
                     base,
                     Cells { mark: PhantomData },
-                    Deed { mark: PhantomData },
+                    BlockRight { mark: PhantomData },
                 ))
             }
             Err(refused) => Err(refused),
@@ -91,12 +91,12 @@ impl<T> Cells<T> {
         alloc: &A,
         base: Base<T>,
         places: usize,
-        deed: Deed<T, A>,
+        deed: BlockRight<T, A>,
     )
         requires { (self.at ≡ base.ptr) × (self.places ≡ places) × IsDeedOf deed base.ptr places alloc.now }
     {
         let Cells { mark: _ } = self;
-        let Deed { mark: _ } = deed;
+        let BlockRight { mark: _ } = deed;
         unsafe {
             alloc.deallocate(
                 base.ptr as *mut u8,

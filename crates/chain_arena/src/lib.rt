@@ -7,8 +7,8 @@
 //!
 //! The layer above may rely on this: to contracts an arena is the payload of each slot and a list of slots for each
 //! head (`specs/Arena`). `hook` and `unhook` change one list of one kind and leave everything else; a slot that is
-//! given back can be taken again. Which free slot `take` gives is not known above, nor anything of nodes and links. The
-//! block lies behind a raw pointer, and `cells.rt` is the one file that follows it.
+//! given back can be taken again. Which free slot `take` returns is not known above, nor anything of nodes and links.
+//! The block lies behind a raw pointer, and `cells.rt` is the one file that follows it.
 #![tactic(auto)]
 
 mod arena;
@@ -21,7 +21,7 @@ pub use arena::ChainArena;
 #[doc(hidden)]
 pub use block::Block;
 #[doc(hidden)]
-pub use cells::{Base, Cells, Deed};
+pub use cells::{Base, BlockRight, Cells};
 pub use chain::{Chain, Slot};
 #[doc(hidden)]
 pub use node::{Link, Links, Node};

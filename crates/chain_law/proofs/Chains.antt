@@ -22,13 +22,10 @@ use Rattle.chain_law.specs.Chain.{MadeRun, IsMade, GoesOnFrom, FilePage, resourc
 use Rattle.chain_law.proofs.Contents.{Has, file_at, has_contents, contents_are, pages_length}
 use Rattle.chain_law.proofs.Making.{IsAt, is_at, held_at, same_file, made_byte, contents_latest, no_program}
 use Rattle.chain_law.proofs.Opened.{OpensFiles, IsSized}
-use Rattle.chain_law.proofs.GoesOn.{is_page, page_is, file_is, size_in, number_in, not_own, begun_history, file_begins, page_goes_on, no_place, opens_over_files}
+use Rattle.chain_law.proofs.GoesOn.{is_page, page_is, file_is, size_in, number_in, not_own, begun_history, file_begins, page_goes_on, no_place, opens_over_files, some_number}
 use Rattle.chain_law.proofs.Since.{since_append, loads_append, no_load, history_is}
 
 -- Which file a page is of.
-
-some_number : (a b : ℕ) → Some a ≡ Some b → a ≡ b
-some_number a b is = cc
 
 owner_holds : (number : ℕ) (o : Owner) → owner_number o ≡ Some number → is_file number o ≡ true
 owner_holds number (Space space) is = absurd cc

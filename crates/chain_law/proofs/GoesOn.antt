@@ -24,7 +24,7 @@ use Rattle.cloak_model.specs.Run.{Run, run_from}
 use Rattle.cloak_model.specs.StoredFiles.{PageContent, FileContents, Rise, table_of}
 use Rattle.cloak_model.specs.StoredRun.{shown_content, content_of, contents_of}
 use Rattle.kernel_isolation.proofs.FilesAdded.{files_of}
-use Rattle.store_law.proofs.Given.{HasOwn}
+use Rattle.page_law.proofs.Given.{HasOwn}
 use Rattle.latest_store.specs.LatestStore.{made_programs, made_files, resource_of_file, history_until}
 use Rattle.latest_store.specs.Moves.{Move, latest}
 use Rattle.latest_store.proofs.Histories.{runs_give_latest}
@@ -247,7 +247,7 @@ no_place number held k holds none = elim (cases_lt (position_or_len (holds_file 
       ]
 ]
 
-some_number : (a b : ℕ) → Some a ≡ Some b → a ≡ b
+pub some_number : (a b : ℕ) → Some a ≡ Some b → a ≡ b
 some_number a b is = cc
 
 module _ (j : Joint) (now : List Domain) (opens : (g : FileContents) → Has g (contents_of j) → IsSized now g)

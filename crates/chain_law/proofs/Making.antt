@@ -12,12 +12,12 @@ use Rattle.cloak_model.specs.declared.resource.Owner.TheVariants.{Space, File}
 use Rattle.cloak_model.specs.declared.resource.Resource.{Resource}
 use Rattle.cloak_model.specs.DomainState.{Domain}
 use Rattle.cloak_model.specs.Files.{is_file, holds_file}
-use Rattle.cloak_model.specs.Opening.{program_page}
 use Rattle.cloak_model.specs.Resources.{resource_at}
 use Rattle.cloak_model.specs.StoredFiles.{PageContent, FileContents, Precedes, Rise, stored_file, table_of}
-use Rattle.latest_store.specs.LatestStore.{made_pages, made_programs, resource_of_file, made_contents, made_file, made_files}
+use Rattle.latest_store.specs.LatestStore.{made_programs, resource_of_file, made_contents, made_file, made_files}
 use Rattle.latest_store.specs.Moves.{Move, Makes, latest}
 use Rattle.chain_law.proofs.Contents.{Has}
+use Rattle.latest_store.proofs.Histories.{programs_latest}
 
 abbrev page_of : ℕ → ℕ → ℕ → PageId
 page_of d n page = record { domain = d; resource = n; page = page }
@@ -229,22 +229,6 @@ module _ (domains : List Domain) (d number n : ℕ) (here : IsAt domains d numbe
       (λ own file. before_differs f g before (own ∙ sym domain) (file ∙ sym same)) refl)
 
 -- The programs' pages are of resource 0.
-
-pages_latest : (d : ℕ) (p : Program) (n : ℕ) (history : List Move) (q : PageId) (at : ℕ) → q.resource ≢ 0 →
-    latest (made_pages d p n history) q at ≡ latest history q at
-unfolding latest
-pages_latest d p zero history q at other = refl
-pages_latest d p (suc n) history q at other =
-    ap (λ (b : Bool). cond b (slice_index (program_page p.bytes n) at) (latest (made_pages d p n history) q at))
-    (same_page-other q (page_of d 0 n) (λ same. other (ap (λ (x : PageId). x.resource) same)))
-    ∙ pages_latest d p n history q at other
-
-programs_latest : (d : ℕ) (programs : List Program) (history : List Move) (q : PageId) (at : ℕ) → q.resource ≢ 0 →
-    latest (made_programs d programs history) q at ≡ latest history q at
-programs_latest d [] history q at other = refl
-programs_latest d (p ∷ programs) history q at other =
-    programs_latest (d + 1) programs (made_pages d p p.start.pages history) q at other
-    ∙ pages_latest d p p.start.pages history q at other
 
 pub no_program : (programs : List Program) (q : PageId) (at : ℕ) → q.resource ≢ 0 →
     latest (made_programs 0 programs []) q at ≡ 0

@@ -1,12 +1,9 @@
 -- As a run over files begins, each of them is there with its pages, and no two files of a domain have one number.
-use Rattle.std.proofs.Common.{◌≡◌, ◌≢◌, ◌∙◌, ◌⊎◌, inl, inr, ℕ, zero, suc, ◌+◌, ◌<◌, nat_lt, Bool, true, false, cond, List, [], ◌∷◌, length, get_or, slice_get, slice_set, Option, Some, None, Ok, refl, sym, ap, subst, arith, eq-eqb}
+use Rattle.std.proofs.Common.{◌≡◌, ◌≢◌, ◌∙◌, ◌⊎◌, inl, inr, ℕ, zero, suc, ◌+◌, ◌<◌, Bool, true, false, cond, List, [], ◌∷◌, length, get_or, slice_get, slice_set, Option, Some, None, Ok, refl, sym, ap, subst}
 use Rattle.std.specs.Prelude.{position, is_none, ◌==◌}
-use Rattle.std.specs.List.{position_or_len}
-use Rattle.std.proofs.lemmas.Bool.{false≢true, cases_lt, eqb-true, lt-ltb}
-use Rattle.std.proofs.lemmas.List.{length-set, get_or-set_same, get_or-set_other}
-use Rattle.std.proofs.lemmas.List.Folds.{position_or_len-set}
+use Rattle.std.proofs.lemmas.Bool.{false≢true, eqb-true}
+use Rattle.std.proofs.lemmas.List.{get_or-set_same, get_or-set_other}
 use Rattle.std.proofs.lemmas.List.Quantifiers.{position-Some}
-use Rattle.std.proofs.lemmas.List.Sums.{position_or_len_is, fails_before_first}
 use Rattle.cloak_model.specs.declared.image.Bundle.{Bundle}
 use Rattle.cloak_model.specs.declared.image.Program.{Program}
 use Rattle.cloak_model.specs.declared.resource.MapFault.TheVariants.{BadArg}
@@ -18,16 +15,17 @@ use Rattle.cloak_model.specs.DomainState.{Domain, with_resources, started_contro
 use Rattle.cloak_model.specs.Files.{holds_file, file_found, file_resource}
 use Rattle.cloak_model.specs.Opening.{Opened, started_domains, started_joint}
 use Rattle.cloak_model.specs.Parts.{Joint}
-use Rattle.cloak_model.specs.Resources.{Resources, Mapped, resource_at, pages_of, refused, started_resources, first_free}
+use Rattle.cloak_model.specs.Resources.{Resources, Mapped, resource_at, pages_of, refused, started_resources}
 use Rattle.cloak_model.specs.Run.{Run, run_from, run_of}
 use Rattle.cloak_model.specs.StoredFiles.{FileContents}
 use Rattle.domain_isolation.proofs.InOrder.{decided}
 use Rattle.kernel_isolation.proofs.FilesAdded.{IsGiven, file_made, files_of, files_carry, files_keep, opens_over}
 use Rattle.kernel_isolation.proofs.Isolated.{of_opened}
 use Rattle.resource_map.proofs.Lists.{none_from_test, get_or-replicate_none}
-use Rattle.store_law.proofs.Given.{ComesBy, WasThere, IsNew, comes_by, new_at, after_set, HasOwn, added_own}
+use Rattle.page_law.proofs.Given.{ComesBy, WasThere, IsNew, comes_by, new_at, after_set, HasOwn, added_own}
 use Rattle.chain_law.proofs.Contents.{Has}
 use Rattle.chain_law.proofs.Making.{same_file}
+use Rattle.latest_store.proofs.Begun.{holds_itself, given_place, place_stays, get_other, get_same}
 
 -- The size of a file.
 
@@ -56,77 +54,6 @@ unfolding file_resource
 file_size number pages n r made = found_size (position (holds_file number) r.held) number pages n r made
 
 -- Which resource a file is.
-
-holds_itself : (number pages : ℕ) → holds_file number (Some (record { owner = File number; pages = pages })) ≡ true
-holds_itself number pages = eq-eqb number number refl
-
-place_is : {A : Type 0} (p : A → Bool) (xs : List A) (n : ℕ) → position_or_len p xs ≡ n → n < length xs →
-    position p xs ≡ Some n
-place_is p xs n is less =
-    ap (λ (b : Bool). cond b (Some (position_or_len p xs)) None)
-    (lt-ltb (position_or_len p xs) (length xs) (omega (arith, is, less)))
-    ∙ ap (λ (k : ℕ). Some k) is
-
-none_by : (test : Bool) (n : ℕ) → ◌≡◌ {A = Option ℕ} (cond test (Some n) None) None → test ≡ false
-none_by true n none = absurd cc
-none_by false n none = refl
-
--- if none passes, none does at any place
-fails_all : {A : Type 0} (p : A → Bool) (xs : List A) (k : ℕ) (d : A) → position p xs ≡ None → k < length xs →
-    p (get_or xs k d) ≡ false
-fails_all p xs k d none less = elim (cases_lt (position_or_len p xs) (length xs)) [
-  | inl inside ↦
-      absurd (false≢true (sym (none_by (nat_lt (position_or_len p xs) (length xs)) _ none)
-      ∙ lt-ltb (position_or_len p xs) (length xs) inside))
-  | inr past ↦ fails_before_first p xs k d (omega (arith, past, less))
-]
-
--- the file is the resource that it was given
-given_place : (number pages n : ℕ) (r r' : Resources) → ComesBy number pages r n r' →
-    position (holds_file number) r'.held ≡ Some n
-given_place number pages n r r' (WasThere found same) =
-    ap (λ (x : Resources). position (holds_file number) x.held) same ∙ found
-given_place number pages n r r' (IsNew none made same) =
-    let new = new_at (File number) pages r n made in
-    let x : Option Resource = Some (record { owner = File number; pages = pages }) in
-    let inside = (position-Some is_none r.held n None new.free).0 in
-    let long = length-set r.held n x in
-    ap (λ (y : Resources). position (holds_file number) y.held) (same ∙ sym new.is)
-    ∙ place_is (holds_file number) (slice_set r.held n x) n
-    (position_or_len_is (holds_file number) (slice_set r.held n x) n None (omega (arith, inside, long))
-    (λ k less. ap (holds_file number) (get_or-set_other r.held n k x None (λ is. absurd (omega (arith, is, less))))
-    ∙ fails_all (holds_file number) r.held k None none (omega (arith, less, inside)))
-    (λ there. ap (holds_file number) (get_or-set_same r.held n x None inside) ∙ holds_itself number pages))
-    (omega (arith, inside, long))
-
--- another resource is no other file
-new_place : (test : Bool) (number other pages k n : ℕ) (r : Resources) → (other == number) ≡ test →
-    position (holds_file other) r.held ≡ None → first_free r.held ≡ Some k →
-    position (holds_file number) r.held ≡ Some n →
-    position (holds_file number) (slice_set r.held k (Some (record { owner = File other; pages = pages }))) ≡ Some n
-new_place true number other pages k n r is none free found =
-    (let same : Some n ≡ None =
-    sym found ∙ ap (λ (x : ℕ). position (holds_file x) r.held) (sym (eqb-true other number is)) ∙ none in absurd cc)
-new_place false number other pages k n r is none free found =
-    let x : Option Resource = Some (record { owner = File other; pages = pages }) in
-    let empty = none_from_test (get_or r.held k None) (position-Some is_none r.held k None free).1 in
-    let fails : holds_file number x ≡ holds_file number (get_or r.held k None) =
-    is ∙ ap (holds_file number) (sym empty) in
-    let place = position_or_len-set (holds_file number) r.held k x None fails in
-    let long = length-set r.held k x in
-    ap (λ (i : ℕ). cond (nat_lt i (length (slice_set r.held k x))) (Some i) None) place
-    ∙ (ap (λ (l : ℕ). cond (nat_lt (position_or_len (holds_file number) r.held) l)
-    (Some (position_or_len (holds_file number) r.held)) None) long ∙ found)
-
--- a file that was there stays the same resource, with its pages
-place_stays : (number other pages k n : ℕ) (r r' : Resources) → ComesBy other pages r k r' →
-    position (holds_file number) r.held ≡ Some n → position (holds_file number) r'.held ≡ Some n
-place_stays number other pages k n r r' (WasThere there same) found =
-    ap (λ (x : Resources). position (holds_file number) x.held) same ∙ found
-place_stays number other pages k n r r' (IsNew none made same) found =
-    let new = new_at (File other) pages r k made in
-    ap (λ (y : Resources). position (holds_file number) y.held) (same ∙ sym new.is)
-    ∙ new_place (other == number) number other pages k n r refl none new.free found
 
 resource_stays : (number other pages k n : ℕ) (r r' : Resources) → ComesBy other pages r k r' →
     holds_file number (resource_at r n) ≡ true → resource_at r' n ≡ resource_at r n
@@ -218,22 +145,6 @@ pub record IsSized (domains : List Domain) (f : FileContents) : Type 0 where
   pub resource : ℕ
   pub place : position (holds_file f.number) program.control.resources.held ≡ Some resource
   pub size : pages_of (resource_at program.control.resources resource) ≡ length f.pages
-
-get_other : (domains : List Domain) (e d : ℕ) (made : Domain) → d ≢ e →
-    slice_get (slice_set domains e made) d ≡ slice_get domains d
-get_other [] e d made other = refl
-get_other (x ∷ domains) zero zero made other = absurd (other refl)
-get_other (x ∷ domains) zero (suc d) made other = refl
-get_other (x ∷ domains) (suc e) zero made other = refl
-get_other (x ∷ domains) (suc e) (suc d) made other =
-    get_other domains e d made (λ same. other (ap (λ (k : ℕ). suc k) same))
-
-get_same : (domains : List Domain) (e : ℕ) (found made : Domain) → slice_get domains e ≡ Some found →
-    slice_get (slice_set domains e made) e ≡ Some made
-get_same [] zero found made there = absurd cc
-get_same [] (suc e) found made there = absurd cc
-get_same (x ∷ domains) zero found made there = refl
-get_same (x ∷ domains) (suc e) found made there = get_same domains e found made there
 
 some_same : (x y : Domain) → Some x ≡ Some y → x ≡ y
 some_same x y is = cc

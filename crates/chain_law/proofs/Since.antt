@@ -11,8 +11,8 @@ use Rattle.cloak_model.specs.declared.image.Program.{Program}
 use Rattle.cloak_model.specs.DomainState.{Domain}
 use Rattle.cloak_model.specs.StoredFiles.{PageContent, FileContents}
 use Rattle.kernel_isolation.specs.Isolation.{joint_until}
-use Rattle.store_law.specs.Ciphers.{items_of_turn}
-use Rattle.store_law.specs.OwnPages.{context_of_step}
+use Rattle.page_law.specs.Ciphers.{items_of_turn}
+use Rattle.page_law.specs.OwnPages.{context_of_step}
 use Rattle.latest_store.specs.Deeds.{step_moves, end_moves}
 use Rattle.latest_store.specs.LatestStore.{made_pages, made_programs, files_of, made_contents, made_file, made_files, resource_of_file, history_until}
 use Rattle.latest_store.specs.Moves.{Move, Makes, Stores, Combines, Copies, Zeros, Drops, Loads, covers, value_from, latest, loads_of, with_moves}

@@ -258,10 +258,10 @@ copy_out_learns domain r c done total w = out_step_learns _ domain r c done tota
 
 -- Forks and ends.
 
-abbrev IsMarked : List Bool → ℕ → Type 0
+abbrev pub IsMarked : List Bool → ℕ → Type 0
 IsMarked marks n = slice_index_or marks n false ≡ true
 
-private_marked : (space : ℕ) (r : Resources) → All (IsMarked (marked space r)) (private_numbers space r)
+pub private_marked : (space : ℕ) (r : Resources) → All (IsMarked (marked space r)) (private_numbers space r)
 private_marked space r =
     subst (λ (numbers : List ℕ). All (IsMarked (marked space r)) numbers) (places-map (is_private_to space) 0 r.held)
     (All-places (λ (mark : Bool). mark) (IsMarked (marked space r)) false 0 (marked space r)

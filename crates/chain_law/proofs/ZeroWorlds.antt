@@ -18,7 +18,7 @@ use Rattle.cloak_model.specs.Cloaking.{CloakedMemory, Offer, Ready, Mismatch, Mi
 use Rattle.cloak_model.specs.Events.{Event}
 use Rattle.cloak_model.specs.Memory.{is_in_ram}
 use Rattle.cloak_model.specs.PageMoves.{copy_pages, drop_pages}
-use Rattle.cloak_model.specs.World.{World, Cloak, Handed, Flat, Cloaked, Alone, is_missed, view_of, ram_of, owed_of, noted, stored_at, settled, written, with_plain, plain_of}
+use Rattle.cloak_model.specs.World.{World, Cloak, Handed, Flat, Cloaked, Alone, is_missed, regime_of, ram_of, owed_of, noted, stored_at, settled, written, with_plain, plain_of}
 use Rattle.domain_isolation.proofs.InOrder.{decided}
 use Rattle.domain_isolation.proofs.Steady.{is_cloaked, replied_reach, replied_get, replied_put, replied_clear}
 use Rattle.kernel_isolation.proofs.Leading.{leads_inside}
@@ -403,11 +403,11 @@ forget_learns domain resource (Alone h) = record { by = λ knows. tt }
 
 -- Once the marked resources are cleared, no frame is owed a page of them.
 
-abbrev ClearBelow : ℕ → ℕ → List Bool → World → Type 0
+abbrev pub ClearBelow : ℕ → ℕ → List Bool → World → Type 0
 ClearBelow n domain marked w =
     (f : ℕ) → f < n → is_marked domain marked (slice_index_or (owed_of w) f None) ≡ false
 
-settled_below : (domain : ℕ) (marked : List Bool) (f : ℕ) (w : World) → ClearBelow f domain marked w →
+pub settled_below : (domain : ℕ) (marked : List Bool) (f : ℕ) (w : World) → ClearBelow f domain marked w →
     ClearBelow (f + 1) domain marked (settled f w)
 settled_below domain marked f (Flat seen) clear g low = refl
 settled_below domain marked f (Cloaked c) clear g low =
@@ -418,7 +418,7 @@ settled_below domain marked f (Cloaked c) clear g low =
     ]
 settled_below domain marked f (Alone h) clear g low = refl
 
-if_below : (b : Bool) (domain : ℕ) (marked : List Bool) (f : ℕ) (w : World) →
+pub if_below : (b : Bool) (domain : ℕ) (marked : List Bool) (f : ℕ) (w : World) →
     is_marked domain marked (slice_index_or (owed_of w) f None) ≡ b → ClearBelow f domain marked w →
     ClearBelow (f + 1) domain marked (cond b (settled f w) w)
 if_below true domain marked f w is clear g low = settled_below domain marked f w clear g low
@@ -427,18 +427,18 @@ if_below false domain marked f w is clear g low = elim (decided g f) [
   | inr other ↦ clear g (omega (arith, low, other))
 ]
 
-marked_below : (domain : ℕ) (marked : List Bool) (f : ℕ) (w : World) → ClearBelow f domain marked w →
+pub marked_below : (domain : ℕ) (marked : List Bool) (f : ℕ) (w : World) → ClearBelow f domain marked w →
     ClearBelow (f + 1) domain marked (settled_if_marked domain marked f w)
 unfolding settled_if_marked
 marked_below domain marked f w clear = if_below _ domain marked f w refl clear
 
-written_below : (n domain : ℕ) (marked : List Bool) (i : Item) (w : World) → ClearBelow n domain marked w →
+pub written_below : (n domain : ℕ) (marked : List Bool) (i : Item) (w : World) → ClearBelow n domain marked w →
     ClearBelow n domain marked (written i w)
 written_below n domain marked i (Flat seen) clear = clear
 written_below n domain marked i (Cloaked c) clear = clear
 written_below n domain marked i (Alone h) clear = clear
 
-below_drawn : (missed : Bool) (n domain : ℕ) (marked : List Bool) (v : World) (t : Told Answer) →
+pub below_drawn : (missed : Bool) (n domain : ℕ) (marked : List Bool) (v : World) (t : Told Answer) →
     (t.answer ≡ told.Ok → ClearBelow n domain marked t.world) →
     (cond missed (replies told.Stopped v) t).answer ≡ told.Ok →
     ClearBelow n domain marked (cond missed (replies told.Stopped v) t).world
@@ -446,14 +446,14 @@ unfolding replies
 below_drawn true n domain marked v t later is = absurd (stopped_ok is)
 below_drawn false n domain marked v t later is = later is
 
-below_from : (domain : ℕ) (marked : List Bool) (f n : ℕ) (w : World) → ClearBelow f domain marked w →
+pub below_from : (domain : ℕ) (marked : List Bool) (f n : ℕ) (w : World) → ClearBelow f domain marked w →
     (clear_from domain marked f n w).answer ≡ told.Ok →
     ClearBelow (f + n) domain marked (clear_from domain marked f n w).world
 unfolding clear_from replies if_drawn
 below_from domain marked f zero w clear is =
     let count : f ≡ f + 0 = omega arith in
-    subst (λ (k : ℕ). ClearBelow k domain marked (written (answer_item (view_of w).domain told.Ok) w)) count
-    (written_below f domain marked (answer_item (view_of w).domain told.Ok) w clear)
+    subst (λ (k : ℕ). ClearBelow k domain marked (written (answer_item (regime_of w).domain told.Ok) w)) count
+    (written_below f domain marked (answer_item (regime_of w).domain told.Ok) w clear)
 below_from domain marked f (suc n) w clear ok =
     let v = settled_if_marked domain marked f w in
     let count : f + 1 + n ≡ f + suc n = omega arith in
@@ -465,7 +465,7 @@ abbrev pub MarkedClear : ℕ → List Bool → World → Type 0
 MarkedClear domain marked w =
     (resource : ℕ) → slice_index_or marked resource false ≡ true → NoneOwedIn domain resource w
 
-own_number : (domain : ℕ) (marked : List Bool) (q : PageId) → q.domain ≡ domain →
+pub own_number : (domain : ℕ) (marked : List Bool) (q : PageId) → q.domain ≡ domain →
     slice_index_or marked q.resource false ≡ true → is_marked domain marked (Some q) ≡ true
 own_number domain marked q own is =
     ap (λ (b : Bool). b && slice_index_or marked q.resource false) (eq-eqb q.domain domain own) ∙ is

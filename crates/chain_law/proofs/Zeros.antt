@@ -14,6 +14,7 @@ use Rattle.domain_isolation.proofs.InOrder.{decided}
 use Rattle.kernel_isolation.proofs.Settlings.{HasPlaces}
 use Rattle.cause_law.proofs.Kept.{owes_page}
 use Rattle.chain_law.specs.Zeros.{IsFresh, HaveVectors}
+use Rattle.kernel_isolation.proofs.Shown.{either}
 
 -- No page becomes fresh.
 pub record FreshStay (m n : CloakedMemory) : Type 0 where
@@ -43,10 +44,6 @@ fresh_then l m n first second = record {
 
 pub keeps_places : (m n : CloakedMemory) → FreshStay m n → HasPlaces m → HasPlaces n
 keeps_places m n stay places = stay.places ∙ (places ∙ sym stay.frames)
-
-pub either : {A : Type 0} (P : A → Type 0) (b : Bool) (x y : A) → P x → P y → P (cond b x y)
-either P true x y here there = here
-either P false x y here there = there
 
 pub both_some : (b : Bool) (x y : List ℕ) (o p : Option (List ℕ)) → is_some o ≡ is_some p →
     is_some (cond b (Some x) o) ≡ is_some (cond b (Some y) p)
@@ -139,7 +136,7 @@ pub settle_cleans : (f : ℕ) (m : CloakedMemory) → Cleans f m (settle f m).me
 unfolding settle
 settle_cleans f m = if_cleans f (owed_in m f) m refl
 
--- a frame that was owed nothing is so still
+-- a frame that was owed nothing is still owed nothing
 still_clean : (f : ℕ) (m : CloakedMemory) (g : ℕ) → owed_in m g ≡ None → owed_in (settle f m).memory g ≡ None
 still_clean f m g none =
     let s = settle_cleans f m in
@@ -148,7 +145,7 @@ still_clean f m g none =
       | inr other ↦ s.others g other ∙ none
     ]
 
-frame_clean : (o : Option ℕ) (m : CloakedMemory) (g : ℕ) → owed_in m g ≡ None →
+pub frame_clean : (o : Option ℕ) (m : CloakedMemory) (g : ℕ) → owed_in m g ≡ None →
     owed_in (settle_frame_if o m).memory g ≡ None
 frame_clean None m g none = none
 frame_clean (Some f) m g none = still_clean f m g none

@@ -53,7 +53,7 @@ abbrev pub resource_in : List Domain → ℕ → ℕ → Option Resource
 resource_in domains d n =
     option_and_then (λ (program : Domain). resource_at program.control.resources n) (slice_get domains d)
 
--- the page of a resource, if it has so many pages
+-- the page of a resource, if it has that many pages
 abbrev pub page_in_resource : List Domain → FilePage → ℕ → Option PageId
 page_in_resource domains p n =
     if nat_lt p.page (pages_of (resource_in domains p.domain n))
@@ -101,7 +101,7 @@ EndUnmakesFiles =
 
 -- Over a chain of runs.
 
--- The byte that was stored last at a place of a page by these moves, the newest first; where they stored none, the one
+-- The byte that was stored last at a place of a page by these moves, the newest first; if they stored none, the one
 -- that was there before.
 unfoldable pub latest_since : (PageId → ℕ → ℕ) → List Move → PageId → ℕ → ℕ
 latest_since before [] q at = before q at

@@ -5,10 +5,10 @@
 //! load gives what was stored last in all of them: that is told by the moves of the runs (`latest_store`,
 //! `specs/Moves`) and by which file a resource is, and neither memory nor contents are looked at.
 //!
-//! A run in which a random draw was missing is gone on from by none (`GoesOnFrom`): the frame of the page that found
+//! No run goes on from one in which a random draw was missing (`GoesOnFrom`): the frame of the page that found
 //! none shows zeros, and nothing is recorded of the page.
 //!
-//! No body turns a law, so there is no wrong body to refuse here. With these changed definitions, tried on a copy,
+//! No body changes a law, so there is no wrong body to refuse here. With these changed definitions, tried on a copy,
 //! the proofs did not go through. Of what a run leaves: the ciphertext of a page for its newest bytes; nothing of a
 //! page that was shown; the files in order, without one that stands before another; the resources of a domain, all
 //! counted as the first; the files of every second domain. Of runs: one goes on though a draw was missing in the run

@@ -21,7 +21,7 @@ place_of pa = (pa - ram_start) % 4096
 abbrev pub is_in_frames : ℕ → ℕ → Bool
 is_in_frames frames pa = nat_le ram_start pa && nat_lt (frame_of pa) frames
 
--- where a hart waits that runs a context
+-- where a hart that runs a context waits
 abbrev pub trampoline : ℕ
 trampoline = 0x00001000
 

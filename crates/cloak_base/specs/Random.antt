@@ -9,8 +9,8 @@ pub data Random : Type 0 where
   handed : List ℕ → Random
   keyed : ChaCha → Random
 
--- The next sixteen bytes, and the stream behind them: none exactly where a stream of bytes has fewer than
--- sixteen left. Of a key stream a draw is four words, each with its lowest byte first.
+-- The next sixteen bytes, and the stream after them: none exactly if a stream of bytes has fewer than sixteen left. Of
+-- a key stream a draw is four words, each with its lowest byte first.
 unfoldable pub next_draw : Random → Option (List ℕ × Random)
 next_draw (handed bytes) = if nat_lt (length bytes) 16 then None else Some (take 16 bytes, handed (drop 16 bytes))
 next_draw (keyed g) = let four = word_bytes (to_le_bytes w32) (next_word 10) 4 g in Some (four.0, keyed four.1)

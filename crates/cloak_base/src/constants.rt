@@ -6,13 +6,13 @@ use crate::names::Frame;
 /// The physical address where RAM begins.
 pub const RAM_START: u32 = 0x8000_0000;
 
-/// The address where a hart waits in U mode that runs a context.
+/// The address where a hart that runs a context waits in U mode.
 pub const TRAMPOLINE: u32 = 0x0000_1000;
 
 /// The bytes of the largest file of an image.
 pub const LARGEST_BUNDLE: u32 = 67_108_864;
 
-/// The physical address behind the last byte of RAM.
+/// The physical address after the last byte of RAM.
 pub fn ram_end(frames: u32) -> u64
     ensures { result ≡ spec.ram_end frames }
 {

@@ -5,13 +5,13 @@
 #![tactic(auto)]
 
 use cloak_base::NoMemory;
-use cloak_commands::{Words, run_program, sentence};
-use outside_io::{FileShelf, StdSink};
-use program_parts::Status;
+use cloak_commands::{ProgramWords, read_again, run_program, sentence};
+use command_parts::Status;
 use std::fs::{File, OpenOptions};
 use std::io::ErrorKind;
 use std::process::ExitCode;
 use std::{env, io};
+use system_io::{FileShelf, StdSink};
 
 /// Files that hold the three standard streams.
 type Held = [File; 3];
@@ -28,25 +28,25 @@ fn hold_streams(rt: &HostRuntime) -> io::Result<Held> {
 }
 
 /// The words after the program's name.
-fn command_words(rt: &HostRuntime) -> Words {
+fn command_words(rt: &HostRuntime) -> ProgramWords {
     let mut words = match env::args(rt) {
         Ok(words) => words,
         Err(fault) => {
             return match fault.kind() {
-                ErrorKind::OutOfMemory => Words::NoMemory,
-                _ => Words::NotText,
+                ErrorKind::OutOfMemory => ProgramWords::NoMemory,
+                _ => ProgramWords::NotText,
             };
         }
     };
     words.next();
     match words.collect(rt.alloc()) {
-        Ok(words) => Words::Taken(words),
-        Err(_) => Words::NoMemory,
+        Ok(words) => ProgramWords::Taken(words),
+        Err(_) => ProgramWords::NoMemory,
     }
 }
 
 /// Runs the program with the files and the output of the system.
-fn run_here(rt: &HostRuntime, words: &Words) -> Result<Status, NoMemory> {
+fn run_here(rt: &HostRuntime, words: &ProgramWords) -> Result<Status, NoMemory> {
     let mut shelf = FileShelf::open(rt.clone()?)?;
     let mut out = StdSink::open(rt.clone()?)?;
     Ok(run_program(rt.alloc(), words, &mut shelf, &mut out))
@@ -60,12 +60,12 @@ fn refuse_for_memory(rt: &HostRuntime) -> Status {
     }
 }
 
-/// Runs the program, and says on standard error why a status other than 0 came. Where that cannot be said, nothing else
+/// Runs the program, and says on standard error why a status other than 0 came. If that cannot be said, nothing else
 /// changes.
 fn run_and_say_why(rt: &HostRuntime) -> Status {
     let words = command_words(rt);
     let status = run_here(rt, &words).unwrap_or_else(|_| refuse_for_memory(rt));
-    let _ = rt.eprint(sentence(rt.alloc(), &words, status));
+    let _ = rt.eprint(sentence(read_again(rt.alloc(), &words), status));
     status
 }
 

@@ -1,14 +1,14 @@
 -- What is answered to words, by what they ask for.
 use Rattle.std.proofs.Common.{◌≡◌, ◌<◌, ◌-◌, ◌^◌, ℕ, List, Option, refl, sym, ap, subst, inl, inr}
 use Rattle.command_words.specs.Command as spec
-use Rattle.program_parts.specs.declared.refusal.Refusal.TheVariants as refusal
-use Rattle.program_parts.specs.declared.status.Status.{Status}
-use Rattle.program_parts.specs.declared.status.Status.TheVariants as status
-use Rattle.program_parts.specs.NoRun.{NoRun}
-use Rattle.program_parts.specs.Outside.{Outside, FilesOutside}
-use Rattle.program_parts.specs.Refusing.{Refuses}
-use Rattle.program_parts.proofs.FaultFacts.{raised}
-use Rattle.program_parts.proofs.Refused.{only_refuses}
+use Rattle.command_parts.specs.declared.refusal.Refusal.TheVariants as refusal
+use Rattle.command_parts.specs.declared.status.Status.{Status}
+use Rattle.command_parts.specs.declared.status.Status.TheVariants as status
+use Rattle.command_parts.specs.NoRun.{NoRun}
+use Rattle.command_parts.specs.Outside.{Outside, FilesOutside}
+use Rattle.command_parts.specs.Refusing.{Refuses}
+use Rattle.command_parts.proofs.FaultFacts.{raised}
+use Rattle.command_parts.proofs.Refused.{only_refuses}
 use Rattle.frozen_commands.proofs.FreezeFacts.{answers_no_run as frozen_no_run, same_files as frozen_same}
 use Rattle.frozen_commands.proofs.ThawFacts.{answers_no_run as thawed_no_run, same_files as thawed_same}
 use Rattle.image_commands.specs.Demonstrating.{DemoAnswers}

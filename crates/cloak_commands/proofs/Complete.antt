@@ -1,4 +1,4 @@
--- Where no call fails, each command's table of answers leaves what it comes to.
+-- If no call fails, each command's table of answers leaves what the command ends with.
 use Rattle.std.proofs.Common.{◌<◌, ◌-◌, ◌^◌, inl, inr}
 use Rattle.command_words.specs.Command as spec
 use Rattle.completeness.specs.Complete.{IsComplete}
@@ -11,9 +11,9 @@ use Rattle.completeness.proofs.Stores.{stores_are_complete}
 use Rattle.completeness.proofs.Thaws.{thaws_are_complete}
 use Rattle.completeness.proofs.Upgrades.{upgrades_are_complete}
 use Rattle.completeness.proofs.Views.{solos_are_complete, views_are_complete}
-use Rattle.program_parts.specs.declared.status.Status.{Status}
-use Rattle.program_parts.specs.NoRun.{IsRefused, OnlyRefuses}
-use Rattle.program_parts.specs.Outside.{NothingRose, Outside}
+use Rattle.command_parts.specs.declared.status.Status.{Status}
+use Rattle.command_parts.specs.NoRun.{IsRefused, OnlyRefuses}
+use Rattle.command_parts.specs.Outside.{NothingRose, Outside}
 use Rattle.cloak_commands.specs.Answering.{Answers}
 
 is_refused : {S O : Type 0} (asked : spec.Asked) (answer : Status) (before after : Outside S O) →

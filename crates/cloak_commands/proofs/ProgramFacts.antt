@@ -1,13 +1,13 @@
--- What the program answers as it ends.
+-- What the program returns as it ends.
 use Rattle.std.proofs.Common.{◌≡◌, ◌∙◌, ◌⊎◌, Bool, true, false, refl, sym, inl, inr, Result, is_err}
 use Rattle.cloak_base.specs.declared.causes.Failed.{Failed}
-use Rattle.outside_io.specs.Told.{Counts, SameFiles}
-use Rattle.program_parts.specs.declared.status.Status.{Status}
-use Rattle.program_parts.specs.declared.status.Status.TheVariants as status
-use Rattle.cloak_commands.specs.declared.words.Words.{Words}
-use Rattle.program_parts.specs.Outside.{Outside}
+use Rattle.io_traits.specs.Told.{Counts, SameFiles}
+use Rattle.command_parts.specs.declared.status.Status.{Status}
+use Rattle.command_parts.specs.declared.status.Status.TheVariants as status
+use Rattle.cloak_commands.specs.declared.words.ProgramWords.{ProgramWords}
+use Rattle.command_parts.specs.Outside.{Outside}
 use Rattle.cloak_commands.specs.Program.{AnswersWords, Exits, FlushFailed}
-use Rattle.program_parts.proofs.FaultFacts.{counted, risen}
+use Rattle.command_parts.proofs.FaultFacts.{counted, risen}
 
 -- two calls wrote out what is gathered, that for the files and that for the output
 pub record Flushes {S O : Type 0} (files shown : Result Unit Failed) (done after : Outside S O) : Type 0 where
@@ -17,8 +17,8 @@ pub record Flushes {S O : Type 0} (files shown : Result Unit Failed) (done after
   pub writing : Counts done.files.writing after.files.writing files
   pub faults : Counts done.output.faults after.output.faults shown
 
--- where both succeeded, the answer stands
-pub exits : {S O : Type 0} {words : Words} {before done after : Outside S O} {answer : Status}
+-- if both succeeded, the answer stands
+pub exits : {S O : Type 0} {words : ProgramWords} {before done after : Outside S O} {answer : Status}
     (files shown : Result Unit Failed) → AnswersWords words before done answer → Flushes files shown done after →
     is_err files ≡ false → is_err shown ≡ false → Exits words before after answer
 exits {S} {O} {words} {before} {done} {after} {answer} files shown answers f written seen = record {
@@ -38,7 +38,7 @@ exits {S} {O} {words} {before} {done} {after} {answer} files shown answers f wri
   );
 }
 
--- where one of them failed, a count rose
+-- if one of them failed, a count rose
 failed_flush : {S O : Type 0} (files shown : Result Unit Failed) (unwritten unseen : Bool) (done after : Outside S O) →
     Flushes files shown done after → unwritten ≡ is_err files → unseen ≡ is_err shown →
     (unwritten ≡ true) ⊎ ((unwritten ≡ false) × (unseen ≡ true)) → FlushFailed done after
@@ -48,7 +48,7 @@ failed_flush files shown unwritten unseen done after f first second (inr failed)
     inr (risen _ _ shown (sym second ∙ failed.1) f.faults)
 
 -- and the answer is the write fault
-pub fails : {S O : Type 0} {words : Words} {before done after : Outside S O} (answer : Status)
+pub fails : {S O : Type 0} {words : ProgramWords} {before done after : Outside S O} (answer : Status)
     (files shown : Result Unit Failed) (unwritten unseen : Bool) → AnswersWords words before done answer →
     Flushes files shown done after → unwritten ≡ is_err files → unseen ≡ is_err shown →
     (unwritten ≡ true) ⊎ ((unwritten ≡ false) × (unseen ≡ true)) → Exits words before after status.WriteFault

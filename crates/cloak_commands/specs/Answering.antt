@@ -1,15 +1,15 @@
--- What the program answers, by what the words ask for, and which files it may change.
+-- What the program returns, by what the words ask for, and which files it may change.
 use Rattle.std.specs.Prelude.{◌≡◌, ℕ, List, Option}
-use Rattle.outside_io.specs.Told.{SameFiles, OtherFiles}
+use Rattle.io_traits.specs.Told.{SameFiles, OtherFiles}
 use Rattle.command_words.specs.Command as spec
 use Rattle.frozen_commands.specs.FreezeAnswering.{FreezeAnswers, KeepsFrozenFiles}
 use Rattle.frozen_commands.specs.ThawAnswering.{ThawAnswers, KeepsThawedFiles}
 use Rattle.image_commands.specs.Demonstrating.{DemoAnswers}
 use Rattle.image_commands.specs.Generating.{GenAnswers}
 use Rattle.image_commands.specs.Upgrading.{UpgradeAnswers}
-use Rattle.program_parts.specs.declared.status.Status.{Status}
-use Rattle.program_parts.specs.NoRun.{OnlyRefuses}
-use Rattle.program_parts.specs.Outside.{Outside}
+use Rattle.command_parts.specs.declared.status.Status.{Status}
+use Rattle.command_parts.specs.NoRun.{OnlyRefuses}
+use Rattle.command_parts.specs.Outside.{Outside}
 use Rattle.read_back.specs.Answering.{ViewAnswers, SoloAnswers}
 use Rattle.run_command.specs.Answering.{RunAnswers, KeepsFiles}
 use Rattle.stats_command.specs.Answering.{StatsAnswers}

@@ -1,19 +1,19 @@
--- What the program answers as it ends.
-use Rattle.std.specs.Prelude.{◌≡◌, ◌⊎◌, map, string_bytes, Option, Some, None}
-use Rattle.outside_io.specs.Told.{Rose, SameFiles}
+-- What the program returns as it ends.
+use Rattle.std.specs.Prelude.{◌≡◌, ◌⊎◌, map, string_bytes, Option, Some, None, Result, Ok, Err}
+use Rattle.cloak_base.specs.declared.causes.NoMemory.{NoMemory}
+use Rattle.io_traits.specs.Told.{Rose, SameFiles}
 use Rattle.command_words.specs.declared.usage_fault.UsageFault.TheVariants.{WrongWords}
+use Rattle.command_words.specs.declared.request.Request.{Request}
 use Rattle.command_words.specs.Command as spec
-use Rattle.program_parts.specs.declared.refusal.Refusal.TheVariants as refusal
-use Rattle.program_parts.specs.declared.status.Status.{Status}
-use Rattle.program_parts.specs.declared.status.Status.TheVariants as status
-use Rattle.cloak_commands.specs.declared.words.Words.{Words}
-use Rattle.cloak_commands.specs.declared.words.Words.TheVariants as words
+use Rattle.command_words.specs.Request.{asked_of}
+use Rattle.command_parts.specs.declared.refusal.Refusal.TheVariants as refusal
+use Rattle.command_parts.specs.declared.status.Status.{Status}
+use Rattle.command_parts.specs.declared.status.Status.TheVariants as status
+use Rattle.cloak_commands.specs.declared.words.ProgramWords.{ProgramWords}
+use Rattle.cloak_commands.specs.declared.words.ProgramWords.TheVariants as words
 use Rattle.cloak_commands.specs.Answering.{Answers, KeepsOthers}
-use Rattle.program_parts.specs.Outside.{Outside, NothingRose}
-use Rattle.program_parts.specs.Refusing.{Refuses}
-use Rattle.status_sentence.specs.declared.Sentence.{Sentence}
-use Rattle.status_sentence.specs.Sentence.{sentence}
-use Rattle.status_sentence.specs.Showing.{sentence_text}
+use Rattle.command_parts.specs.Outside.{Outside, NothingRose}
+use Rattle.command_parts.specs.Refusing.{Refuses}
 
 -- the status comes by its cause, and no file is changed that the words do not name to be written
 pub record AnswersAsked {S O : Type 0} (asked : spec.Asked) (before after : Outside S O) (answer : Status) : Type 0
@@ -21,16 +21,22 @@ pub record AnswersAsked {S O : Type 0} (asked : spec.Asked) (before after : Outs
     pub answers : Answers asked before after answer
     pub kept : KeepsOthers asked answer before.files.held after.files.held
 
--- what these words ask for, where there was memory to take them
-abbrev pub asked_by : Words → Option spec.Asked
+-- what these words ask for, if there was memory to take them
+abbrev pub asked_by : ProgramWords → Option spec.Asked
 asked_by (words.Taken texts) = Some (spec.words_of (map string_bytes texts.items))
 asked_by words.NotText = Some (spec.Faulty WrongWords)
 asked_by words.NoMemory = None
 
--- The sentence of a status, by what the words ask for; or, where there was no memory to read them again, without names.
-abbrev pub TellsWhy : Words → Status → Sentence → Type 0
-TellsWhy given_words given told =
-    (sentence_text told ≡ sentence (asked_by given_words) given) ⊎ (sentence_text told ≡ sentence None given)
+-- Reading these words again can lack memory: there was none to take them, or they name a command.
+abbrev pub TakesMemory : ProgramWords → Type 0
+TakesMemory (words.Taken texts) = spec.NamesCommand (map string_bytes texts.items)
+TakesMemory words.NotText = ⊥
+TakesMemory words.NoMemory = Unit {0}
+
+-- what is known of what words ask for that were read again
+abbrev pub asked_in : Result Request NoMemory → Option spec.Asked
+asked_in (Ok request) = Some (asked_of request)
+asked_in (Err no_memory) = None
 
 -- the line of want of memory was shown, and no file was asked for anything
 pub record WantsMemory {S O : Type 0} (before after : Outside S O) (answer : Status) : Type 0 where
@@ -38,7 +44,7 @@ pub record WantsMemory {S O : Type 0} (before after : Outside S O) (answer : Sta
   pub untouched : after.files ≡ before.files
 
 -- What was answered to these words. One that is no text makes them faulty.
-abbrev pub AnswersWords : {S O : Type 0} → Words → Outside S O → Outside S O → Status → Type 0
+abbrev pub AnswersWords : {S O : Type 0} → ProgramWords → Outside S O → Outside S O → Status → Type 0
 AnswersWords (words.Taken texts) before after answer =
     AnswersAsked (spec.words_of (map string_bytes texts.items)) before after answer
 AnswersWords words.NotText before after answer = AnswersAsked (spec.Faulty WrongWords) before after answer
@@ -50,9 +56,8 @@ FlushFailed before after =
     Rose before.files.writing after.files.writing ⊎ Rose before.output.faults after.output.faults
 
 -- What was done by the words, and what was answered; then what is gathered was written out, and the answer is given,
--- or,
--- where that failed, the write fault.
-pub record Exits {S O : Type 0} (given_words : Words) (before after : Outside S O) (given : Status) : Type 0 where
+-- or, if that failed, the write fault.
+pub record Exits {S O : Type 0} (given_words : ProgramWords) (before after : Outside S O) (given : Status) : Type 0 where
   pub done : Outside S O
   pub answer : Status
   pub answers : AnswersWords given_words before done answer

@@ -2,14 +2,14 @@
 ghost use Rattle.std.specs.Prelude.{◌<◌, ◌-◌, ◌^◌, map, string_bytes};
 ghost use Rattle.command_words.specs.Command as spec;
 ghost use Rattle.cloak_commands.specs.Answering.{Answers, KeepsOthers};
-ghost use Rattle.program_parts.specs.Outside.{outside};
+ghost use Rattle.command_parts.specs.Outside.{outside};
 ghost use Rattle.completeness.specs.Complete.{IsComplete};
 
+use command_parts::{Refusal, Status, refuse};
 use command_words::{Request, read_words};
 use frozen_commands::{freeze_command, thaw_command};
 use image_commands::{demo_command, gen_command, upgrade_command};
-use outside_io::{Shelf, Sink};
-use program_parts::{Refusal, Status, refuse};
+use io_traits::{Shelf, Sink};
 use read_back::{solo_command, view_command};
 use run_command::run_command;
 use stats_command::stats_command;

@@ -4,8 +4,8 @@
 //! (`read_back`), `gen`, `demo` and `upgrade` (`image_commands`), `stats` (`stats_command`), `store` (`store_command`),
 //! `freeze` and `thaw` (`frozen_commands`).
 //! `run_program` also writes out what is gathered; its clause `exits` gives each status its cause and each command what it
-//! writes. `sentence` says why a status came. The program `cloak_cli` calls these two with the system's words, files and
-//! output.
+//! writes. `sentence` says why a status came, by the words as `read_again` reads them. The program `cloak_cli` calls
+//! these with the system's words, files and output.
 #![tactic(auto)]
 
 mod command;
@@ -13,5 +13,5 @@ mod program;
 mod words;
 
 pub use command::cloak;
-pub use program::{run_program, sentence};
-pub use words::Words;
+pub use program::{read_again, run_program, sentence};
+pub use words::ProgramWords;

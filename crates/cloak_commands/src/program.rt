@@ -1,18 +1,27 @@
 //! All that the program does, over any files and any output.
-ghost use Rattle.std.specs.Prelude.{◌≡◌, ◌≢◌, ◌<◌, ◌-◌, ◌^◌};
-ghost use Rattle.program_parts.specs.Outside.{outside};
-ghost use Rattle.cloak_commands.specs.Program.{AnswersWords, Exits, TellsWhy};
+ghost use Rattle.std.specs.Prelude.{◌≡◌, ◌≢◌, ◌<◌, ◌-◌, ◌^◌, IfOk, OnErr};
+ghost use Rattle.command_words.specs.Request.{asked_of};
+ghost use Rattle.command_parts.specs.Outside.{outside};
+ghost use Rattle.status_sentence.specs.Sentence as spec;
+ghost use Rattle.status_sentence.specs.Showing.{sentence_text};
+ghost use Rattle.cloak_commands.specs.Program.{AnswersWords, Exits, TakesMemory, asked_by, asked_in};
 
 use crate::command::cloak;
-use crate::words::Words;
+use crate::words::ProgramWords;
+use cloak_base::NoMemory;
+use command_parts::{Refusal, Status, refuse};
 use command_words::{Request, UsageFault, read_words};
-use outside_io::{Shelf, Sink};
-use program_parts::{Refusal, Status, refuse};
+use io_traits::{Shelf, Sink};
 use status_sentence::Sentence;
 use std::alloc::Global;
 
 /// Does what the words ask for.
-fn obey<S: Shelf, O: Sink>(alloc: Global, words: &Words, shelf: &mut S, out: &mut O) -> Status
+fn obey<S: Shelf, O: Sink>(
+    alloc: Global,
+    words: &ProgramWords,
+    shelf: &mut S,
+    out: &mut O,
+) -> Status
     requires settled { S.is_settled shelf.old }
     requires reading { S.reading_faults shelf.old < 2 ^ 64 - 1 }
     requires writing { S.writing_faults shelf.old < 2 ^ 64 - 1 }
@@ -21,16 +30,16 @@ fn obey<S: Shelf, O: Sink>(alloc: Global, words: &Words, shelf: &mut S, out: &mu
         (outside S.Shelf O.Sink shelf.old out.old) (outside S.Shelf O.Sink shelf.new out.new) result }
 {
     match words {
-        Words::Taken(words) => cloak(alloc, words, shelf, out),
-        Words::NotText => refuse(out, &Refusal::Usage(UsageFault::WrongWords)),
-        Words::NoMemory => refuse(out, &Refusal::NoMemory),
+        ProgramWords::Taken(words) => cloak(alloc, words, shelf, out),
+        ProgramWords::NotText => refuse(out, &Refusal::Usage(UsageFault::WrongWords)),
+        ProgramWords::NoMemory => refuse(out, &Refusal::NoMemory),
     }
 }
 
 /// Does what the words ask for, and then writes out what is gathered for files and output.
 pub fn run_program<S: Shelf, O: Sink>(
     alloc: Global,
-    words: &Words,
+    words: &ProgramWords,
     shelf: &mut S,
     out: &mut O,
 ) -> Status
@@ -52,14 +61,26 @@ pub fn run_program<S: Shelf, O: Sink>(
     status
 }
 
-/// The sentence that says why this status came. The words are read again for it.
-pub fn sentence(alloc: Global, words: &Words, status: Status) -> Sentence<'_>
-    ensures { TellsWhy words.now status result }
+/// What the words ask for. They are read again, and memory can lack only if there was none to take them, or if they name
+/// a command.
+pub fn read_again(alloc: Global, words: &ProgramWords) -> Result<Request<'_>, NoMemory>
+    ensures asked { IfOk result (λ request. asked_by words.now ≡ Some (asked_of request)) }
+    ensures memory { OnErr result (TakesMemory words.now) }
 {
-    let request = match words {
-        Words::Taken(words) => read_words(alloc, words.as_slice()).ok(),
-        Words::NotText => Some(Request::Faulty(UsageFault::WrongWords)),
-        Words::NoMemory => None,
-    };
-    Sentence { request, status }
+    match words {
+        ProgramWords::Taken(words) => read_words(alloc, words.as_slice()),
+        ProgramWords::NotText => Ok(Request::Faulty(UsageFault::WrongWords)),
+        ProgramWords::NoMemory => Err(NoMemory),
+    }
+}
+
+/// The sentence that says why this status came, by what the words ask for. It is without names only if there was no
+/// memory to read them.
+pub fn sentence(read: Result<Request<'_>, NoMemory>, status: Status) -> Sentence<'_>
+    ensures { sentence_text result ≡ spec.sentence (asked_in read.entry) status }
+{
+    Sentence {
+        request: read.ok(),
+        status,
+    }
 }

@@ -1,6 +1,6 @@
-/// The words behind the program's name.
+/// The words after the program's name.
 #[derive(Drop)]
-pub enum Words {
+pub enum ProgramWords {
     Taken(Vec<String>),
     /// One of them is no text.
     NotText,

@@ -14,8 +14,8 @@ use Rattle.cloak_model.specs.declared.image.Program.{Program}
 use Rattle.cloak_model.specs.declared.item.Item.{Item}
 use Rattle.cloak_model.specs.declared.item.Item.TheVariants.{Cipher}
 use Rattle.cloak_pager.specs.State.{owed_under, page_of, right_at}
-use Rattle.cloak_pager.specs.declared.held.Held.{Held}
-use Rattle.cloak_pager.specs.declared.held.Held.TheVariants.{Outside, Clean, Changed, Spent}
+use Rattle.cloak_pager.specs.declared.frame_right.FrameRight.{FrameRight}
+use Rattle.cloak_pager.specs.declared.frame_right.FrameRight.TheVariants.{Outside, Clean, Changed, Spent}
 use Rattle.cloak_pager.proofs.Stands.{owed_by_right}
 use Rattle.joint_machine.specs.Freezing.{AreOwedOrOutside}
 use Rattle.joint_machine.specs.Placings.{placing}
@@ -65,7 +65,7 @@ all_outside joint j stands settled none k =
 pub outside_settled : (joint : Joint) → AllOutside joint → AreOwedOrOutside joint.memory.pager
 outside_settled joint outside k = outside k ∙ by_right (right_at joint.memory.pager k) (outside k)
   where
-    by_right : (h : Held) → page_of h ≡ None → None ≡ owed_under h
+    by_right : (h : FrameRight) → page_of h ≡ None → None ≡ owed_under h
     by_right (Outside r) none = refl
     by_right (Clean r) none = absurd (cc)
     by_right (Changed r) none = absurd (cc)

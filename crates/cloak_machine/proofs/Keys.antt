@@ -39,7 +39,7 @@ pub closing_disk : (j : Joint) → (closing j).joint.disk ≡ j.disk
 unfolding closing
 closing_disk j = refl
 
--- where the cause is not that a draw was missing, none was
+-- if the cause is not that a draw was missing, none was
 pub not_missed : (missed : Bool) (given : Stop) → (if missed then stop.NoRandom else given) ≢ stop.NoRandom → missed ≡ false
 not_missed false given other = refl
 not_missed true given other = absurd (other refl)

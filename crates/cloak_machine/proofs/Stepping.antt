@@ -111,7 +111,7 @@ next_number machine m number stands told =
     told ∙ ap (slice_index machine.schedule.turns.items) stands.place
     ∙ ap (λ (turns : List ℕ). slice_index turns (m.steps % length turns)) (sym stands.schedule)
 
--- the counts go on with the fold behind the step
+-- the counts go on with the fold after the step
 pub counts_behind : (old new : Machine) (m : Moment) (number : ℕ) (s : Fold) → number ≡ next_hart m → Counts old s →
     new.joint.memory.counting ≡ old.joint.memory.counting →
     GoesBy old.joint.memory new.joint.memory (asked_with_end m.joint number) → Counts new (after_step m s)

@@ -164,7 +164,7 @@ loads_copy slot d c copied.Stopped = same_loads (length d.loads)
 loads_copy slot d c copied.Refused = same_loads (length d.loads)
 loads_copy slot d c (copied.Loaded address byte) = one_load d address byte
 
--- a write behind a step
+-- a write after a step
 loads_written : (wrote : Option WordPlace) (d : Domain) (s : DomainStepped) → LoadsOnce d s →
     LoadsOnce d (after_write wrote s)
 loads_written None d s once = once

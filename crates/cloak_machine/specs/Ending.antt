@@ -22,13 +22,13 @@ end_report e =
     stop_line e.stop ++ (number_line (codes "steps ") e.steps ++ (number_line (codes "draws ") e.draws
     ++ (refusal_lines e.ended e.refused ++ (kernel_text e.lines ++ concat (lines_kept e.domains)))))
 
--- the line of a program in it, and nothing where there is no such program
+-- the line of a program in it, and nothing if there is no such program
 abbrev pub line_in : End → ℕ → List ℕ
 line_in e d = line_of_program e.domains d
 
 -- The short report: the report without the kernel's lines.
 
--- that of a run that this stopped behind so many steps, and whose joint state is then closed
+-- that of a run that this stopped after this many steps, and whose joint state is then closed
 abbrev pub short_report : Stop → ℕ → Joint → List ℕ
 short_report s steps j =
     stop_line s ++ (number_line (codes "steps ") steps ++ (number_line (codes "draws ") j.memory.ledger.draws

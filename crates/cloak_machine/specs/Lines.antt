@@ -11,6 +11,6 @@ line_text line = take line.end line.bytes
 abbrev pub lines_kept : DomainLines → List (List ℕ)
 lines_kept lines = map line_text (take lines.count lines.lines)
 
--- what the line of a program says, and nothing where there is no such program
+-- what the line of a program says, and nothing if there is no such program
 abbrev pub line_of_program : DomainLines → ℕ → List ℕ
 line_of_program lines d = unwrap_or (slice_get (lines_kept lines) d) []

@@ -58,7 +58,7 @@ pub record OpensMachine (b : Bundle) (stream : Random) (machine : Machine) : Typ
   pub opens : opening b stream ≡ Ok opened
   pub stands : StandsForMoment machine (first_moment b opened.joint)
 
--- what an opening answers: the machine of the run's opening, or what it lacks
+-- the answer of an opening: the machine of the run's opening, or what it lacks
 abbrev pub Opens : Bundle → Random → Result Machine OpenFault → Type 0
 Opens b stream (Ok machine) = OpensMachine b stream machine
 Opens b stream (Err fault.NoKey) = opening b stream ≡ Err NoKey
@@ -72,7 +72,7 @@ pub record OpensOver (b : Bundle) (keys : List (List ℕ)) (stream : Random) (co
   pub opens : opening_stored b keys stream contents ≡ Ok opened
   pub stands : StandsForMoment machine (first_moment b opened.joint)
 
--- what an opening over them answers: the machine of the run's opening, or what it lacks
+-- the answer of an opening over them: the machine of the run's opening, or what it lacks
 abbrev pub OpensWith : Bundle → List (List ℕ) → Random → List FileContents → Result Machine StoredFault → Type 0
 OpensWith b keys stream contents (Ok machine) = OpensOver b keys stream contents machine
 OpensWith b keys stream contents (Err stored.NoRandom) = opening_stored b keys stream contents ≡ Err NoPageDraw
@@ -95,7 +95,7 @@ pub record ShowsOpening {E : Type 0} (gave : E → E → List Piece → Type 0) 
   pub emits : Emits gave e e' (item_pieces o.items)
   pub stands : StandsForMoment machine (first_moment b o.joint)
 
--- what a step from this moment emits and answers, where it is this turn, and what the machine then stands for
+-- what a step from this moment emits and returns, if it is this turn, and what the machine then stands for
 pub record MakesTurn {E : Type 0} (gave : E → E → List Piece → Type 0) (e e' : E) (machine : Machine)
     (given : Option Stop) (m : Moment) (t : Turn) : Type 0 where
   pub emits : Emits gave e e' (turn_pieces (m.steps + 1) t)
@@ -111,7 +111,7 @@ pub record ArePartsOf (parts : JointParts) (j : model.Joint) : Type 0 where
   pub ended : parts.ended ≡ j.ended
   pub refused : parts.refused ≡ j.refused
 
--- the end of a run that this stopped after so many steps, and that closed as this machine
+-- the end of a run that this stopped after this many steps, and that closed as this machine
 pub record EndsAs (end : End) (stopped : Stop) (count : ℕ) (closed : model.Joint) : Type 0 where
   pub steps : end.steps ≡ count
   pub draws : end.draws ≡ closed.memory.ledger.draws
@@ -123,7 +123,7 @@ pub record EndsAs (end : End) (stopped : Stop) (count : ℕ) (closed : model.Joi
   pub lines : (d : ℕ) (program : Domain) → slice_get closed.domains d ≡ Some program →
       line_in end d ≡ domain_line program
 
--- what the closing of a run that this stopped emits, where it closes so, and what is reported then
+-- what the closing of a run that this stopped emits, if it closes like this, and what is reported then
 pub record FinishesAs {E : Type 0} (gave : E → E → List Piece → Type 0) (e e' : E) (end : End) (stopped : Stop)
     (m : Moment) (closed : Opened) : Type 0 where
   pub emits : Emits gave e e' (item_pieces (item.Close m.steps ∷ (closed.items ++ item.End ∷ [])))

@@ -12,7 +12,7 @@ use cloak_base::Stop;
 use joint_machine::JointParts;
 use kernel_report::Console;
 
-/// Why a run stopped, where a draw may be missing as it closes.
+/// Why a run stopped, when a draw may be missing as it closes.
 fn stop_of(missed: bool, stop: Stop) -> Stop
     ensures { result ≡ (if missed then Stop.NoRandom else stop) }
 {

@@ -11,7 +11,7 @@ use hypercalls::Domain;
 #[derive(Clone, Copy)]
 pub struct DomainLine {
     pub(crate) bytes: [u8; 256],
-    /// The bytes behind it are not used.
+    /// The bytes after it are not used.
     pub(crate) end: usize,
     ghost fits: { end ≤ 256 },
 }
@@ -20,7 +20,7 @@ pub struct DomainLine {
 #[derive(Drop)]
 pub struct DomainLines {
     pub(crate) lines: [DomainLine; 4],
-    /// The lines behind it are not used.
+    /// The lines after it are not used.
     pub(crate) count: usize,
     ghost few: { count ≤ 4 },
 }
@@ -35,7 +35,7 @@ impl DomainLine {
         }
     }
 
-    /// Ends a program, and gives its line.
+    /// Ends a program, and returns its line.
     fn of(domain: Domain) -> DomainLine
         ensures { (d : model.Domain) → StandsFor domain d → length d.loads < 2 ^ 64 → line_text result ≡ domain_line d }
     {
@@ -71,7 +71,7 @@ impl DomainLines {
         &self.lines[..self.count]
     }
 
-    /// The line of a program, and nothing where there is no such program.
+    /// The line of a program, and nothing if there is no such program.
     pub fn line(&self, d: u32) -> &[u8]
         ensures { result.now ≡ line_of_program self.now d }
     {

@@ -2,7 +2,7 @@
 ghost use Rattle.std.specs.Prelude.{◌≡◌, List, ℕ, None, map};
 ghost use Rattle.std.specs.List.{concat, flat_map};
 ghost use Rattle.sha2.specs.Sha256.{sha256};
-ghost use Rattle.outside_io.specs.Sinks.{PutsTo};
+ghost use Rattle.io_traits.specs.Sinks.{PutsTo};
 ghost use Rattle.cloak_model.specs.Cloaking.{CloakedMemory};
 ghost use Rattle.cloak_model.specs.Report as spec;
 ghost use Rattle.cloak_pager.specs.State.{held_in};
@@ -16,9 +16,9 @@ use crate::frames::digest_of;
 use cloak_base::{Failed, Stop, Violation};
 use cloaked_side::Memory;
 use host_calls::Hart;
+use io_traits::Sink;
 use kernel_report::lines::{SoFar, decimal, hexadecimal, text};
 use kernel_report::{Console, KernelLines, put_kernel};
-use outside_io::Sink;
 use sha2::{Digest, Sha256};
 
 /// A run that is over, with all that its report says.
@@ -187,7 +187,7 @@ impl End {
         self.ended.iter().any(|what| what.is_some()) || self.refused > 0
     }
 
-    /// The line of a program in the report, and nothing where there is no such program.
+    /// The line of a program in the report, and nothing if there is no such program.
     pub fn domain_line(&self, d: u32) -> &[u8]
         ensures { result.now ≡ line_in self.now d }
     {

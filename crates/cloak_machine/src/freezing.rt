@@ -14,9 +14,9 @@ use crate::schedule::Schedule;
 use arrayvec::ArrayVec;
 use cloak_model::{Bundle, Item};
 use frozen_state::{Frozen, FrozenRoom};
+use io_traits::Stream;
 use joint_machine::{Joint, ThawFault};
 use kernel_report::Console;
-use outside_io::Stream;
 use std::alloc::Global;
 
 impl Machine {

@@ -22,10 +22,10 @@ use arrayvec::ArrayVec;
 use cloak_base::Stop;
 use cloak_model::{Emit, Item, KernelImage, Program, Sequence};
 use cloak_pager::Pager;
+use io_traits::Stream;
 use joint_machine::{Joint, OpenFault, Placing, StoredFault, placings_of};
 use kernel_report::Console;
 use multi_shadow::ShadowCounts;
-use outside_io::Stream;
 use protect_meta::FileTable;
 use std::alloc::Global;
 

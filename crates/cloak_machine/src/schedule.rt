@@ -24,7 +24,7 @@ impl Schedule {
         Ok(Schedule { turns, place: 0 })
     }
 
-    /// At the place of the step after so many.
+    /// At the place of the step after this many.
     pub fn open_at(alloc: Global, turns: &[u8], steps: u32) -> Result<Schedule, NoMemory>
         requires { 0 < length turns.now }
         ensures turns { IfOk result (λ schedule. schedule.turns.items ≡ turns.now) }
@@ -35,7 +35,7 @@ impl Schedule {
         Ok(Schedule { turns, place })
     }
 
-    /// The place behind this one: the first again behind the last.
+    /// The place after this one: the first again after the last.
     fn place_behind(&self) -> usize
         ensures inside { result < length self.now.turns.items }
         ensures place { (steps : ℕ) → IsAt self.now steps → result ≡ (steps + 1) % length self.now.turns.items }

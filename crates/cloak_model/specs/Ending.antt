@@ -34,7 +34,7 @@ cloak_for m domain = record {
   items = [];
   events = [];
   violation = None;
-  view = record { satp = 0; sum = false; mxr = false; domain = domain };
+  regime = record { satp = 0; sum = false; mxr = false; domain = domain };
   pages = λ va. None;
 }
 

@@ -7,15 +7,15 @@ use Rattle.cloak_model.specs.declared.access.Walked.{Walked}
 use Rattle.cloak_model.specs.Walk.{Walk, walk}
 
 pub data Event : Type 0 where
-  -- where an access leads under a satp is asked for
+  -- it is asked where an access leads under a satp
   Look : ℕ → Access → Event
   -- a frame is made outside
   Touch : ℕ → Event
   -- a page is offered in a frame, and that is granted or not
   Offer : PageId → ℕ → Bool → Event
-  -- where it leads is known: the walk that led there, and the cloaked page that lies there
+  -- it is known where it leads: the walk that led there, and the cloaked page that lies there
   Born : ℕ → Access → Walked → Option PageId → Event
-  -- a frame is read, to answer what its bytes are
+  -- a frame is read, to tell what its bytes are
   Read : ℕ → Event
   -- a byte of a frame is written
   Write : ℕ → Event

@@ -1,4 +1,4 @@
--- Grammars of files whose fields stand one behind the other, and the first fault of a file that has none of their
+-- Grammars of files whose fields stand one after the other, and the first fault of a file that has none of their
 -- values: a field that is not whole, or one whose value breaks its rule. A field is tested as soon as it is read
 -- whole.
 use Rattle.std.specs.Prelude.{ℕ, zero, suc, ◌-◌, Bool, List, [], ◌∷◌, ◌++◌, length, take, drop, Option, Some, None, nat_lt, if◌then◌else◌}
@@ -16,7 +16,7 @@ abbrev pub first_of : {F : Type 0} → Option F → Option F → Option F
 first_of None later = later
 first_of (Some fault) later = Some fault
 
--- a field is not whole where fewer bytes are left than it has
+-- a field is not whole if fewer bytes are left than it has
 abbrev pub fault_in : {F : Type 0} → List ℕ → Field F → Option F
 fault_in file f = if nat_lt (length file - f.at) f.size then Some f.cut else f.wrong
 

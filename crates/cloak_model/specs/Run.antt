@@ -33,17 +33,17 @@ pub record Run : Type 0 where
 
 -- The steps.
 
--- what follows a step: nothing where it stopped the run
+-- what follows a step: nothing if it stopped the run
 abbrev pub unless_stopped : Option Stop → (Moment → List Turn) → Moment → List Turn
 unless_stopped (Some cause) more m = []
 unless_stopped None more m = more m
 
--- from a moment on, one after another: at most so many, and none behind one that stops the run
+-- from a moment on, one after another: at most n, and none after one that stops the run
 unfoldable pub turns_from : ℕ → Moment → List Turn
 turns_from zero m = []
 turns_from (suc n) m = let t = joint_step m in t ∷ unless_stopped (stop_of t) (turns_from n) (after_turn m t)
 
--- the machine behind these steps
+-- the machine after these steps
 unfoldable pub joint_after : Joint → List Turn → Joint
 joint_after j [] = j
 joint_after j (t ∷ turns) = joint_after t.joint turns
@@ -60,13 +60,13 @@ unfoldable pub settled_below : ℕ → Cloak → Cloak
 settled_below zero c = c
 settled_below (suc n) c = settled_in n (settled_below n c)
 
--- all frames are settled; in the view of hart 0, since nobody asks
+-- all frames are settled; in the regime of hart 0, since nobody asks
 unfoldable pub closing : Joint → Opened
 closing j =
     let c = settled_below (length j.memory.ram) (cloak_outside j.memory (hart_in j 0)) in
     record { joint = record j { memory = c.memory }; items = c.items }
 
--- Why a run stopped: a draw that is missing as it closes goes before all, and where no step stopped it, its budget is
+-- Why a run stopped: a draw that is missing as it closes goes before all, and if no step stopped it, its budget is
 -- used up.
 abbrev pub cause_of : Joint → Option Stop → Stop
 cause_of closed stopped = if closed.memory.ledger.missed then stop.NoRandom else unwrap_or stopped stop.Budget
@@ -86,7 +86,7 @@ run_of_turns o turns =
 unfoldable pub run_of : Bundle → ℕ → Opened → Run
 run_of b budget o = run_of_turns o (turns_from budget (first_moment b o.joint))
 
--- The joint run of a bundle from a beginning, with at most so many steps.
+-- The joint run of a bundle from a beginning, with at most `budget` steps.
 abbrev pub run_from : Bundle → Beginning → ℕ → Result Run Lack
 run_from b from budget = result_map_both (run_of b budget) (λ lack. lack) (opening_from b from)
 

@@ -8,8 +8,8 @@ use Rattle.protect_meta.specs.Table.{domains_of}
 use Rattle.cloak_pager.specs.State.{PagerState, page_of, right_at, bytes_in, held_in}
 use Rattle.cloak_pager.specs.Turns.{Turns, MetasTurn, OfferTurns, OfferedTurns, HoldsNow, IsReadOnce, StaysBut}
 use Rattle.cloak_pager.proofs.Pages.{same_or_not}
-use Rattle.cloak_pager.specs.declared.held.Held.{Held}
-use Rattle.cloak_pager.specs.declared.held.Held.TheVariants.{Outside, Clean, Changed, Spent}
+use Rattle.cloak_pager.specs.declared.frame_right.FrameRight.{FrameRight}
+use Rattle.cloak_pager.specs.declared.frame_right.FrameRight.TheVariants.{Outside, Clean, Changed, Spent}
 use Rattle.cloak_pager.specs.declared.offering.Offered.{Offered}
 use Rattle.cloak_pager.specs.declared.offering.Offered.TheVariants.{Ready, Mismatch}
 
@@ -23,7 +23,7 @@ stays_same f old new is = record {
 }
 
 -- a frame that turned
-pub turned_stays : (f : ℕ) (old new : PagerState) (bytes : List ℕ) (h : Held) (metas : PageId → Option Meta) →
+pub turned_stays : (f : ℕ) (old new : PagerState) (bytes : List ℕ) (h : FrameRight) (metas : PageId → Option Meta) →
     Turns old new (slice_set old.frames f bytes) (slice_set old.rights f h) metas → StaysBut f old new
 turned_stays f old new bytes h metas t = record {
   count = rw t.frames_are (length-set old.frames f bytes);
@@ -40,18 +40,18 @@ written_stays f old new bytes metas t = record {
   count = rw t.frames_are (length-set old.frames f bytes);
   domains = t.domains_stay;
   keys = t.keys_stay;
-  rights = λ k n. ap (λ (x : List Held). get_or x k Spent) t.rights_are;
+  rights = λ k n. ap (λ (x : List FrameRight). get_or x k Spent) t.rights_are;
   bytes = λ k n. rw t.frames_are (get_or-set_other old.frames f k bytes [] n);
 }
 
--- where metadata alone changed, every frame is as it was
+-- if only metadata changed, every frame is as it was
 pub moved_stays : (f : ℕ) (old new : PagerState) (metas : PageId → Option Meta) → MetasTurn old new metas →
     StaysBut f old new
 moved_stays f old new metas t = record {
   count = ap (λ (x : List (List ℕ)). length x) t.frames_are;
   domains = t.domains_stay;
   keys = t.keys_stay;
-  rights = λ k n. ap (λ (x : List Held). get_or x k Spent) t.rights_are;
+  rights = λ k n. ap (λ (x : List FrameRight). get_or x k Spent) t.rights_are;
   bytes = λ k n. ap (λ (x : List (List ℕ)). get_or x k []) t.frames_are;
 }
 
@@ -70,7 +70,7 @@ held_now : (old new : PagerState) (q : PageId) (g : ℕ) (write : Bool) (plain :
     HoldsNow old new q g write plain → StaysBut g old new
 held_now old new q g write plain t = turned_stays g old new _ _ _ t
 
-offered_if : (h : Held) (shown : Option Meta) (write : Bool) (old new : PagerState) (q : PageId) (g : ℕ) →
+offered_if : (h : FrameRight) (shown : Option Meta) (write : Bool) (old new : PagerState) (q : PageId) (g : ℕ) →
     OfferTurns h shown write old new q g → StaysBut g old new
 offered_if (Outside r) (Some t) write old new q g o = held_now old new q g write o.0 o.2
 offered_if (Outside r) None write old new q g o = turned_stays g old new _ _ _ o
@@ -79,7 +79,7 @@ offered_if (Clean r) shown false old new q g o = stays_same g old new o
 offered_if (Changed r) shown write old new q g o = stays_same g old new o
 offered_if Spent shown write old new q g o = absurd o
 
-pub offer_stays : (result : Offered) (h : Held) (shown : Option Meta) (write : Bool) (old new : PagerState) (q : PageId)
+pub offer_stays : (result : Offered) (h : FrameRight) (shown : Option Meta) (write : Bool) (old new : PagerState) (q : PageId)
     (g : ℕ) →
     OfferedTurns result h shown write old new q g → StaysBut g old new
 offer_stays Ready h shown write old new q g o = offered_if h shown write old new q g o
@@ -92,7 +92,7 @@ pub away_still : (f : ℕ) (old new : PagerState) (q : PageId) → ((k : ℕ) �
     StaysBut f old new → (k : ℕ) → k ≢ f → held_in new k ≢ Some q
 away_still f old new q away stays k n e = away k n (sym (ap page_of (stays.rights k n)) ∙ e)
 
--- it is in no frame at all where this frame is outside
+-- if this frame is outside, it is in no frame at all
 pub nowhere_outside : (f : ℕ) (p : PagerState) (q : PageId) → ((k : ℕ) → k ≢ f → held_in p k ≢ Some q) →
     held_in p f ≡ None → (k : ℕ) → held_in p k ≢ Some q
 nowhere_outside f p q away outside k e =

@@ -10,8 +10,8 @@ use Rattle.protect_meta.specs.Table.{meta_at, domains_of}
 use Rattle.cloak_pager.specs.State.{PagerState, IsWholePager, key_for, Names, right_at, bytes_in, page_of}
 use Rattle.cloak_pager.specs.Turns.{frame_numbered, StaysBut, CloseTurns, IsClosed, ShowsClosed}
 use Rattle.cloak_pager.specs.Relation.{StandsForMemory}
-use Rattle.cloak_pager.specs.declared.held.Held.{Held}
-use Rattle.cloak_pager.specs.declared.held.Held.TheVariants.{Outside, Clean, Changed, Spent}
+use Rattle.cloak_pager.specs.declared.frame_right.FrameRight.{FrameRight}
+use Rattle.cloak_pager.specs.declared.frame_right.FrameRight.TheVariants.{Outside, Clean, Changed, Spent}
 use Rattle.cloak_pager.proofs.Pages.{same_or_not}
 use Rattle.cloak_pager.proofs.Turned.{outside_is}
 use Rattle.cloak_pager.proofs.Touches.{stands_resealed, whole_resealed}
@@ -98,14 +98,14 @@ closed_with old now next i c x = record {
 pub closed_more : (old now next : PagerState) (i : ℕ) → IsWholePager old → ClosedBelow old now i →
     i < length old.frames → CloseTurns (right_at now i) now next i → ClosedBelow old next (i + 1)
 closed_more old now next i w c inside turns =
-    let T : Held → Type 0 = λ h. CloseTurns h now next i in
+    let T : FrameRight → Type 0 = λ h. CloseTurns h now next i in
     by_right (right_at old i) refl (w.named i inside) (subst T (c.right_later i (omega arith)) turns)
   where
-    by_right : (h : Held) → right_at old i ≡ h → Names old.table i h → CloseTurns h now next i →
+    by_right : (h : FrameRight) → right_at old i ≡ h → Names old.table i h → CloseTurns h now next i →
         ClosedBelow old next (i + 1)
     by_right (Outside r) at named turns =
         let N : PagerState → Type 0 = λ x. ClosedBelow old x (i + 1) in
-        let B : Held → Type 0 = λ h. ShowsClosed old i h (bytes_in now i) in
+        let B : FrameRight → Type 0 = λ h. ShowsClosed old i h (bytes_in now i) in
         subst N (sym turns) (closed_with old now now i c (record {
           stays = stays_same i now now refl;
           places = refl;
@@ -119,7 +119,7 @@ closed_more old now next i w c inside turns =
         let sealed : List ℕ = cbc (key_for now r.page) turns.0.iv (bytes_in now i) in
         let within : i < length now.frames = rw c.count inside in
         let within' : i < length now.rights = rw (c.places, w.count) inside in
-        let B : Held → Type 0 = λ h. ShowsClosed old i h (bytes_in next i) in
+        let B : FrameRight → Type 0 = λ h. ShowsClosed old i h (bytes_in next i) in
         let shows : bytes_in next i ≡ sealed = rw t.frames_are (get_or-set_same now.frames i sealed [] within) in
         let shown : ShowsClosed old i (Clean r) (bytes_in next i) =
         (turns.0, sym (c.metas_stay r.page) ∙ turns.1, shows ∙ rw (c.keys_stay, c.bytes_later i (omega arith)) refl) in
@@ -139,7 +139,7 @@ pub closing_stands : (p p' : PagerState) (f : ℕ) → f < length p.frames → C
     (w : PageId → Bool) (m : CloakedMemory) → StandsForMemory p w m → StandsForMemory p' w m
 closing_stands p p' f inside turns w m s = by_right (right_at p f) refl turns
   where
-    by_right : (h : Held) → right_at p f ≡ h → CloseTurns h p p' f → StandsForMemory p' w m
+    by_right : (h : FrameRight) → right_at p f ≡ h → CloseTurns h p p' f → StandsForMemory p' w m
     by_right (Outside r) at turns = (let S : PagerState → Type 0 = λ x. StandsForMemory x w m in subst S (sym turns) s)
     by_right (Clean r) at turns =
         stands_resealed p p' w m f r s (whole_resealed p p' f r s.whole inside at turns) inside at turns

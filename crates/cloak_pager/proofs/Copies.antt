@@ -16,7 +16,7 @@ use Rattle.cloak_pager.specs.State.{PagerState, owed_under, right_at, held_in, o
 use Rattle.cloak_pager.specs.Turns.{MetasTurn, CopiesPages, DropsPages}
 use Rattle.cloak_pager.specs.Relation.{StandsForMemory, FrameStands, PageStands, IsUnowed, vector_in}
 use Rattle.cloak_pager.specs.Asking.{FollowsCallStill, after_copy_pages, after_drop_pages, wiped_copies}
-use Rattle.cloak_pager.specs.declared.held.Held.{Held}
+use Rattle.cloak_pager.specs.declared.frame_right.FrameRight.{FrameRight}
 use Rattle.cloak_pager.proofs.Pages.{IsBytes-zero_page}
 use Rattle.cloak_pager.proofs.Keeping.{rights_stay, whole_still}
 use Rattle.cloak_pager.proofs.Stands.{frame_stays, owed_by_right, page_as}
@@ -47,14 +47,14 @@ stands_moved p p' w w' m m' metas s v =
       frames = λ f inside.
           let there : f < length p.frames = rw t.frames_are at inside in
           let right : right_at p' f ≡ right_at p f = rights_stay p p' p.frames metas t f in
-          subst (λ (h : Held). FrameStands p' w' m' f h) (sym right)
+          subst (λ (h : FrameRight). FrameStands p' w' m' f h) (sym right)
           (frame_stays p p' w w' m m' f (right_at p f)
           (ap (λ (x : List (List ℕ)). get_or x f []) t.frames_are)
           (ap (λ (x : List (List ℕ)). get_or x f []) v.ram)
           v.keys
           (λ o held. let is = v.held f o held in (is.0, is.1, t.metas_are o ∙ is.2, is.3))
           (s.frames f there));
-      owed = v.owed ∙ (s.owed ∙ ap (λ (x : List Held). map owed_under x) (sym t.rights_are));
+      owed = v.owed ∙ (s.owed ∙ ap (λ (x : List FrameRight). map owed_under x) (sym t.rights_are));
       pages = λ o. subst (λ (x : Option Meta). PageStands (w' o) m' o x) (sym (t.metas_are o)) (v.pages o);
       vectors = λ o. v.vectors o ∙ ap vector_in (sym (t.metas_are o));
       plain = v.plain;
@@ -63,7 +63,7 @@ stands_moved p p' w w' m m' metas s v =
 
 -- Copying.
 
--- whether a page is one of a resource, with its numbers where it is
+-- whether a page is one of a resource, with its numbers if it is
 pub of_tells : (domain resource : ℕ) (o : PageId) →
     ((is_of domain resource o ≡ true) × ((o.domain ≡ domain) × (o.resource ≡ resource))) ⊎
     (is_of domain resource o ≡ false)

@@ -16,22 +16,22 @@ use Rattle.cloak_pager.specs.State.{PagerState, IsWholePager, IsWholeWithHomes, 
 use Rattle.cloak_pager.specs.State.{bytes_in}
 use Rattle.cloak_pager.specs.Turns.{Turns, StaysBut, frame_numbered, holding, HoldsNow}
 use Rattle.cloak_pager.specs.Freezing.{FreezesFrame}
-use Rattle.cloak_pager.specs.declared.held.Held.{Held}
-use Rattle.cloak_pager.specs.declared.held.Held.TheVariants.{Outside, Changed, Spent}
+use Rattle.cloak_pager.specs.declared.frame_right.FrameRight.{FrameRight}
+use Rattle.cloak_pager.specs.declared.frame_right.FrameRight.TheVariants.{Outside, Changed, Spent}
 use Rattle.cloak_pager.proofs.Keeping.{HasRight, named_as}
 use Rattle.cloak_pager.proofs.Turned.{put, written, same_metas, turns_put, outside_is, kept_outside, TakesHome}
 use Rattle.cloak_pager.proofs.Turned.{take_kept, made_right, opened_here}
 use Rattle.cloak_pager.proofs.Behind.{turned_stays}
 
 -- the right of a frame that turned
-pub right_turned : (p p' : PagerState) (f : ℕ) (h : Held) (bytes : List ℕ) (metas : PageId → Option Meta) →
+pub right_turned : (p p' : PagerState) (f : ℕ) (h : FrameRight) (bytes : List ℕ) (metas : PageId → Option Meta) →
     IsWholePager p → f < length p.frames →
     Turns p p' (slice_set p.frames f bytes) (slice_set p.rights f h) metas → right_at p' f ≡ h
 right_turned p p' f h bytes metas w inside t =
     rw t.rights_are (get_or-set_same p.rights f h Spent (rw w.count inside))
 
 -- its bytes, and those of a frame that was filled or in which a page was placed
-pub bytes_turned : (p p' : PagerState) (f : ℕ) (bytes : List ℕ) (rights : List Held) (metas : PageId → Option Meta) →
+pub bytes_turned : (p p' : PagerState) (f : ℕ) (bytes : List ℕ) (rights : List FrameRight) (metas : PageId → Option Meta) →
     f < length p.frames → Turns p p' (slice_set p.frames f bytes) rights metas → bytes_in p' f ≡ bytes
 bytes_turned p p' f bytes rights metas inside t = rw t.frames_are (get_or-set_same p.frames f bytes [] inside)
 
@@ -51,7 +51,7 @@ owed_inside {p} now f view w owed =
     ]
 
 pub freeze_kept : {p : PagerState} {homes : HomeTable} {frames' : List (List ℕ)} {f : ℕ} {r : Holding} {out : Frame}
-    (key iv : List ℕ) (spent : Held) →
+    (key iv : List ℕ) (spent : FrameRight) →
     IsWholeWithHomes p homes → HasRight p f (Changed r) →
     frames' ≡ slice_set p.frames r.frame.0 (cbc key iv (bytes_in p r.frame.0)) → out ≡ r.frame →
     IsWholeWithHomes (put p frames' f spent (Outside out) p.table) homes
@@ -62,7 +62,7 @@ freeze_kept {p} {homes} {frames'} {f} {r} {out} key iv spent k right wrote is =
     (same_metas p.table) (λ o n. n)
 
 pub freezes : {p : PagerState} {frames' : List (List ℕ)} {f : ℕ} {r : Holding} {iv : List ℕ} {page : PageId}
-    {out : Frame} {key : List ℕ} (t : Meta) (spent : Held) →
+    {out : Frame} {key : List ℕ} (t : Meta) (spent : FrameRight) →
     HasRight p f (Changed r) → key ≡ key_for p page →
     frames' ≡ slice_set p.frames r.frame.0 (cbc key iv (bytes_in p r.frame.0)) →
     t.digest ≡ sha256 (cbc key iv (bytes_in p r.frame.0)) → t.iv ≡ iv → page ≡ r.page → out ≡ r.frame →
@@ -97,7 +97,7 @@ froze_stays p p' f iv t frozen = turned_stays f p p' _ (Outside (frame_numbered 
 -- Thawing.
 
 pub thaw_kept : {p : PagerState} {homes homes' : HomeTable} {frames' : List (List ℕ)} {f : ℕ} {r : Frame} {n : Holding}
-    {q : PageId} {iv key : List ℕ} (spent : Held) →
+    {q : PageId} {iv key : List ℕ} (spent : FrameRight) →
     IsWholeWithHomes p homes → HasRight p f (Outside r) →
     OpensTo key iv (bytes_in p r.0) (λ plain. frames' ≡ slice_set p.frames r.0 plain) →
     n ≡ record { frame = r; page = q } → TakesHome p homes homes' q f →
@@ -109,7 +109,7 @@ thaw_kept {p} {homes} {homes'} {frames'} {f} {r} {n} {q} {iv} {key} spent k righ
     (refl, takes.page) refl takes
 
 pub thaws : {p : PagerState} {f : ℕ} {r : Frame} {n : Holding} {q : PageId} {iv key : List ℕ}
-    (frames' : List (List ℕ)) (spent : Held) →
+    (frames' : List (List ℕ)) (spent : FrameRight) →
     HasRight p f (Outside r) → key ≡ key_for p q →
     OpensTo key iv (bytes_in p r.0) (λ plain. frames' ≡ slice_set p.frames r.0 plain) →
     n ≡ record { frame = r; page = q } →

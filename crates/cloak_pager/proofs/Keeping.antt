@@ -1,4 +1,4 @@
--- What stays so of a pager when one frame turns.
+-- What stays true of a pager when one frame turns.
 use Rattle.std.proofs.Common.{◌≡◌, ◌≢◌, ◌<◌, ℕ, List, Option, None, Some, length, get_or, slice_set, refl, ap, sym, ◌∙◌}
 use Rattle.std.proofs.Common.{subst, ◌⊎◌, inl, inr}
 use Rattle.std.proofs.lemmas.List.{get_or-set_same, get_or-set_other, length-set, get_or_default}
@@ -12,18 +12,18 @@ use Rattle.cloak_pager.specs.Homes.{HomeTable, home_at}
 use Rattle.cloak_pager.specs.State.{PagerState, IsWholePager, IsWholeWithHomes, Names, AreNoted, page_of, right_at}
 use Rattle.cloak_pager.specs.State.{held_in}
 use Rattle.cloak_pager.specs.Turns.{Turns, MetasTurn, frame_numbered}
-use Rattle.cloak_pager.specs.declared.held.Held.{Held}
-use Rattle.cloak_pager.specs.declared.held.Held.TheVariants.{Outside, Clean, Changed, Spent}
+use Rattle.cloak_pager.specs.declared.frame_right.FrameRight.{FrameRight}
+use Rattle.cloak_pager.specs.declared.frame_right.FrameRight.TheVariants.{Outside, Clean, Changed, Spent}
 use Rattle.cloak_pager.proofs.Pages.{same_or_not, with_page-same, with_page-other}
 
 -- The pager is whole, f is one of its frames, and this is the frame's right.
-pub record HasRight (p : PagerState) (f : ℕ) (h : Held) : Type 0 where
+pub record HasRight (p : PagerState) (f : ℕ) (h : FrameRight) : Type 0 where
   pub whole : IsWholePager p
   pub inside : f < length p.frames
   pub at : right_at p f ≡ h
 
 -- the right that was taken out, by what is known where it is used
-pub right_seen : {p now : PagerState} {seen : Held} (f : ℕ) (h : Held) → p ≡ now → IsWholePager p →
+pub right_seen : {p now : PagerState} {seen : FrameRight} (f : ℕ) (h : FrameRight) → p ≡ now → IsWholePager p →
     f < length now.frames → seen ≡ get_or p.rights f seen → h ≡ seen → HasRight p f h
 right_seen {p} {now} {seen} f h view w within e is =
     let inside : f < length p.frames = rw (← view) at within in
@@ -31,17 +31,17 @@ right_seen {p} {now} {seen} f h view w within e is =
     record { whole = w; inside = inside; at = get_or_default p.rights f Spent seen there ∙ (sym e ∙ sym is) }
 
 -- the same of the pager as its callers see it
-pub right_now : {p now : PagerState} {seen : Held} (f : ℕ) (h : Held) → p ≡ now → IsWholePager p →
+pub right_now : {p now : PagerState} {seen : FrameRight} (f : ℕ) (h : FrameRight) → p ≡ now → IsWholePager p →
     f < length now.frames → seen ≡ get_or p.rights f seen → seen ≡ h → HasRight now f h
 right_now {p} f h view w within e is =
     subst (λ (x : PagerState). HasRight x f h) view (right_seen f h view w within e (sym is))
 
 -- what the frame's right says
-pub named_as : {p : PagerState} {f : ℕ} {h : Held} → HasRight p f h → Names p.table f h
-named_as {p} {f} {h} r = let N : Held → Type 0 = λ x. Names p.table f x in subst N r.at (r.whole.named f r.inside)
+pub named_as : {p : PagerState} {f : ℕ} {h : FrameRight} → HasRight p f h → Names p.table f h
+named_as {p} {f} {h} r = let N : FrameRight → Type 0 = λ x. Names p.table f x in subst N r.at (r.whole.named f r.inside)
 
 -- the right of a frame after another one was put in a place
-pub right_put : (rights : List Held) (f : ℕ) (h : Held) (k : ℕ) (q : PageId) → f < length rights →
+pub right_put : (rights : List FrameRight) (f : ℕ) (h : FrameRight) (k : ℕ) (q : PageId) → f < length rights →
     page_of (get_or (slice_set rights f h) k Spent) ≡ Some q →
     ((k ≡ f) × (page_of h ≡ Some q)) ⊎ ((k ≢ f) × (page_of (get_or rights k Spent) ≡ Some q))
 right_put rights f h k q inside held =
@@ -52,18 +52,18 @@ right_put rights f h k q inside held =
       | inr n ↦ inr (n, sym (ap page_of (get_or-set_other rights f k h Spent n)) ∙ held)
     ]
 
--- a right that names frame k still does where the metadata of its page did not go
-pub names_stay : (t t' : Table) (k : ℕ) (h : Held) → domains_of t' ≡ domains_of t →
+-- a right that names frame k still does if the metadata of its page did not go
+pub names_stay : (t t' : Table) (k : ℕ) (h : FrameRight) → domains_of t' ≡ domains_of t →
     ((o : PageId) → page_of h ≡ Some o → meta_at t o ≢ None → meta_at t' o ≢ None) → Names t k h → Names t' k h
 names_stay t t' k (Outside r) d keeps n = n
 names_stay t t' k (Clean r) d keeps n = (n.0, rw d n.1, keeps r.page refl n.2)
 names_stay t t' k (Changed r) d keeps n = (n.0, rw d n.1)
 names_stay t t' k Spent d keeps n = n
 
--- the right of each frame stays where none was turned
+-- the right of each frame stays if none was turned
 pub rights_stay : (old new : PagerState) (frames : List (List ℕ)) (metas : PageId → Option Meta) →
     Turns old new frames old.rights metas → (k : ℕ) → right_at new k ≡ right_at old k
-rights_stay old new frames metas t k = ap (λ (x : List Held). get_or x k Spent) t.rights_are
+rights_stay old new frames metas t k = ap (λ (x : List FrameRight). get_or x k Spent) t.rights_are
 
 -- a pager is whole while its rights stay, and the metadata of the pages that are held
 pub whole_still : (p p' : PagerState) (frames : List (List ℕ)) (metas : PageId → Option Meta) → IsWholePager p →
@@ -73,9 +73,9 @@ whole_still p p' frames metas w t long keeps =
     let count : length p'.frames ≡ length p.frames = rw t.frames_are long in
     let right : (k : ℕ) → right_at p' k ≡ right_at p k = rights_stay p p' frames metas t in
     record {
-      count = ap (λ (x : List Held). length x) t.rights_are ∙ (w.count ∙ sym count);
+      count = ap (λ (x : List FrameRight). length x) t.rights_are ∙ (w.count ∙ sym count);
       named = λ k within.
-          let N : Held → Type 0 = λ x. Names p'.table k x in
+          let N : FrameRight → Type 0 = λ x. Names p'.table k x in
           let there : Names p.table k (right_at p k) = w.named k (rw (← count) within) in
           subst N (sym (right k))
           (names_stay p.table p'.table k (right_at p k) t.domains_stay
@@ -84,7 +84,7 @@ whole_still p p' frames metas w t long keeps =
       few = rw count w.few;
     }
 
--- and kept, where the homes stay too
+-- and kept, if the homes stay too
 pub kept_still : (p p' : PagerState) (homes : HomeTable) (frames : List (List ℕ)) (metas : PageId → Option Meta) →
     IsWholeWithHomes p homes → Turns p p' frames p.rights metas → length frames ≡ length p.frames →
     ((k : ℕ) (o : PageId) → held_in p k ≡ Some o → meta_at p.table o ≢ None → metas o ≢ None) →
@@ -115,7 +115,7 @@ kept_table {p} {homes} {table'} {metas} k now keeps =
     kept_still p (record p { table = table' }) homes p.frames metas k (table_turned p table' metas now) refl keeps
 
 -- a pager is whole after one frame turned
-pub whole_turned : (p p' : PagerState) (f : ℕ) (h : Held) (bytes : List ℕ) (metas : PageId → Option Meta) →
+pub whole_turned : (p p' : PagerState) (f : ℕ) (h : FrameRight) (bytes : List ℕ) (metas : PageId → Option Meta) →
     IsWholePager p → Turns p p' (slice_set p.frames f bytes) (slice_set p.rights f h) metas → f < length p.frames →
     Names p'.table f h → ((o : PageId) → meta_at p.table o ≢ None → metas o ≢ None) →
     ((g : ℕ) (o : PageId) → g ≢ f → page_of h ≡ Some o → held_in p g ≢ Some o) → IsWholePager p'
@@ -130,12 +130,12 @@ whole_turned p p' f h bytes metas w t inside named keeps alone =
           elim (same_or_not k f) [
             | inl e ↦
                 let right : right_at p' f ≡ h = rw t.rights_are (get_or-set_same p.rights f h Spent there) in
-                let N : Held → Type 0 = λ x. Names p'.table f x in
+                let N : FrameRight → Type 0 = λ x. Names p'.table f x in
                 subst (λ (x : ℕ). Names p'.table x (right_at p' x)) (sym e) (subst N (sym right) named)
             | inr n ↦
                 let right : right_at p' k ≡ right_at p k = rw t.rights_are (get_or-set_other p.rights f k h Spent n) in
                 let within' : k < length p.frames = rw (t.frames_are, length-set) at within in
-                let N : Held → Type 0 = λ x. Names p'.table k x in
+                let N : FrameRight → Type 0 = λ x. Names p'.table k x in
                 subst N (sym right)
                 (names_stay p.table p'.table k (right_at p k) t.domains_stay
                 (λ o here shown. rw t.metas_are (keeps o shown)) (w.named k within'))
@@ -154,8 +154,8 @@ whole_turned p p' f h bytes metas w t inside named keeps alone =
       few = rw (t.frames_are, length-set) w.few;
     }
 
--- homes stay right where the frame takes no other page
-pub noted_still : (homes : HomeTable) (rights : List Held) (f : ℕ) (h : Held) → AreNoted homes rights →
+-- homes stay right if the frame takes no other page
+pub noted_still : (homes : HomeTable) (rights : List FrameRight) (f : ℕ) (h : FrameRight) → AreNoted homes rights →
     f < length rights → ((q : PageId) → page_of h ≡ Some q → page_of (get_or rights f Spent) ≡ Some q) →
     AreNoted homes (slice_set rights f h)
 noted_still homes rights f h noted inside same k q held =
@@ -164,8 +164,8 @@ noted_still homes rights f h noted inside same k q held =
       | inr n ↦ noted k q n.1
     ]
 
--- and where the frame is noted for the page that it takes
-pub noted_new : (homes homes' : HomeTable) (rights : List Held) (f : ℕ) (h : Held) (q : PageId) →
+-- and if the frame is noted for the page that it takes
+pub noted_new : (homes homes' : HomeTable) (rights : List FrameRight) (f : ℕ) (h : FrameRight) (q : PageId) →
     AreNoted homes rights → f < length rights →
     HasValues homes homes' (with_page (home_at homes) q (Some (frame_numbered f))) → page_of h ≡ Some q →
     ((k : ℕ) → page_of (get_or rights k Spent) ≢ Some q) → AreNoted homes' (slice_set rights f h)
@@ -185,7 +185,7 @@ pub outside_right : (p : PagerState) → IsWholePager p → (f : ℕ) → f < le
     (r : Frame) × HasRight p f (Outside r)
 outside_right p w f inside none = by_right (right_at p f) refl none (w.named f inside)
   where
-    by_right : (h : Held) → right_at p f ≡ h → page_of h ≡ None → Names p.table f h →
+    by_right : (h : FrameRight) → right_at p f ≡ h → page_of h ≡ None → Names p.table f h →
         (r : Frame) × HasRight p f (Outside r)
     by_right (Outside r) at none named = (r, record { whole = w; inside = inside; at = at })
     by_right (Clean r) at none named = absurd (let no : Some r.page ≡ None = none in cc)

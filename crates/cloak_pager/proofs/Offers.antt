@@ -27,8 +27,8 @@ use Rattle.cloak_pager.specs.Turns.{ShownTurns}
 use Rattle.cloak_pager.proofs.Turned.{same_digest, other_digest}
 use Rattle.cloak_pager.specs.Relation.{StandsForMemory, FrameStands, PageStands, HoldsClean, IsRecorded, IsUnowed}
 use Rattle.cloak_pager.specs.Asking.{ToldCall, FollowsCallFrom, FollowsCallUnclashed, after_offer, answer_of}
-use Rattle.cloak_pager.specs.declared.held.Held.{Held}
-use Rattle.cloak_pager.specs.declared.held.Held.TheVariants.{Outside, Clean, Changed, Spent}
+use Rattle.cloak_pager.specs.declared.frame_right.FrameRight.{FrameRight}
+use Rattle.cloak_pager.specs.declared.frame_right.FrameRight.TheVariants.{Outside, Clean, Changed, Spent}
 use Rattle.cloak_pager.specs.declared.offering.Offered.{Offered}
 use Rattle.cloak_pager.specs.declared.offering.Offered.TheVariants.{Ready, Mismatch}
 use Rattle.cloak_base.proofs.Pages.{same_page-self, same_page-decides}
@@ -81,7 +81,7 @@ stands_same p w m m' s ram plain keys stream recorded vectors owed =
       marks = m'.marks;
     }
 
-    frame_same : (f : ℕ) (h : Held) → FrameStands p w m f h → FrameStands p w mixed f h
+    frame_same : (f : ℕ) (h : FrameRight) → FrameStands p w m f h → FrameStands p w mixed f h
     frame_same f (Outside r) s = s
     frame_same f (Clean r) s = record { newest = s.newest; shown = s.shown; long = s.long; sealed = s.sealed }
     frame_same f (Changed r) s = s
@@ -180,13 +180,13 @@ stands_clean p p' w m g q bytes s whole inside outside nowhere here t =
       drained = s.drained;
     })
   where
-    unheld_unowed : (h : Held) → page_of h ≡ None → owed_under h ≡ None
+    unheld_unowed : (h : FrameRight) → page_of h ≡ None → owed_under h ≡ None
     unheld_unowed (Outside r) e = refl
     unheld_unowed (Clean r) e = refl
     unheld_unowed (Changed r) e = e
     unheld_unowed Spent e = refl
 
--- What an offer comes to.
+-- What an offer results in.
 
 pub offer_at_once : (q : PageId) (g : ℕ) (write : Bool) (m : CloakedMemory) → owed_in m g ≡ Some q →
     offer q g write m ≡ record { memory = m; ciphers = []; answer = Accepted }
@@ -398,7 +398,7 @@ owed_follows p w m g q write owes stands =
     let M : AfterOffer → Type 0 = λ o. FollowsOffer p Ready m.ledger.stream w o in
     subst M (sym (offer_at_once q g write m owes)) (record { answer = refl; stands = stands; drawn = refl })
 
--- where equal digests were not of equal bytes, the offer set the mark
+-- if equal digests were not of equal bytes, the offer set the mark
 pub equal_unclashed : (m : CloakedMemory) (g : ℕ) (q : PageId) (write : Bool) (c : List ℕ) → owed_in m g ≡ None →
     IsUnowed m q → m.ledger.recorded q ≡ Some c → sha256 (get_or m.ram g []) ≡ sha256 c →
     (offer q g write m).memory.ledger.clashed ≡ false → get_or m.ram g [] ≡ c
@@ -424,7 +424,7 @@ pub record MayOffer (p : PagerState) (q : PageId) (g : ℕ) : Type 0 where
   pub alone : (k : ℕ) → held_in p k ≡ Some q → k ≡ g
 
 -- one of the page that the frame holds
-pub may_again : {p : PagerState} {g : ℕ} {h : Held} → HasRight p g h → (q : PageId) → page_of h ≡ Some q →
+pub may_again : {p : PagerState} {g : ℕ} {h : FrameRight} → HasRight p g h → (q : PageId) → page_of h ≡ Some q →
     MayOffer p q g
 may_again {p} {g} {h} right q is =
     let was : held_in p g ≡ Some q = ap page_of right.at ∙ is in
@@ -435,7 +435,7 @@ may_again {p} {g} {h} right q is =
       alone = λ k held. right.whole.one_home k g q held was;
     }
   where
-    in_by : (h : Held) → Names p.table g h → page_of h ≡ Some q → IsIn (domains_of p.table) q
+    in_by : (h : FrameRight) → Names p.table g h → page_of h ≡ Some q → IsIn (domains_of p.table) q
     in_by (Outside r) named is = absurd (let no : None ≡ Some q = is in cc)
     in_by (Clean r) named is = (let same : r.page ≡ q = (let e : Some r.page ≡ Some q = is in cc) in
         subst (λ (x : PageId). IsIn (domains_of p.table) x) same named.1)
@@ -454,13 +454,13 @@ offer_follows p p' q g write result may cause turns w m s unclashed =
     Goal : Offered → Type 0
     Goal r = FollowsOffer p' r m.ledger.stream w (offer q g write m)
 
-    frame_at : (h : Held) → right_at p g ≡ h → FrameStands p w m g h
-    frame_at h at = let F : Held → Type 0 = λ x. FrameStands p w m g x in subst F at (s.frames g may.inside)
+    frame_at : (h : FrameRight) → right_at p g ≡ h → FrameStands p w m g h
+    frame_at h at = let F : FrameRight → Type 0 = λ x. FrameStands p w m g x in subst F at (s.frames g may.inside)
 
-    owed_by : (h : Held) → right_at p g ≡ h → owed_in m g ≡ owed_under h
+    owed_by : (h : FrameRight) → right_at p g ≡ h → owed_in m g ≡ owed_under h
     owed_by h at = owed_by_right p w m s g ∙ ap owed_under at
 
-    turned : (r : Offered) (h : Held) (t : Option Meta) → result ≡ r → OfferedTurns result h t write p p' q g →
+    turned : (r : Offered) (h : FrameRight) (t : Option Meta) → result ≡ r → OfferedTurns result h t write p p' q g →
         OfferedTurns r h t write p p' q g
     turned r h t is took = let O : Offered → Type 0 = λ x. OfferedTurns x h t write p p' q g in subst O is took
 
@@ -473,7 +473,7 @@ offer_follows p p' q g write result may cause turns w m s unclashed =
       | inr e ↦ (let same = sym held ∙ e in cc)
     ]
 
-    -- no frame holds the page where the frame is outside
+    -- no frame holds the page if the frame is outside
     nowhere : held_in p g ≡ None → (k : ℕ) → held_in p k ≢ Some q
     nowhere outside k e =
         let here : held_in p g ≡ Some q = subst (λ (x : ℕ). held_in p x ≡ Some q) (may.alone k e) e in
@@ -538,7 +538,7 @@ offer_follows p p' q g write result may cause turns w m s unclashed =
     by_write false r t held free clean took =
         (let S : PagerState → Type 0 = λ x. StandsForMemory x w m in subst S (sym took) s)
 
-    by_right : (h : Held) → right_at p g ≡ h → (t : Option Meta) → meta_at p.table q ≡ t →
+    by_right : (h : FrameRight) → right_at p g ≡ h → (t : Option Meta) → meta_at p.table q ≡ t →
         result ≡ end_of_offer h t (bytes_in p g) → OfferedTurns result h t write p p' q g → Goal result
     by_right (Outside r) at (Some t) shown cause turns =
         let how = by_digest t (bytes_in p g) (bytes_eq (sha256 (bytes_in p g)) t.digest) refl in
@@ -573,15 +573,15 @@ offer_follows p p' q g write result may cause turns w m s unclashed =
     by_right Spent at t shown cause turns = absurd (frame_at Spent at)
 
 -- the same, by what the frame holds and the metadata that the page has
-pub offer_by : (p p' : PagerState) (q : PageId) (g : ℕ) (write : Bool) (result : Offered) (h : Held) (t : Option Meta) →
+pub offer_by : (p p' : PagerState) (q : PageId) (g : ℕ) (write : Bool) (result : Offered) (h : FrameRight) (t : Option Meta) →
     MayOffer p q g → HasRight p g h → meta_at p.table q ≡ t → result ≡ end_of_offer h t (bytes_in p g) →
     OfferedTurns result h t write p p' q g → FollowsCallUnclashed p p' (answer_of result) (after_offer q g write)
 offer_by p p' q g write result h t may right shown cause turns =
-    let T : Held → Option Meta → Type 0 = λ x y. (result ≡ end_of_offer x y (bytes_in p g))
+    let T : FrameRight → Option Meta → Type 0 = λ x y. (result ≡ end_of_offer x y (bytes_in p g))
     × OfferedTurns result x y write p p' q g in
     let by_meta : T h (meta_at p.table q) = subst (λ (y : Option Meta). T h y) (sym shown) (cause, turns) in
     let by_right : T (right_at p g) (meta_at p.table q) =
-    subst (λ (x : Held). T x (meta_at p.table q)) (sym right.at) by_meta in
+    subst (λ (x : FrameRight). T x (meta_at p.table q)) (sym right.at) by_meta in
     offer_follows p p' q g write result may by_right.0 by_right.1
 
 pub shown_turns : (p p' : PagerState) (q : PageId) (g : ℕ) (write : Bool) (result : Offered) (r : Frame) (t : Meta) →

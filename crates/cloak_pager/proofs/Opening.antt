@@ -14,15 +14,15 @@ use Rattle.cloak_pager.specs.Turns.{IsNewPager, frame_numbered}
 use Rattle.cloak_pager.specs.Relation.{FrameStands, PageStands, vector_in}
 use Rattle.cloak_pager.specs.Asking.{none_wiped, StandsBlank}
 use Rattle.cloak_pager.proofs.Pages.{IsBytes-zero_page}
-use Rattle.cloak_pager.specs.declared.held.Held.{Held}
-use Rattle.cloak_pager.specs.declared.held.Held.TheVariants.{Outside, Spent}
+use Rattle.cloak_pager.specs.declared.frame_right.FrameRight.{FrameRight}
+use Rattle.cloak_pager.specs.declared.frame_right.FrameRight.TheVariants.{Outside, Spent}
 
 -- the rights that a pager begins with
-pub record NewRights (n : ℕ) (rights : List Held) : Type 0 where
+pub record NewRights (n : ℕ) (rights : List FrameRight) : Type 0 where
   pub count : length rights ≡ n
   pub outside : (k : ℕ) → k < n → get_or rights k Spent ≡ Outside (frame_numbered k)
 
-pub new_rights : (n : ℕ) (outside : List Frame) (rights : List Held) → length outside ≡ n →
+pub new_rights : (n : ℕ) (outside : List Frame) (rights : List FrameRight) → length outside ≡ n →
     ((k : ℕ) → k < n → slice_get outside k ≡ Some (frame_numbered k)) → rights ≡ map (λ r. Outside r) outside →
     NewRights n rights
 new_rights n outside rights count named made = record {
@@ -51,7 +51,7 @@ opened_whole n domains keys p o few = record {
   count = o.count ∙ sym (rw (o.zeros, length-replicate) refl);
   named = λ k h.
       let there : k < n = rw (o.zeros, length-replicate) at h in
-      let N : Held → Type 0 = λ x. Names p.table k x in
+      let N : FrameRight → Type 0 = λ x. Names p.table k x in
       subst N (sym (o.outside k there)) refl;
   one_home = λ f g q at at'. absurd (let no : None ≡ Some q = sym (nobody n domains keys p o f).0 ∙ at in cc);
   few = rw (o.zeros, length-replicate) few;
@@ -66,7 +66,7 @@ opened_kept n domains keys p homes o few is = record {
 }
 
 -- rights that owe nothing
-none_owed : (xs : List Held) → ((k : ℕ) → owed_under (get_or xs k Spent) ≡ None) →
+none_owed : (xs : List FrameRight) → ((k : ℕ) → owed_under (get_or xs k Spent) ≡ None) →
     replicate (length xs) None ≡ map owed_under xs
 none_owed [] h = refl
 none_owed (x ∷ xs) h =
@@ -82,7 +82,7 @@ opened_stands n domains keys p o few m b = record {
   count = ap (λ (x : List (List ℕ)). length x) (b.ram ∙ sym o.zeros);
   frames = λ f h.
       let there : f < n = rw (o.zeros, length-replicate) at h in
-      let F : Held → Type 0 = λ x. FrameStands p none_wiped m f x in
+      let F : FrameRight → Type 0 = λ x. FrameStands p none_wiped m f x in
       subst F (sym (o.outside f there)) (ap (λ (x : List (List ℕ)). get_or x f []) (o.zeros ∙ sym b.ram));
   owed =
       b.owed ∙ (ap (λ (k : ℕ). replicate k None) (sym o.count)

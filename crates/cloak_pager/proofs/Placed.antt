@@ -20,8 +20,8 @@ use Rattle.cloak_pager.specs.State.{PagerState, IsWholePager, key_for, IsFresh, 
 use Rattle.cloak_pager.specs.Turns.{metas_with, IsPlaced, IsRestored}
 use Rattle.cloak_pager.specs.Relation.{StandsForMemory, FrameStands}
 use Rattle.cloak_pager.specs.Asking.{ToldCall, FollowsCallFrom, FollowsCall, after_place, StandsRestored}
-use Rattle.cloak_pager.specs.declared.held.Held.{Held}
-use Rattle.cloak_pager.specs.declared.held.Held.TheVariants.{Outside, Spent}
+use Rattle.cloak_pager.specs.declared.frame_right.FrameRight.{FrameRight}
+use Rattle.cloak_pager.specs.declared.frame_right.FrameRight.TheVariants.{Outside, Spent}
 use Rattle.cloak_pager.proofs.Pages.{with_page-same, with_page-other}
 use Rattle.cloak_pager.proofs.Keeping.{HasRight, whole_still, outside_right}
 use Rattle.cloak_pager.proofs.Turned.{set_keeps}
@@ -98,7 +98,7 @@ stands_placed p p' w m q f r bytes d s right fresh is_page drawn turns =
     (λ k o here. set_keeps (meta_at p.table) q meta o) in
     let meta_there : meta_at p'.table q ≡ Some meta = turns.metas_are q ∙ with_page-same (meta_at p.table) q (Some meta) in
     let O : Option PageId → Type 0 = λ x. slice_set m.ledger.owed f x ≡ m.ledger.owed in
-    let F : Held → Type 0 = λ h. FrameStands p' w m' f h in
+    let F : FrameRight → Type 0 = λ h. FrameStands p' w m' f h in
     stands_turned p p' w w m m' f (right_at p f) c (Some q) s (record {
       whole = whole;
       frames = turns.frames_are;

@@ -12,12 +12,12 @@ use Rattle.cloak_base.specs.declared.names.Meta.{Meta}
 use Rattle.protect_meta.specs.Table.{meta_at}
 use Rattle.cloak_pager.specs.State.{PagerState, IsWholePager, page_of, owed_under, right_at, bytes_in, held_in, owed_at}
 use Rattle.cloak_pager.specs.Relation.{StandsForMemory, FrameStands, PageStands, IsUnowed, vector_in}
-use Rattle.cloak_pager.specs.declared.held.Held.{Held}
-use Rattle.cloak_pager.specs.declared.held.Held.TheVariants.{Outside, Clean, Changed, Spent}
+use Rattle.cloak_pager.specs.declared.frame_right.FrameRight.{FrameRight}
+use Rattle.cloak_pager.specs.declared.frame_right.FrameRight.TheVariants.{Outside, Clean, Changed, Spent}
 use Rattle.cloak_pager.proofs.Pages.{same_or_not, is_or_not}
 
 -- a frame that is owed a page holds it
-pub owed_held : (h : Held) (q : PageId) → owed_under h ≡ Some q → page_of h ≡ Some q
+pub owed_held : (h : FrameRight) (q : PageId) → owed_under h ≡ Some q → page_of h ≡ Some q
 owed_held (Outside r) q e = cc
 owed_held (Clean r) q e = cc
 owed_held (Changed r) q e = e
@@ -31,7 +31,7 @@ owed_by_right p w m s f =
 
 -- The pager and the memory, turned at frame f, which has this right and these bytes now, and at page q, if one is
 -- named: all other frames and pages are as they were.
-pub record Turned (p p' : PagerState) (w w' : PageId → Bool) (m m' : CloakedMemory) (f : ℕ) (h : Held) (bytes : List ℕ)
+pub record Turned (p p' : PagerState) (w w' : PageId → Bool) (m m' : CloakedMemory) (f : ℕ) (h : FrameRight) (bytes : List ℕ)
     (q : Option PageId) : Type 0 where
   pub whole : IsWholePager p'
   pub frames : p'.frames ≡ slice_set p.frames f bytes
@@ -56,7 +56,7 @@ pub record Turned (p p' : PagerState) (w w' : PageId → Bool) (m m' : CloakedMe
   pub newest : (o : PageId) → q ≡ Some o → w' o ≡ false → IsBytes 4096 (m'.plain o)
   pub drained : (o : PageId) → w' o ≡ true → next_draw m'.ledger.stream ≡ None
 
--- What is so of page b is so of a page that has the same record. As far as it has to do with newest bytes, that has a
+-- What is true of page b is true of a page that has the same record. As far as it is about newest bytes, that has a
 -- reason of its own.
 pub page_as : (lost lost' : Bool) (m m' : CloakedMemory) (b o : PageId) (t : Option Meta) →
     key_of m'.ledger o ≡ key_of m.ledger b → m'.ledger.recorded o ≡ m.ledger.recorded b →
@@ -87,7 +87,7 @@ pub vector_stays : (p p' : PagerState) (w : PageId → Bool) (m m' : CloakedMemo
 vector_stays p p' w m m' o s e v = v ∙ (s.vectors o ∙ ap vector_in (sym e))
 
 -- a frame of which nothing changed
-pub frame_stays : (p p' : PagerState) (w w' : PageId → Bool) (m m' : CloakedMemory) (g : ℕ) (h : Held) →
+pub frame_stays : (p p' : PagerState) (w w' : PageId → Bool) (m m' : CloakedMemory) (g : ℕ) (h : FrameRight) →
     bytes_in p' g ≡ bytes_in p g → get_or m'.ram g [] ≡ get_or m.ram g [] → m'.ledger.keys ≡ m.ledger.keys →
     ((o : PageId) → page_of h ≡ Some o → (m'.plain o ≡ m.plain o) × (m'.ledger.recorded o ≡ m.ledger.recorded o)
     × (meta_at p'.table o ≡ meta_at p.table o) × (w' o ≡ w o)) →
@@ -106,7 +106,7 @@ frame_stays p p' w w' m m' g (Changed r) b e k same s =
     λ kept. b ∙ (s (sym is.3 ∙ kept) ∙ sym is.0)
 frame_stays p p' w w' m m' g Spent b e k same s = s
 
-pub stands_turned : (p p' : PagerState) (w w' : PageId → Bool) (m m' : CloakedMemory) (f : ℕ) (h : Held)
+pub stands_turned : (p p' : PagerState) (w w' : PageId → Bool) (m m' : CloakedMemory) (f : ℕ) (h : FrameRight)
     (bytes : List ℕ) (q : Option PageId) →
     StandsForMemory p w m → Turned p p' w w' m m' f h bytes q → StandsForMemory p' w' m'
 stands_turned p p' w w' m m' f h bytes q s t = record {
@@ -120,10 +120,10 @@ stands_turned p p' w w' m m' f h bytes q s t = record {
             let here : f < length p.frames = subst (λ (x : ℕ). x < length p.frames) e there in
             let right : right_at p' f ≡ h = rw t.rights (get_or-set_same p.rights f h Spent (rw s.whole.count here)) in
             subst (λ (x : ℕ). FrameStands p' w' m' x (right_at p' x)) (sym e)
-            (subst (λ (x : Held). FrameStands p' w' m' f x) (sym right) (t.here here))
+            (subst (λ (x : FrameRight). FrameStands p' w' m' f x) (sym right) (t.here here))
         | inr n ↦
             let right : right_at p' g ≡ right_at p g = rw t.rights (get_or-set_other p.rights f g h Spent n) in
-            subst (λ (x : Held). FrameStands p' w' m' g x) (sym right)
+            subst (λ (x : FrameRight). FrameStands p' w' m' g x) (sym right)
             (frame_stays p p' w w' m m' g (right_at p g)
             (rw t.frames (get_or-set_other p.frames f g bytes [] n))
             (t.ram_elsewhere g n) t.keys_same

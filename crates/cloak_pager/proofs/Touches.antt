@@ -21,8 +21,8 @@ use Rattle.cloak_pager.specs.Turns.{frame_numbered, ShowsNow, IsResealed, IsSeal
 use Rattle.cloak_pager.specs.Turns.{TouchTurns, touched_by, left_by}
 use Rattle.cloak_pager.specs.Relation.{StandsForMemory, FrameStands, PageStands, HoldsClean, vector_in}
 use Rattle.cloak_pager.specs.Asking.{ToldCall, FollowsCallFrom, FollowsCall, after_touch, shown_by, wiped_with}
-use Rattle.cloak_pager.specs.declared.held.Held.{Held}
-use Rattle.cloak_pager.specs.declared.held.Held.TheVariants.{Outside, Clean, Changed, Spent}
+use Rattle.cloak_pager.specs.declared.frame_right.FrameRight.{FrameRight}
+use Rattle.cloak_pager.specs.declared.frame_right.FrameRight.TheVariants.{Outside, Clean, Changed, Spent}
 use Rattle.cloak_pager.specs.declared.touching.Touched.{Touched}
 use Rattle.cloak_pager.specs.declared.touching.Touched.TheVariants.{Quiet, Resealed, Sealed, Wiped}
 use Rattle.cloak_pager.proofs.Pages.{with_page-same, with_page-other}
@@ -35,7 +35,7 @@ pub held_alone : (p : PagerState) → IsWholePager p → (f : ℕ) (q : PageId) 
     (g : ℕ) (o : PageId) → g ≢ f → Some q ≡ Some o → held_in p g ≢ Some o
 held_alone p w f q held g o n e at = n (w.one_home g f o at (held ∙ e))
 
--- what is owed stays where the frame was owed nothing
+-- what is owed stays if the frame was owed nothing
 pub owed_nothing : (p : PagerState) (w : PageId → Bool) (m : CloakedMemory) → StandsForMemory p w m → (f : ℕ) →
     owed_at p f ≡ None → m.ledger.owed ≡ slice_set m.ledger.owed f None
 owed_nothing p w m s f none =
@@ -48,7 +48,7 @@ pub stands_resealed : (p p' : PagerState) (w : PageId → Bool) (m : CloakedMemo
 stands_resealed p p' w m f r s whole inside at turns =
     let q : PageId = r.page in
     let held : held_in p f ≡ Some q = ap page_of at in
-    let clean : HoldsClean p (w q) m f q = subst (λ (h : Held). FrameStands p w m f h) at (s.frames f inside) in
+    let clean : HoldsClean p (w q) m f q = subst (λ (h : FrameRight). FrameStands p w m f h) at (s.frames f inside) in
     let meta : Meta = turns.0 in
     let t = turns.2 in
     let bytes : List ℕ = cbc (key_for p q) meta.iv (bytes_in p f) in
@@ -78,7 +78,7 @@ stands_resealed p p' w m f r s whole inside at turns =
       drained = s.drained;
     })
 
--- a page that is wiped has no draw, so where a draw is there it is not wiped
+-- a wiped page has no draw, so if there is a draw the page is not wiped
 pub kept_by_draw : (p : PagerState) (w : PageId → Bool) (m : CloakedMemory) → StandsForMemory p w m →
     (q : PageId) (d : List ℕ × Random) → next_draw m.ledger.stream ≡ Some d → w q ≡ false
 kept_by_draw p w m s q d drawn = by_value (w q) (s.drained q)
@@ -87,7 +87,7 @@ kept_by_draw p w m s q d drawn = by_value (w q) (s.drained q)
     by_value true drained = absurd (let no : None ≡ Some d = sym (drained refl) ∙ drawn in cc)
     by_value false drained = refl
 
--- what is said of a page, where its metadata is this
+-- what is said of a page whose metadata is this
 pub page_is : (p' : PagerState) (w' : PageId → Bool) (m' : CloakedMemory) (q : PageId) (t : Option Meta) →
     meta_at p'.table q ≡ t → PageStands (w' q) m' q t → (o : PageId) → Some q ≡ Some o →
     PageStands (w' o) m' o (meta_at p'.table o)
@@ -126,7 +126,7 @@ stands_sealed p p' w m f r d s whole inside at drawn t =
     let m' : CloakedMemory = sealed_memory m f q d in
     let held : held_in p f ≡ Some q = ap page_of at in
     let kept : w q ≡ false = kept_by_draw p w m s q d drawn in
-    let stands : Held → Type 0 = λ h. FrameStands p w m f h in
+    let stands : FrameRight → Type 0 = λ h. FrameStands p w m f h in
     let same : bytes_in p f ≡ m.plain q = subst stands at (s.frames f inside) kept in
     let c : List ℕ = cbc (key_for p q) d.0 (bytes_in p f) in
     let c' : List ℕ = cbc (key_of m.ledger q) d.0 (m.plain q) in
@@ -260,7 +260,7 @@ touch_follows p p' f stream left result inside cause drew turns w m s e =
     Goal : Touched → Type 0
     Goal t = FollowsCallFrom p' left (shown_by t f p') (after_touch f w m)
 
-    by_right : (h : Held) → right_at p f ≡ h → (d : Option (List ℕ × Random)) → next_draw stream ≡ d →
+    by_right : (h : FrameRight) → right_at p f ≡ h → (d : Option (List ℕ × Random)) → next_draw stream ≡ d →
         result ≡ touched_by h d → left ≡ left_by h d stream → TouchTurns h d p p' f → Goal result
     by_right (Outside r) at d drawn cause drew turns =
         let S : PagerState → Type 0 = λ x. StandsForMemory x w m in
@@ -281,7 +281,7 @@ touch_follows p p' f stream left result inside cause drew turns w m s e =
         (set_keeps (meta_at p.table) r.page meta) in
         let stands : StandsForMemory p' w (sealed_memory m f r.page d) =
         stands_sealed p p' w m f r d s whole inside at there turns in
-        let F : Held → Type 0 = λ h. FrameStands p w m f h in
+        let F : FrameRight → Type 0 = λ h. FrameStands p w m f h in
         let same : bytes_in p f ≡ m.plain r.page =
         subst F at (s.frames f inside) (kept_by_draw p w m s r.page d there) in
         let shown : bytes_in p' f ≡ cbc (key_of m.ledger r.page) d.0 (m.plain r.page) =
@@ -312,28 +312,28 @@ touch_follows p p' f stream left result inside cause drew turns w m s e =
     by_right Spent at d drawn cause drew turns = absurd turns
 
 -- the same, by the right that the frame had and the draw that was there
-pub touch_by : (p p' : PagerState) (f : ℕ) (stream left : Random) (result : Touched) (h : Held)
+pub touch_by : (p p' : PagerState) (f : ℕ) (stream left : Random) (result : Touched) (h : FrameRight)
     (d : Option (List ℕ × Random)) →
     HasRight p f h → next_draw stream ≡ d → result ≡ touched_by h d → left ≡ left_by h d stream →
     TouchTurns h d p p' f → FollowsCall p stream p' left (shown_by result f p') (after_touch f)
 touch_by p p' f stream left result h d right drawn cause drew turns =
-    let T : Held → Option (List ℕ × Random) → Type 0 = λ h d. (result ≡ touched_by h d) × (left ≡ left_by h d stream)
+    let T : FrameRight → Option (List ℕ × Random) → Type 0 = λ h d. (result ≡ touched_by h d) × (left ≡ left_by h d stream)
     × TouchTurns h d p p' f in
     let by_draw : T h (next_draw stream) =
     subst (λ (x : Option (List ℕ × Random)). T h x) (sym drawn) (cause, drew, turns) in
     let by_right : T (right_at p f) (next_draw stream) =
-    subst (λ (x : Held). T x (next_draw stream)) (sym right.at) by_draw in
+    subst (λ (x : FrameRight). T x (next_draw stream)) (sym right.at) by_draw in
     touch_follows p p' f stream left result right.inside by_right.0 by_right.1 by_right.2
 
 -- The arms of a touch.
 
 -- what is said of the page that the frame held is said of the page of its right
-pub of_page : {p : PagerState} {f : ℕ} {h : Held} (q : PageId) (P : PageId → Type 0) → HasRight p f h →
+pub of_page : {p : PagerState} {f : ℕ} {h : FrameRight} (q : PageId) (P : PageId → Type 0) → HasRight p f h →
     page_of h ≡ Some q → ((o : PageId) → held_in p f ≡ Some o → P o) → P q
 of_page q P right page all = all q (ap page_of right.at ∙ page)
 
 -- a frame that went outside
-pub outside_now : (p p' : PagerState) (f : Frame) (h : Held) (bytes : List ℕ) (metas : PageId → Option Meta) →
+pub outside_now : (p p' : PagerState) (f : Frame) (h : FrameRight) (bytes : List ℕ) (metas : PageId → Option Meta) →
     HasRight p f.0 h → ShowsNow p p' f.0 bytes metas → right_at p' f.0 ≡ Outside f
 outside_now p p' f h bytes metas right t =
     rw t.rights_are
@@ -358,10 +358,10 @@ pub seal_state : (p p' : PagerState) (f : ℕ) (r : Holding) (iv : List ℕ) (st
     HasRight p f (Changed r) → next_draw stream ≡ Some (iv, left) → IsSealed p p' f r.page iv →
     TouchTurns (right_at p f) (next_draw stream) p p' f
 seal_state p p' f r iv stream left right drawn turns =
-    let T : Held → Option (List ℕ × Random) → Type 0 = λ h d. TouchTurns h d p p' f in
+    let T : FrameRight → Option (List ℕ × Random) → Type 0 = λ h d. TouchTurns h d p p' f in
     let by_draw : T (Changed r) (next_draw stream) =
     subst (λ (d : Option (List ℕ × Random)). T (Changed r) d) (sym drawn) turns in
-    subst (λ (h : Held). T h (next_draw stream)) (sym right.at) by_draw
+    subst (λ (h : FrameRight). T h (next_draw stream)) (sym right.at) by_draw
 
 pub sealed_follows : (p p' : PagerState) (f : ℕ) (r : Holding) (iv : List ℕ) (stream left : Random) →
     HasRight p f (Changed r) → next_draw stream ≡ Some (iv, left) → IsSealed p p' f r.page iv →

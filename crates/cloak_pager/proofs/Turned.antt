@@ -22,14 +22,14 @@ use Rattle.cloak_pager.specs.State.{PagerState, IsWholePager, IsWholeWithHomes, 
 use Rattle.cloak_pager.specs.State.{key_for, bytes_in, held_in}
 use Rattle.cloak_pager.specs.Turns.{Turns, frame_numbered, holding, IsResealed, IsSealed, IsWiped, IsPlaced, HoldsNow}
 use Rattle.cloak_pager.specs.Turns.{right_for, metas_with, shown_by_digest}
-use Rattle.cloak_pager.specs.declared.held.Held.{Held}
-use Rattle.cloak_pager.specs.declared.held.Held.TheVariants.{Outside, Clean, Changed, Spent}
+use Rattle.cloak_pager.specs.declared.frame_right.FrameRight.{FrameRight}
+use Rattle.cloak_pager.specs.declared.frame_right.FrameRight.TheVariants.{Outside, Clean, Changed, Spent}
 use Rattle.cloak_pager.specs.declared.offering.Offered.TheVariants.{Ready, Mismatch}
 use Rattle.cloak_pager.proofs.Pages.{with_page-same, with_page-other}
 use Rattle.cloak_pager.proofs.Keeping.{HasRight, named_as, whole_turned, noted_still, noted_new}
 
 -- the pager with these frames, with this right put in a place from which one was taken, and with this metadata
-abbrev pub put : PagerState → List (List ℕ) → ℕ → Held → Held → Table → PagerState
+abbrev pub put : PagerState → List (List ℕ) → ℕ → FrameRight → FrameRight → Table → PagerState
 put p frames f spent h table =
     record p { frames = frames; rights = slice_set (slice_set p.rights f spent) f h; table = table }
 
@@ -43,13 +43,13 @@ written frames frames' k f made is wrote =
 pub same_metas : (t : Table) → HasValues t t (meta_at t)
 same_metas t = record { values_are = λ o. refl; domains_stay = refl }
 
-pub turns_put : (p : PagerState) (frames' : List (List ℕ)) (f : ℕ) (spent h h' : Held) (bytes : List ℕ) (table' : Table)
+pub turns_put : (p : PagerState) (frames' : List (List ℕ)) (f : ℕ) (spent h h' : FrameRight) (bytes : List ℕ) (table' : Table)
     (metas : PageId → Option Meta) →
     frames' ≡ slice_set p.frames f bytes → h ≡ h' → HasValues p.table table' metas →
     Turns p (put p frames' f spent h table') (slice_set p.frames f bytes) (slice_set p.rights f h') metas
 turns_put p frames' f spent h h' bytes table' metas wrote is now = record {
   frames_are = wrote;
-  rights_are = set-set p.rights f spent h ∙ ap (λ (x : Held). slice_set p.rights f x) is;
+  rights_are = set-set p.rights f spent h ∙ ap (λ (x : FrameRight). slice_set p.rights f x) is;
   metas_are = now.values_are;
   domains_stay = now.domains_stay;
   keys_stay = refl;
@@ -57,7 +57,7 @@ turns_put p frames' f spent h h' bytes table' metas wrote is now = record {
 }
 
 -- the pager is kept with the homes that it has then
-pub kept_put : (p : PagerState) (homes homes' : HomeTable) (frames' : List (List ℕ)) (f : ℕ) (spent h h' : Held)
+pub kept_put : (p : PagerState) (homes homes' : HomeTable) (frames' : List (List ℕ)) (f : ℕ) (spent h h' : FrameRight)
     (bytes : List ℕ) (table' : Table) (metas : PageId → Option Meta) →
     IsWholeWithHomes p homes → f < length p.frames →
     Turns p (put p frames' f spent h table') (slice_set p.frames f bytes) (slice_set p.rights f h') metas →
@@ -80,21 +80,21 @@ pub holding_is : (r : Holding) (f : ℕ) (q : PageId) → r.frame.0 ≡ f → r.
 holding_is r f q is of = λ i. record { frame = frame_numbered (is i); page = of i }
 
 -- what is said of a page that is held is said of the page of the right
-pub of_held : {p : PagerState} {f : ℕ} {h : Held} (q : PageId) (P : PageId → Type 0) → HasRight p f h →
+pub of_held : {p : PagerState} {f : ℕ} {h : FrameRight} (q : PageId) (P : PageId → Type 0) → HasRight p f h →
     page_of h ≡ Some q → P q → (o : PageId) → held_in p f ≡ Some o → P o
 of_held q P right page here o held =
     let same : q ≡ o = (let e = sym page ∙ (sym (ap page_of right.at) ∙ held) in cc) in
     subst P same here
 
 -- a frame goes outside: kept, whatever it shows
-pub kept_outside : (p : PagerState) (homes : HomeTable) (frames' : List (List ℕ)) (f : ℕ) (spent : Held) (out : Frame)
+pub kept_outside : (p : PagerState) (homes : HomeTable) (frames' : List (List ℕ)) (f : ℕ) (spent : FrameRight) (out : Frame)
     (bytes : List ℕ) (table' : Table) (metas : PageId → Option Meta) →
     IsWholeWithHomes p homes → f < length p.frames → out.0 ≡ f → frames' ≡ slice_set p.frames f bytes →
     HasValues p.table table' metas → ((o : PageId) → meta_at p.table o ≢ None → metas o ≢ None) →
     IsWholeWithHomes (put p frames' f spent (Outside out) table') homes
 kept_outside p homes frames' f spent out bytes table' metas k inside is wrote now keeps =
     let there : f < length p.rights = rw k.whole.count inside in
-    let outside : Held = Outside (frame_numbered f) in
+    let outside : FrameRight = Outside (frame_numbered f) in
     kept_put p homes homes frames' f spent (Outside out) outside bytes table' metas k inside
     (turns_put p frames' f spent (Outside out) outside bytes table' metas wrote (outside_is out f is) now)
     refl keeps (λ g o n e. absurd (let no : None ≡ Some o = e in cc))
@@ -116,7 +116,7 @@ set_keeps m q t o there =
 -- Resealing.
 
 pub reseal_kept : {p : PagerState} {homes : HomeTable} {frames' : List (List ℕ)} {f : ℕ} {r : Holding} {out : Frame}
-    (key : List ℕ) (t : Meta) (spent : Held) →
+    (key : List ℕ) (t : Meta) (spent : FrameRight) →
     IsWholeWithHomes p homes → HasRight p f (Clean r) →
     frames' ≡ slice_set p.frames r.frame.0 (cbc key t.iv (bytes_in p r.frame.0)) → out ≡ r.frame →
     IsWholeWithHomes (put p frames' f spent (Outside out) p.table) homes
@@ -127,7 +127,7 @@ reseal_kept {p} {homes} {frames'} {f} {r} {out} key t spent k right wrote is =
     (same_metas p.table) (λ o n. n)
 
 pub reseal_turns : {p : PagerState} {frames' : List (List ℕ)} {f : ℕ} {r : Holding} {t : Meta} {out : Frame}
-    {key : List ℕ} (spent : Held) →
+    {key : List ℕ} (spent : FrameRight) →
     HasRight p f (Clean r) → key ≡ key_for p r.page → meta_at p.table r.page ≡ Some t →
     frames' ≡ slice_set p.frames r.frame.0 (cbc key t.iv (bytes_in p r.frame.0)) → out ≡ r.frame → (q : PageId) →
     held_in p f ≡ Some q → IsResealed p (put p frames' f spent (Outside out) p.table) f q
@@ -145,7 +145,7 @@ reseal_turns {p} {frames'} {f} {r} {t} {out} {key} spent right under meta wrote 
 -- Sealing.
 
 pub seal_kept : {p : PagerState} {homes : HomeTable} {frames' : List (List ℕ)} {f : ℕ} {r : Holding} {table' : Table}
-    {out : Frame} (key iv : List ℕ) (page : PageId) (t : Meta) (spent : Held) →
+    {out : Frame} (key iv : List ℕ) (page : PageId) (t : Meta) (spent : FrameRight) →
     IsWholeWithHomes p homes → HasRight p f (Changed r) →
     frames' ≡ slice_set p.frames r.frame.0 (cbc key iv (bytes_in p r.frame.0)) →
     HasValues p.table table' (with_page (meta_at p.table) page (Some t)) → out ≡ r.frame →
@@ -158,7 +158,7 @@ seal_kept {p} {homes} {frames'} {f} {r} {table'} {out} key iv page t spent k rig
     (set_keeps (meta_at p.table) page t)
 
 pub seal_turns : {p : PagerState} {frames' : List (List ℕ)} {f : ℕ} {r : Holding} {iv : List ℕ} {table' : Table}
-    {page : PageId} {out : Frame} {key : List ℕ} (t : Meta) (spent : Held) →
+    {page : PageId} {out : Frame} {key : List ℕ} (t : Meta) (spent : FrameRight) →
     HasRight p f (Changed r) → key ≡ key_for p page →
     frames' ≡ slice_set p.frames r.frame.0 (cbc key iv (bytes_in p r.frame.0)) →
     t.digest ≡ sha256 (cbc key iv (bytes_in p r.frame.0)) → t.iv ≡ iv → page ≡ r.page →
@@ -186,7 +186,7 @@ seal_turns {p} {frames'} {f} {r} {iv} {table'} {page} {out} {key} t spent right 
 -- Wiping.
 
 pub wipe_kept : {p : PagerState} {homes : HomeTable} {frames' : List (List ℕ)} {f : ℕ} {r : Holding} {out : Frame}
-    (spent : Held) →
+    (spent : FrameRight) →
     IsWholeWithHomes p homes → HasRight p f (Changed r) → frames' ≡ slice_set p.frames r.frame.0 zero_page →
     out ≡ r.frame → IsWholeWithHomes (put p frames' f spent (Outside out) p.table) homes
 wipe_kept {p} {homes} {frames'} {f} {r} {out} spent k right wrote is =
@@ -195,7 +195,7 @@ wipe_kept {p} {homes} {frames'} {f} {r} {out} spent k right wrote is =
     (ap (λ (x : Frame). x.0) is ∙ here) (written p.frames frames' r.frame.0 f (λ old. zero_page) here wrote)
     (same_metas p.table) (λ o n. n)
 
-pub wipe_turns : {p : PagerState} {frames' : List (List ℕ)} {f : ℕ} {r : Holding} {out : Frame} (spent : Held) →
+pub wipe_turns : {p : PagerState} {frames' : List (List ℕ)} {f : ℕ} {r : Holding} {out : Frame} (spent : FrameRight) →
     HasRight p f (Changed r) → frames' ≡ slice_set p.frames r.frame.0 zero_page → out ≡ r.frame →
     IsWiped p (put p frames' f spent (Outside out) p.table) f
 wipe_turns {p} {frames'} {f} {r} {out} spent right wrote is =
@@ -206,7 +206,7 @@ wipe_turns {p} {frames'} {f} {r} {out} spent right wrote is =
 
 -- Changing.
 
-pub change_turns : {p : PagerState} {f : ℕ} {r n : Holding} (spent : Held) → HasRight p f (Clean r) → n ≡ r →
+pub change_turns : {p : PagerState} {f : ℕ} {r n : Holding} (spent : FrameRight) → HasRight p f (Clean r) → n ≡ r →
     (q : PageId) → held_in p f ≡ Some q →
     HoldsNow p (put p p.frames f spent (Changed n) p.table) q f true (bytes_in p f)
 change_turns {p} {f} {r} {n} spent right is =
@@ -217,7 +217,7 @@ change_turns {p} {f} {r} {n} spent right is =
     (sym (set-get_or p.frames f [])) (ap (λ (x : Holding). Changed x) (is ∙ holding_is r f r.page here refl))
     (same_metas p.table))
 
-pub change_kept : {p : PagerState} {homes : HomeTable} {f : ℕ} {r n : Holding} (spent : Held) →
+pub change_kept : {p : PagerState} {homes : HomeTable} {f : ℕ} {r n : Holding} (spent : FrameRight) →
     IsWholeWithHomes p homes → HasRight p f (Clean r) → n ≡ r →
     IsWholeWithHomes (put p p.frames f spent (Changed n) p.table) homes
 change_kept {p} {homes} {f} {r} {n} spent k right is =
@@ -233,14 +233,14 @@ change_kept {p} {homes} {f} {r} {n} spent k right is =
 
 -- A frame takes a page.
 
--- what becomes of the homes where a page that no frame held takes frame f
+-- what becomes of the homes when a page that no frame held takes frame f
 pub record TakesHome (p : PagerState) (homes homes' : HomeTable) (q : PageId) (f : ℕ) : Type 0 where
   pub page : IsIn p.table.domains q
   pub nowhere : (k : ℕ) → held_in p k ≢ Some q
   pub noted : HasValues homes homes' (with_page (home_at homes) q (Some (frame_numbered f)))
 
 -- with a right for this frame and page, and the frame noted for the page
-pub take_kept : (p : PagerState) (homes homes' : HomeTable) (frames' : List (List ℕ)) (f : ℕ) (spent h h' : Held)
+pub take_kept : (p : PagerState) (homes homes' : HomeTable) (frames' : List (List ℕ)) (f : ℕ) (spent h h' : FrameRight)
     (q : PageId) (bytes : List ℕ) →
     IsWholeWithHomes p homes → f < length p.frames → frames' ≡ slice_set p.frames f bytes → h ≡ h' →
     Names p.table f h' → page_of h' ≡ Some q → TakesHome p homes homes' q f →
@@ -261,7 +261,7 @@ made_right {p} {f} {r} n q right is = is ∙ holding_is (record { frame = r; pag
 -- First use.
 
 pub first_kept : {p : PagerState} {homes homes' : HomeTable} {frames' : List (List ℕ)} {f : ℕ} {r : Frame} {n : Holding}
-    {q : PageId} (spent : Held) →
+    {q : PageId} (spent : FrameRight) →
     IsWholeWithHomes p homes → HasRight p f (Outside r) → frames' ≡ slice_set p.frames r.0 zero_page →
     n ≡ record { frame = r; page = q } → TakesHome p homes homes' q f →
     IsWholeWithHomes (put p frames' f spent (Changed n) p.table) homes'
@@ -272,7 +272,7 @@ first_kept {p} {homes} {homes'} {frames'} {f} {r} {n} {q} spent k right wrote is
     (refl, takes.page) refl takes
 
 pub first_turns : {p : PagerState} {frames' : List (List ℕ)} {f : ℕ} {r : Frame} {n : Holding} {q : PageId}
-    (spent : Held) →
+    (spent : FrameRight) →
     HasRight p f (Outside r) → frames' ≡ slice_set p.frames r.0 zero_page → n ≡ record { frame = r; page = q } →
     HoldsNow p (put p frames' f spent (Changed n) p.table) q f true zero_page
 first_turns {p} {frames'} {f} {r} {n} {q} spent right wrote is =
@@ -291,7 +291,7 @@ opened_here frames frames' key iv k f is opens =
     subst O is opens
 
 pub open_kept : {p : PagerState} {homes homes' : HomeTable} {frames' : List (List ℕ)} {f : ℕ} {r : Frame} {n : Holding}
-    {q : PageId} {t : Meta} {key : List ℕ} (spent : Held) →
+    {q : PageId} {t : Meta} {key : List ℕ} (spent : FrameRight) →
     IsWholeWithHomes p homes → HasRight p f (Outside r) → meta_at p.table q ≡ Some t →
     OpensTo key t.iv (bytes_in p r.0) (λ plain. frames' ≡ slice_set p.frames r.0 plain) →
     n ≡ record { frame = r; page = q } → TakesHome p homes homes' q f →
@@ -303,7 +303,7 @@ open_kept {p} {homes} {homes'} {frames'} {f} {r} {n} {q} {t} {key} spent k right
     (refl, takes.page, λ none. (let no : None ≡ Some t = sym none ∙ shown in cc)) refl takes
 
 pub open_turns : {p : PagerState} {f : ℕ} {r : Frame} {n : Holding} {q : PageId} {key : List ℕ}
-    (frames' : List (List ℕ)) (t : Meta) (spent : Held) →
+    (frames' : List (List ℕ)) (t : Meta) (spent : FrameRight) →
     HasRight p f (Outside r) → key ≡ key_for p q →
     OpensTo key t.iv (bytes_in p r.0) (λ plain. frames' ≡ slice_set p.frames r.0 plain) →
     n ≡ record { frame = r; page = q } →
@@ -317,19 +317,19 @@ open_turns {p} {f} {r} {n} {q} {key} frames' t spent right under opens is =
     (ap (λ (x : Holding). Clean x) (made_right n q right is)) (same_metas p.table) in
     (made.0, made.1, turns)
 
--- what is so of the bytes under an outside right is so of the frame's
+-- what is true of the bytes under an outside right is true of the frame's
 pub seen_outside : {p : PagerState} {f : ℕ} {r : Frame} (P : List ℕ → Type 0) → HasRight p f (Outside r) →
     P (bytes_in p r.0) → P (bytes_in p f)
 seen_outside {p} P right so = let Q : ℕ → Type 0 = λ k. P (bytes_in p k) in subst Q (named_as right) so
 
 -- a right that was taken out and put back changes nothing
-pub put_back : {p : PagerState} {frames' : List (List ℕ)} {f : ℕ} {r same : Frame} (spent : Held) →
+pub put_back : {p : PagerState} {frames' : List (List ℕ)} {f : ℕ} {r same : Frame} (spent : FrameRight) →
     HasRight p f (Outside r) → (same ≡ r) × (frames' ≡ p.frames) → put p frames' f spent (Outside same) p.table ≡ p
 put_back {p} {frames'} {f} {r} {same} spent right is =
     let back : Outside same ≡ right_at p f = ap (λ (x : Frame). Outside x) is.0 ∙ sym right.at in
     let rights : slice_set (slice_set p.rights f spent) f (Outside same) ≡ p.rights =
     set-set p.rights f spent (Outside same)
-    ∙ (ap (λ (x : Held). slice_set p.rights f x) back ∙ set-get_or p.rights f Spent) in
+    ∙ (ap (λ (x : FrameRight). slice_set p.rights f x) back ∙ set-get_or p.rights f Spent) in
     λ i. record p { frames = is.1 i; rights = rights i }
 
 -- Placing.
@@ -364,11 +364,11 @@ changed_then p p' p'' g q plain inside t u =
     let again : slice_set p'.frames g (bytes_in p' g) ≡ slice_set p.frames g plain =
     ap (λ (x : List ℕ). slice_set p'.frames g x) here
     ∙ (ap (λ (x : List (List ℕ)). slice_set x g plain) t.frames_are ∙ set-set p.frames g plain plain) in
-    let changed : Held = Changed (holding g q) in
+    let changed : FrameRight = Changed (holding g q) in
     record {
       frames_are = u.frames_are ∙ again;
       rights_are =
-          u.rights_are ∙ (ap (λ (x : List Held). slice_set x g changed) t.rights_are
+          u.rights_are ∙ (ap (λ (x : List FrameRight). slice_set x g changed) t.rights_are
           ∙ set-set p.rights g (Clean (holding g q)) changed);
       metas_are = λ o. u.metas_are o ∙ t.metas_are o;
       domains_stay = u.domains_stay ∙ t.domains_stay;

@@ -24,14 +24,14 @@ use Rattle.cloak_pager.specs.Turns.{HasBytes}
 use Rattle.cloak_pager.specs.Relation.{StandsForMemory, FrameStands, PageStands}
 use Rattle.cloak_pager.specs.Asking.{FollowsCallStill, PageWrite, with_write, after_write_plain, after_write_outside}
 use Rattle.cloak_pager.specs.Asking.{after_fill_outside, ReadsNewest}
-use Rattle.cloak_pager.specs.declared.held.Held.{Held}
-use Rattle.cloak_pager.specs.declared.held.Held.TheVariants.{Outside, Clean, Changed, Spent}
+use Rattle.cloak_pager.specs.declared.frame_right.FrameRight.{FrameRight}
+use Rattle.cloak_pager.specs.declared.frame_right.FrameRight.TheVariants.{Outside, Clean, Changed, Spent}
 use Rattle.cloak_pager.proofs.Pages.{with_page-same, with_page-other}
 use Rattle.cloak_pager.proofs.Keeping.{HasRight, named_as, right_seen, outside_right, whole_still}
 use Rattle.cloak_pager.proofs.Stands.{stands_turned, owed_by_right, owed_held, page_as, vector_stays}
 
 -- a frame that holds a page is one of the frames
-pub held_within : (rights : List Held) (f : ℕ) (q : PageId) → page_of (get_or rights f Spent) ≡ Some q →
+pub held_within : (rights : List FrameRight) (f : ℕ) (q : PageId) → page_of (get_or rights f Spent) ≡ Some q →
     f < length rights
 held_within rights f q e =
     elim (cases_lt f (length rights)) [
@@ -71,7 +71,7 @@ stands_filled p p' f bytes whole t inside none w m s =
     let out = outside_right p whole f inside none in
     let in_ram : f < length m.ram = rw s.count inside in
     let owes : owed_in m f ≡ None = owed_by_right p w m s f ∙ ap owed_under out.1.at in
-    let R : Held → Type 0 = λ h. slice_set p.rights f h ≡ p.rights in
+    let R : FrameRight → Type 0 = λ h. slice_set p.rights f h ≡ p.rights in
     let O : Option PageId → Type 0 = λ o. slice_set m.ledger.owed f o ≡ m.ledger.owed in
     stands_turned p p' w w m (with_shown_frame f bytes m) f (Outside out.0) bytes None s (record {
       whole = whole_written p p' f bytes whole t;
@@ -107,7 +107,7 @@ pub outside_seen : (p : PagerState) (f : ℕ) → f < length p.frames → held_i
     (w : PageId → Bool) (m : CloakedMemory) → StandsForMemory p w m → bytes_in p f ≡ get_or m.ram f []
 outside_seen p f inside none w m s =
     let out = outside_right p s.whole f inside none in
-    let F : Held → Type 0 = λ h. FrameStands p w m f h in
+    let F : FrameRight → Type 0 = λ h. FrameStands p w m f h in
     subst F out.1.at (s.frames f inside)
 
 pub follows_write : (p p' : PagerState) (f : ℕ) (x : PageWrite) → IsWholePager p →
@@ -124,7 +124,7 @@ follows_write p p' f x whole t inside none w m s =
     }
 
 -- what the body of a store sees: the bytes went to the frame of the right that stood at the number
-pub put_outside : (p now : PagerState) (f : ℕ) (seen : Held) (r : Frame) (old bytes bytes' : List ℕ) → p ≡ now →
+pub put_outside : (p now : PagerState) (f : ℕ) (seen : FrameRight) (r : Frame) (old bytes bytes' : List ℕ) → p ≡ now →
     IsWholePager p → f < length now.frames → seen ≡ get_or p.rights f seen → seen ≡ Outside r →
     slice_get p.frames r.0 ≡ Some old → (bytes_in now f ≡ old → bytes' ≡ bytes) →
     HasBytes now (record p { frames = slice_set p.frames r.0 bytes' }) f bytes
@@ -140,7 +140,7 @@ whole_now p now view w = subst IsWholePager view w
 -- Plain bytes.
 
 -- a right by which a frame is owed a page
-pub changed_if : (h : Held) (q : PageId) → owed_under h ≡ Some q → (r : Holding) × (h ≡ Changed r) × (r.page ≡ q)
+pub changed_if : (h : FrameRight) (q : PageId) → owed_under h ≡ Some q → (r : Holding) × (h ≡ Changed r) × (r.page ≡ q)
 changed_if (Outside r) q e = absurd (cc)
 changed_if (Clean r) q e = absurd (cc)
 changed_if (Changed r) q e = (r, refl, (cc))
@@ -163,12 +163,12 @@ pub owing : (p now : PagerState) (q : PageId) (f : ℕ) → p ≡ now → IsWhol
 owing p now q f view w owes = owing_here p w q f (rw (← view) at owes)
 
 -- the right that is seen at a place
-pub seen_right : (p : PagerState) (f : ℕ) (seen : Held) → IsWholePager p → f < length p.frames →
+pub seen_right : (p : PagerState) (f : ℕ) (seen : FrameRight) → IsWholePager p → f < length p.frames →
     seen ≡ get_or p.rights f seen → HasRight p f seen
 seen_right p f seen w inside e = right_seen f seen refl w inside e refl
 
--- and what is so of the right that is seen there
-pub owing_seen : {p : PagerState} {q : PageId} {f : ℕ} (seen : Held) → Owing p q f → seen ≡ get_or p.rights f seen →
+-- and what is true of the right that is seen there
+pub owing_seen : {p : PagerState} {q : PageId} {f : ℕ} (seen : FrameRight) → Owing p q f → seen ≡ get_or p.rights f seen →
     (r : Holding) × (seen ≡ Changed r) × (r.frame.0 ≡ f)
 owing_seen {p} {q} {f} seen o e =
     let there : right_at p f ≡ seen = (seen_right p f seen o.has.whole o.has.inside e).at in
@@ -178,18 +178,18 @@ pub right_there : {p : PagerState} {q : PageId} {f : ℕ} (n : ℕ) → Owing p 
 right_there n o is = rw (is, o.has.whole.count) o.has.inside
 
 -- the frame of the changed right that is seen there
-pub frame_is : {p : PagerState} {q : PageId} {f : ℕ} (seen : Held) (r : Holding) → Owing p q f →
+pub frame_is : {p : PagerState} {q : PageId} {f : ℕ} (seen : FrameRight) (r : Holding) → Owing p q f →
     seen ≡ get_or p.rights f seen → seen ≡ Changed r → r.frame.0 ≡ f
 frame_is seen r o e is =
     let s = owing_seen seen o e in
     let one : r ≡ s.0 = (let s' = s.1 in cc) in
     ap (λ (x : Holding). x.frame.0) one ∙ s.2
 
-pub frame_there : {p : PagerState} {q : PageId} {f : ℕ} (seen : Held) (r : Holding) → Owing p q f →
+pub frame_there : {p : PagerState} {q : PageId} {f : ℕ} (seen : FrameRight) (r : Holding) → Owing p q f →
     seen ≡ get_or p.rights f seen → seen ≡ Changed r → r.frame.0 < length p.frames
 frame_there seen r o e is = rw (frame_is seen r o e is) o.has.inside
 
-pub put_plain : (p now : PagerState) (q : PageId) (f : ℕ) (seen : Held) (r : Holding) (old bytes' : List ℕ)
+pub put_plain : (p now : PagerState) (q : PageId) (f : ℕ) (seen : FrameRight) (r : Holding) (old bytes' : List ℕ)
     (change : List ℕ → List ℕ) →
     p ≡ now → IsWholePager p → seen ≡ get_or p.rights f seen → seen ≡ Changed r →
     slice_get p.frames r.frame.0 ≡ Some old → bytes' ≡ change old → owed_at now f ≡ Some q →
@@ -249,7 +249,7 @@ pub held_newest : (p : PagerState) (w : PageId → Bool) (m : CloakedMemory) →
 held_newest p w m s f q held kept =
     newest (right_at p f) (s.frames f (rw (← s.whole.count) (held_within p.rights f q held))) held
   where
-    newest : (h : Held) → FrameStands p w m f h → page_of h ≡ Some q → bytes_in p f ≡ m.plain q
+    newest : (h : FrameRight) → FrameStands p w m f h → page_of h ≡ Some q → bytes_in p f ≡ m.plain q
     newest (Outside r) t e = absurd (cc)
     newest (Clean r) t e = let one : r.page ≡ q = cc in t.newest (ap w one ∙ kept) ∙ ap m.plain one
     newest (Changed r) t e = let one : r.page ≡ q = cc in t (ap w one ∙ kept) ∙ ap m.plain one
@@ -268,7 +268,7 @@ stands_written p p' q f x whole t owes fits w m s =
     let owes' : owed_in m f ≡ Some q = owed_by_right p w m s f ∙ owes in
     let new_here : m'.plain q ≡ new = with_page-same m.plain q new in
     let inside : f < length p.frames = o.has.inside in
-    let R : Held → Type 0 = λ h. slice_set p.rights f h ≡ p.rights in
+    let R : FrameRight → Type 0 = λ h. slice_set p.rights f h ≡ p.rights in
     let O : Option PageId → Type 0 = λ x. slice_set m.ledger.owed f x ≡ m.ledger.owed in
     stands_turned p p' w w m m' f (Changed o.right) bytes (Some q) s (record {
       whole = whole_written p p' f bytes whole t;
@@ -324,26 +324,26 @@ reading p now q f view w held =
     rw (← w.count) (held_within p.rights f q at)
 
 -- the frame of a right, by its kind
-abbrev pub number_of : Held → ℕ
+abbrev pub number_of : FrameRight → ℕ
 number_of (Outside r) = r.0
 number_of (Clean r) = r.frame.0
 number_of (Changed r) = r.frame.0
 number_of Spent = 0
 
-number_named : (p : PagerState) (f : ℕ) (h : Held) → Names p.table f h → number_of h ≡ f
+number_named : (p : PagerState) (f : ℕ) (h : FrameRight) → Names p.table f h → number_of h ≡ f
 number_named p f (Outside r) n = n
 number_named p f (Clean r) n = n.0
 number_named p f (Changed r) n = n.0
 number_named p f Spent n = absurd n
 
 -- the bytes that the body of a read sees are those of the frame that holds the page
-pub read_value : (p now : PagerState) (q : PageId) (f : ℕ) (seen h : Held) (k : ℕ) (bytes : List ℕ) (read : List ℕ → ℕ)
+pub read_value : (p now : PagerState) (q : PageId) (f : ℕ) (seen h : FrameRight) (k : ℕ) (bytes : List ℕ) (read : List ℕ → ℕ)
     (value : ℕ) →
     p ≡ now → IsWholePager p → seen ≡ get_or p.rights f seen → seen ≡ h → number_of h ≡ k →
     slice_get p.frames k ≡ Some bytes → value ≡ read bytes → held_in now f ≡ Some q → value ≡ read (bytes_in now f)
 read_value p now q f seen h k bytes read value view w e is number there value_is held =
     let inside = reading p now q f view w held in
-    let right : HasRight p f h = subst (λ (x : Held). HasRight p f x) is (seen_right p f seen w inside e) in
+    let right : HasRight p f h = subst (λ (x : FrameRight). HasRight p f x) is (seen_right p f seen w inside e) in
     let at_f : k ≡ f = sym number ∙ number_named p f h (named_as right) in
     let S : ℕ → Type 0 = λ x. slice_get p.frames x ≡ Some bytes in
     let here : bytes_in p f ≡ bytes = get_or_from_slice_get p.frames f bytes [] (subst S at_f there) in

@@ -31,7 +31,7 @@ pub record ToldCall (A : Type 0) : Type 0 where
 abbrev pub AskingCall : Type 0 → Type 0
 AskingCall A = (PageId → Bool) → CloakedMemory → ToldCall A
 
--- A call that left the pager so, and this of the stream, and gave this answer did what the rules tell.
+-- A call that left the pager like this, and this much of the stream, and returned this answer did what the rules tell.
 pub record FollowsCallFrom {A : Type 0} (new : PagerState) (left : Random) (given : A) (told : ToldCall A) : Type 0 where
   pub answer : given ≡ told.answer
   pub stands : StandsForMemory new told.wiped told.memory
@@ -49,7 +49,7 @@ FollowsCallStill {A} old new given ask =
     (wiped : PageId → Bool) (m : CloakedMemory) → StandsForMemory old wiped m →
     FollowsCallFrom new m.ledger.stream given (ask wiped m)
 
--- the same where no two different pages with one digest were compared
+-- the same if no two different pages with one digest were compared
 abbrev pub FollowsCallUnclashed : {A : Type 0} → PagerState → PagerState → A → AskingCall A → Type 0
 FollowsCallUnclashed {A} old new given ask =
     (wiped : PageId → Bool) (m : CloakedMemory) → StandsForMemory old wiped m →
@@ -57,7 +57,7 @@ FollowsCallUnclashed {A} old new given ask =
 
 -- Touching.
 
--- the page that was due is wiped where its draw was missing
+-- the page that was due is wiped if its draw was missing
 abbrev pub wiped_with : Bool → Option PageId → (PageId → Bool) → PageId → Bool
 wiped_with false owed wiped = wiped
 wiped_with true None wiped = wiped
@@ -90,7 +90,7 @@ answer_of Mismatch = ([], Refused)
 
 -- Placing and restoring.
 
--- whether the page was placed; where no draw was left nothing changes
+-- whether the page was placed; if no draw was left, nothing changes
 abbrev pub after_place : PageId → ℕ → List ℕ → AskingCall Bool
 after_place q f bytes wiped m =
     let o = place q f bytes m in record { answer = is_some o; wiped = wiped; memory = unwrap_or o m }
@@ -115,7 +115,7 @@ abbrev pub KnowsContent : PagerState → PageId → Option Meta → Type 0
 KnowsContent p q t =
     (wiped : PageId → Bool) (m : CloakedMemory) → StandsForMemory p wiped m → TellsContent (wiped q) m q t
 
--- Reading and writing. A call that answers nothing answers `tt`.
+-- Reading and writing. The answer of a call that returns nothing is `tt`.
 
 -- a page whose newest bytes are not lost is read as these
 abbrev pub ReadsNewest : PagerState → PageId → ℕ → ℕ → ℕ → Type 0
@@ -169,7 +169,7 @@ after_close wiped m = record { answer = tt; wiped = wiped; memory = m }
 
 -- Opening.
 
--- the memory of so many frames at first, under these keys: nothing recorded, nothing owed, all zeros
+-- the memory of this many frames at first, under these keys: nothing recorded, nothing owed, all zeros
 pub record IsBlank (frames : ℕ) (keys : Keys) (m : CloakedMemory) : Type 0 where
   pub keys_are : m.ledger.keys ≡ keys
   pub ram : m.ram ≡ replicate frames zero_page

@@ -35,7 +35,7 @@ pub data Call : Type 0 where
   DropPages : ℕ → ℕ → Call
   Close : Call
 
--- what a call answers; `tt` where it answers nothing
+-- what a call returns; `tt` if it returns nothing
 abbrev pub AnswerTo : Call → Type 0
 AnswerTo (Touch f) = Touched
 AnswerTo (Offer q g write) = Offered
@@ -51,19 +51,19 @@ AnswerTo (CopyPages domain from to) = Unit {0}
 AnswerTo (DropPages domain resource) = Unit {0}
 AnswerTo Close = Unit {0}
 
--- a call, its answer, and the pager and the stream behind it
+-- a call, its answer, and the pager and the stream after it
 pub record Step : Type 0 where
   pub call : Call
   pub answer : AnswerTo call
   pub pager : PagerState
   pub stream : Random
 
--- a call that takes no stream and answers nothing follows its rule, and the stream is as it was
+-- a call that takes no stream and returns nothing follows its rule, and the stream is as it was
 abbrev pub KeepsRule : PagerState → Random → PagerState → Random → AskingCall (Unit {0}) → Type 0
 KeepsRule old stream new left ask = FollowsCallStill old new tt ask × (left ≡ stream)
 
--- The call did what its contract ensures of the rules of cloaking. The stream behind a call that takes none is the one
--- before it. Who restores a page owes its content, which is sealed under the page's key, and of which it has the metadata.
+-- The call did what its contract ensures of the rules of cloaking. The stream after a call that takes none is the one
+-- before it. Whoever restores a page owes its content, which is sealed under the page's key and has the metadata given.
 abbrev pub KeptBy : PagerState → Random → PagerState → Random → (call : Call) → AnswerTo call → Type 0
 KeptBy old stream new left (Touch f) answer = FollowsCall old stream new left (shown_by answer f new) (after_touch f)
 KeptBy old stream new left (Offer q g write) answer =
@@ -89,7 +89,7 @@ abbrev pub AllKept : PagerState → Random → List Step → Type 0
 AllKept p stream [] = Unit {0}
 AllKept p stream (s ∷ steps) = KeptBy p stream s.pager s.stream s.call s.answer × AllKept s.pager s.stream steps
 
--- the pager and the stream behind the last call
+-- the pager and the stream after the last call
 abbrev pub pager_after : PagerState → List Step → PagerState
 pager_after p [] = p
 pager_after p (s ∷ steps) = pager_after s.pager steps
@@ -145,7 +145,7 @@ IsTold (CopyPages domain from to) answer new wiped m = Unit {0}
 IsTold (DropPages domain resource) answer new wiped m = Unit {0}
 IsTold Close answer new wiped m = Unit {0}
 
--- each answer is
+-- each answer is the one that the rules tell
 abbrev pub AllTold : List Step → (PageId → Bool) → CloakedMemory → Type 0
 AllTold [] wiped m = Unit {0}
 AllTold (s ∷ steps) wiped m =

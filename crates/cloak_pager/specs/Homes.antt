@@ -7,6 +7,6 @@ use Rattle.protect_meta.specs.PageRow.{PageRow, at_page}
 abbrev pub HomeTable : Type 0
 HomeTable = PageRow Frame
 
--- the frame that was noted for a page; none where there is no such page
+-- the frame that was noted for a page; none if there is no such page
 abbrev pub home_at : HomeTable → PageId → Option Frame
 home_at t = at_page t

@@ -12,14 +12,14 @@ use Rattle.cloak_model.specs.Cloaking.{CloakedMemory, owed_in}
 use Rattle.cloak_base.specs.declared.names.Meta.{Meta}
 use Rattle.protect_meta.specs.Table.{meta_at}
 use Rattle.cloak_pager.specs.State.{PagerState, IsWholePager, owed_under, right_at, bytes_in}
-use Rattle.cloak_pager.specs.declared.held.Held.{Held}
-use Rattle.cloak_pager.specs.declared.held.Held.TheVariants.{Outside, Clean, Changed, Spent}
+use Rattle.cloak_pager.specs.declared.frame_right.FrameRight.{FrameRight}
+use Rattle.cloak_pager.specs.declared.frame_right.FrameRight.TheVariants.{Outside, Clean, Changed, Spent}
 
 -- no frame is owed page q
 abbrev pub IsUnowed : CloakedMemory → PageId → Type 0
 IsUnowed m q = (f : ℕ) → owed_in m f ≢ Some q
 
--- Frame f holds page q unchanged: its newest bytes, where they are not lost, while the kernel sees the ciphertext last
+-- Frame f holds page q unchanged: its newest bytes, if they are not lost, while the kernel sees the ciphertext last
 -- shown, which is that of the bytes held.
 pub record HoldsClean (p : PagerState) (lost : Bool) (m : CloakedMemory) (f : ℕ) (q : PageId) : Type 0 where
   pub newest : lost ≡ false → bytes_in p f ≡ m.plain q
@@ -29,7 +29,7 @@ pub record HoldsClean (p : PagerState) (lost : Bool) (m : CloakedMemory) (f : �
       cbc (key_of m.ledger q) t.iv (bytes_in p f) ≡ slice_index_or m.ram f []
 
 -- what frame f holds under this right
-abbrev pub FrameStands : PagerState → (PageId → Bool) → CloakedMemory → ℕ → Held → Type 0
+abbrev pub FrameStands : PagerState → (PageId → Bool) → CloakedMemory → ℕ → FrameRight → Type 0
 FrameStands p wiped m f (Outside r) = bytes_in p f ≡ slice_index_or m.ram f []
 FrameStands p wiped m f (Clean r) = HoldsClean p (wiped r.page) m f r.page
 FrameStands p wiped m f (Changed r) = wiped r.page ≡ false → bytes_in p f ≡ m.plain r.page
@@ -42,7 +42,7 @@ pub record IsRecorded (lost : Bool) (m : CloakedMemory) (q : PageId) (t : Meta) 
   pub digest : sha256 bytes ≡ t.digest
   pub sealed : lost ≡ false → IsUnowed m q → bytes ≡ cbc (key_of m.ledger q) t.iv (m.plain q)
 
--- what is so of page q, by its metadata: without any it was never shown, and is zeros until a frame is owed it
+-- what is true of page q, by its metadata: without any it was never shown, and is zeros until a frame is owed it
 abbrev pub PageStands : Bool → CloakedMemory → PageId → Option Meta → Type 0
 PageStands lost m q None = (m.ledger.recorded q ≡ None) × (lost ≡ false → IsUnowed m q → m.plain q ≡ zero_page)
 PageStands lost m q (Some t) = IsRecorded lost m q t
@@ -51,12 +51,12 @@ PageStands lost m q (Some t) = IsRecorded lost m q t
 abbrev pub vector_in : Option Meta → Option (List ℕ)
 vector_in t = option_map (λ (x : Meta). x.iv) t
 
--- The pager stands for the memory. Of the wiped pages the newest bytes are lost: changed bytes of them were to be shown
--- and no draw was left. Of these alone nothing is said that has to do with their newest bytes.
+-- The pager stands for the memory. The newest bytes of the wiped pages are lost: changed bytes of them had to be shown
+-- and no draw was left. Only of these pages nothing is said about the newest bytes.
 pub record StandsForMemory (p : PagerState) (wiped : PageId → Bool) (m : CloakedMemory) : Type 0 where
   pub whole : IsWholePager p
   pub keys : m.ledger.keys ≡ p.keys
-  -- each frame holds what it is to hold, and is owed a page exactly where it holds one changed
+  -- each frame holds what it must hold, and is owed a page exactly if it holds a changed one
   pub count : length m.ram ≡ length p.frames
   pub frames : (f : ℕ) → f < length p.frames → FrameStands p wiped m f (right_at p f)
   pub owed : m.ledger.owed ≡ map owed_under p.rights
@@ -66,5 +66,5 @@ pub record StandsForMemory (p : PagerState) (wiped : PageId → Bool) (m : Cloak
   pub vectors : (q : PageId) → m.ledger.iv q ≡ vector_in (meta_at p.table q)
   -- the newest bytes of a page are a page
   pub plain : (q : PageId) → wiped q ≡ false → IsBytes 4096 (m.plain q)
-  -- a page is wiped only where no draw is left
+  -- a page is wiped only if no draw is left
   pub drained : (q : PageId) → wiped q ≡ true → next_draw m.ledger.stream ≡ None

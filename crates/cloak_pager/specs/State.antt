@@ -6,13 +6,13 @@ use Rattle.cloak_model.specs.Ledger.{Keys, key_in}
 use Rattle.protect_meta.specs.Pages.{IsIn}
 use Rattle.protect_meta.specs.Table.{Table, meta_at, domains_of}
 use Rattle.cloak_pager.specs.Homes.{HomeTable, home_at}
-use Rattle.cloak_pager.specs.declared.held.Held.{Held}
-use Rattle.cloak_pager.specs.declared.held.Held.TheVariants.{Outside, Clean, Changed, Spent}
+use Rattle.cloak_pager.specs.declared.frame_right.FrameRight.{FrameRight}
+use Rattle.cloak_pager.specs.declared.frame_right.FrameRight.TheVariants.{Outside, Clean, Changed, Spent}
 
 pub record PagerState : Type 0 where
   -- the bytes of each frame, and its right
   pub frames : List (List ℕ)
-  pub rights : List Held
+  pub rights : List FrameRight
   -- the metadata of the pages that were shown
   pub table : Table
   pub keys : Keys
@@ -24,21 +24,21 @@ abbrev pub key_for : PagerState → PageId → List ℕ
 key_for p q = key_in p.keys q
 
 -- the page that is held under a right
-abbrev pub page_of : Held → Option PageId
+abbrev pub page_of : FrameRight → Option PageId
 page_of (Outside r) = None
 page_of (Clean r) = Some r.page
 page_of (Changed r) = Some r.page
 page_of Spent = None
 
 -- the page that a frame under this right has yet to show
-abbrev pub owed_under : Held → Option PageId
+abbrev pub owed_under : FrameRight → Option PageId
 owed_under (Outside r) = None
 owed_under (Clean r) = None
 owed_under (Changed r) = Some r.page
 owed_under Spent = None
 
 -- the right of a frame
-abbrev pub right_at : PagerState → ℕ → Held
+abbrev pub right_at : PagerState → ℕ → FrameRight
 right_at p f = slice_index_or p.rights f Spent
 
 -- the bytes in a frame
@@ -66,13 +66,13 @@ abbrev pub IsNoneHeld : PagerState → ℕ → ℕ → Type 0
 IsNoneHeld p domain resource = (k : ℕ) (q : PageId) → held_in p k ≡ Some q → is_of domain resource q ≡ false
 
 -- This right is one for frame k, of a page that there is. A page that is held unchanged has metadata.
-abbrev pub Names : Table → ℕ → Held → Type 0
+abbrev pub Names : Table → ℕ → FrameRight → Type 0
 Names t k (Outside r) = r.0 ≡ k
 Names t k (Clean r) = (r.frame.0 ≡ k) × IsIn (domains_of t) r.page × (meta_at t r.page ≢ None)
 Names t k (Changed r) = (r.frame.0 ≡ k) × IsIn (domains_of t) r.page
 Names t k Spent = ⊥
 
--- what is so of every pager
+-- what is true of every pager
 pub record IsWholePager (p : PagerState) : Type 0 where
   -- each frame has one right, which stands at its number
   pub count : length p.rights ≡ length p.frames
@@ -82,11 +82,11 @@ pub record IsWholePager (p : PagerState) : Type 0 where
   pub few : length p.frames ≤ 4096
 
 -- the frame that holds a page is the one noted for it
-abbrev pub AreNoted : HomeTable → List Held → Type 0
+abbrev pub AreNoted : HomeTable → List FrameRight → Type 0
 AreNoted homes rights =
     (k : ℕ) (q : PageId) → page_of (slice_index_or rights k Spent) ≡ Some q → home_at homes q ≡ Some (record { 0 = k })
 
--- what is so of a pager, with its index of homes
+-- what is true of a pager, with its index of homes
 pub record IsWholeWithHomes (p : PagerState) (homes : HomeTable) : Type 0 where
   pub whole : IsWholePager p
   pub noted : AreNoted homes p.rights

@@ -14,8 +14,8 @@ use Rattle.protect_meta.specs.Table.{meta_at, domains_of}
 use Rattle.frame_store.specs.Rights.{Holding}
 use Rattle.page_states.specs.Opening.{OpensTo}
 use Rattle.cloak_pager.specs.State.{PagerState, key_for, right_at, bytes_in, held_in}
-use Rattle.cloak_pager.specs.declared.held.Held.{Held}
-use Rattle.cloak_pager.specs.declared.held.Held.TheVariants.{Outside, Clean, Changed, Spent}
+use Rattle.cloak_pager.specs.declared.frame_right.FrameRight.{FrameRight}
+use Rattle.cloak_pager.specs.declared.frame_right.FrameRight.TheVariants.{Outside, Clean, Changed, Spent}
 use Rattle.cloak_pager.specs.declared.touching.Touched.{Touched}
 use Rattle.cloak_pager.specs.declared.touching.Touched.TheVariants.{Quiet, Resealed, Sealed, Wiped}
 use Rattle.cloak_pager.specs.declared.offering.Offered.{Offered}
@@ -23,7 +23,7 @@ use Rattle.cloak_pager.specs.declared.offering.Offered.TheVariants.{Ready, Misma
 
 -- The pager has these frames, these rights and this metadata now. The keys, and how many domains there are and how
 -- often frames were read, stay.
-pub record Turns (old new : PagerState) (frames : List (List ℕ)) (rights : List Held) (metas : PageId → Option Meta) :
+pub record Turns (old new : PagerState) (frames : List (List ℕ)) (rights : List FrameRight) (metas : PageId → Option Meta) :
     Type 0 where
   pub frames_are : new.frames ≡ frames
   pub rights_are : new.rights ≡ rights
@@ -48,13 +48,13 @@ frame_numbered f = record { 0 = f }
 abbrev pub holding : ℕ → PageId → Holding
 holding f q = record { frame = frame_numbered f; page = q }
 
-abbrev pub IsClean : Held → Type 0
+abbrev pub IsClean : FrameRight → Type 0
 IsClean (Outside r) = ⊥
 IsClean (Clean r) = Unit {0}
 IsClean (Changed r) = ⊥
 IsClean Spent = ⊥
 
-abbrev pub IsChanged : Held → Type 0
+abbrev pub IsChanged : FrameRight → Type 0
 IsChanged (Outside r) = ⊥
 IsChanged (Clean r) = ⊥
 IsChanged (Changed r) = Unit {0}
@@ -71,7 +71,7 @@ IsResealed old new f q =
     (t : Meta) × (meta_at old.table q ≡ Some t)
     × ShowsNow old new f (cbc (key_for old q) t.iv (bytes_in old f)) (meta_at old.table)
 
--- the metadata of the pages, where page q was shown as these bytes under this IV
+-- the metadata of the pages, when page q was shown as these bytes under this IV
 abbrev pub metas_with : PagerState → PageId → List ℕ → List ℕ → PageId → Option Meta
 metas_with p q iv bytes = with_page (meta_at p.table) q (Some (record { iv = iv; digest = sha256 bytes }))
 
@@ -87,22 +87,22 @@ IsWiped old new f = ShowsNow old new f zero_page (meta_at old.table)
 -- Touching.
 
 -- by the right of the frame and the draw that is there
-abbrev pub touched_by : Held → Option (List ℕ × Random) → Touched
+abbrev pub touched_by : FrameRight → Option (List ℕ × Random) → Touched
 touched_by (Outside r) draw = Quiet
 touched_by (Clean r) draw = Resealed
 touched_by (Changed r) (Some draw) = Sealed
 touched_by (Changed r) None = Wiped
 touched_by Spent draw = Quiet
 
-abbrev pub TouchTurns : Held → Option (List ℕ × Random) → PagerState → PagerState → ℕ → Type 0
+abbrev pub TouchTurns : FrameRight → Option (List ℕ × Random) → PagerState → PagerState → ℕ → Type 0
 TouchTurns (Outside r) draw old new f = new ≡ old
 TouchTurns (Clean r) draw old new f = IsResealed old new f r.page
 TouchTurns (Changed r) (Some draw) old new f = IsSealed old new f r.page draw.0
 TouchTurns (Changed r) None old new f = IsWiped old new f
 TouchTurns Spent draw old new f = ⊥
 
--- the stream behind a touch: only a changed frame takes a draw
-abbrev pub left_by : Held → Option (List ℕ × Random) → Random → Random
+-- the stream after a touch: only a changed frame takes a draw
+abbrev pub left_by : FrameRight → Option (List ℕ × Random) → Random → Random
 left_by (Changed r) (Some draw) stream = draw.1
 left_by (Changed r) None stream = stream
 left_by (Outside r) draw stream = stream
@@ -116,7 +116,7 @@ abbrev pub shown_by_digest : Meta → List ℕ → Offered
 shown_by_digest t bytes = if bytes_eq (sha256 bytes) t.digest then Ready else Mismatch
 
 -- by the right of the frame, the page's metadata and the bytes in the frame
-abbrev pub end_of_offer : Held → Option Meta → List ℕ → Offered
+abbrev pub end_of_offer : FrameRight → Option Meta → List ℕ → Offered
 end_of_offer (Outside r) (Some t) bytes = shown_by_digest t bytes
 end_of_offer (Outside r) None bytes = Ready
 end_of_offer (Clean r) shown bytes = Ready
@@ -124,7 +124,7 @@ end_of_offer (Changed r) shown bytes = Ready
 end_of_offer Spent shown bytes = Ready
 
 -- the right of a frame that holds page q, for writing as changed
-abbrev pub right_for : ℕ → PageId → Bool → Held
+abbrev pub right_for : ℕ → PageId → Bool → FrameRight
 right_for g q write = if write then Changed (holding g q) else Clean (holding g q)
 
 -- Frame g holds page q with these bytes, for writing as changed.
@@ -132,14 +132,14 @@ abbrev pub HoldsNow : PagerState → PagerState → PageId → ℕ → Bool → 
 HoldsNow old new q g write plain =
     Turns old new (slice_set old.frames g plain) (slice_set old.rights g (right_for g q write)) (meta_at old.table)
 
--- what an offer in an outside frame makes of the pager, where the page was shown
+-- what an offer in an outside frame makes of the pager, if the page was shown
 abbrev pub ShownTurns : Offered → Meta → Bool → PagerState → PagerState → PageId → ℕ → Type 0
 ShownTurns Ready t write old new q g =
     OpensTo (key_for old q) t.iv (bytes_in old g) (λ plain. HoldsNow old new q g write plain)
 ShownTurns Mismatch t write old new q g = new ≡ old
 
 -- what an accepted offer makes of the pager
-abbrev pub OfferTurns : Held → Option Meta → Bool → PagerState → PagerState → PageId → ℕ → Type 0
+abbrev pub OfferTurns : FrameRight → Option Meta → Bool → PagerState → PagerState → PageId → ℕ → Type 0
 OfferTurns (Outside r) (Some t) write old new q g = ShownTurns Ready t write old new q g
 OfferTurns (Outside r) None write old new q g = HoldsNow old new q g true zero_page
 OfferTurns (Clean r) shown true old new q g = HoldsNow old new q g true (bytes_in old g)
@@ -148,11 +148,11 @@ OfferTurns (Changed r) shown write old new q g = new ≡ old
 OfferTurns Spent shown write old new q g = ⊥
 
 -- a refused offer changes nothing
-abbrev pub OfferedTurns : Offered → Held → Option Meta → Bool → PagerState → PagerState → PageId → ℕ → Type 0
+abbrev pub OfferedTurns : Offered → FrameRight → Option Meta → Bool → PagerState → PagerState → PageId → ℕ → Type 0
 OfferedTurns Ready h shown write old new q g = OfferTurns h shown write old new q g
 OfferedTurns Mismatch h shown write old new q g = new ≡ old
 
--- Placing. A page is placed where a draw is left.
+-- Placing. A page is placed if a draw is left.
 
 -- Frame f shows these bytes of page q sealed under this IV, and the page's metadata tells of that.
 abbrev pub IsPlaced : PagerState → PagerState → PageId → ℕ → List ℕ → List ℕ → Type 0
@@ -196,14 +196,14 @@ IsReadOnce old new = new ≡ record old { reads = min (old.reads + 1) (2 ^ 64 - 
 -- Closing.
 
 -- what closing makes of a frame that is owed nothing
-abbrev pub CloseTurns : Held → PagerState → PagerState → ℕ → Type 0
+abbrev pub CloseTurns : FrameRight → PagerState → PagerState → ℕ → Type 0
 CloseTurns (Outside r) old new f = new ≡ old
 CloseTurns (Clean r) old new f = IsResealed old new f r.page
 CloseTurns (Changed r) old new f = ⊥
 CloseTurns Spent old new f = ⊥
 
 -- a frame shows these bytes when all is closed: one that was held unchanged shows its record again
-abbrev pub ShowsClosed : PagerState → ℕ → Held → List ℕ → Type 0
+abbrev pub ShowsClosed : PagerState → ℕ → FrameRight → List ℕ → Type 0
 ShowsClosed old f (Outside r) bytes = bytes ≡ bytes_in old f
 ShowsClosed old f (Clean r) bytes =
     (t : Meta) × (meta_at old.table r.page ≡ Some t) × (bytes ≡ cbc (key_for old r.page) t.iv (bytes_in old f))

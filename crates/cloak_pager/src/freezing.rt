@@ -4,7 +4,7 @@ ghost use Rattle.cloak_model.specs.Chain.{cbc};
 ghost use Rattle.cloak_model.specs.Ledger.{domain_key};
 ghost use Rattle.page_states.specs.Opening.{IsPlain, OpensTo};
 
-use crate::held::Held;
+use crate::frame_right::FrameRight;
 use crate::pager::Pager;
 use cloak_base::{Frame, Meta, PageId};
 use page_states::{change, open_page, seal};
@@ -24,14 +24,14 @@ impl Pager {
     pub fn freeze_frame(&mut self, f: Frame, iv: [u8; 16]) -> Meta
         requires { owed_at self.old f.0 ≢ None }
         ensures state { FreezesFrame self.old self.new f.0 iv result }
-        ensures outside { right_at self.new f.0 ≡ Held.Outside f }
+        ensures outside { right_at self.new f.0 ≡ FrameRight.Outside f }
         ensures stays { StaysBut f.0 self.old self.new }
     {
-        match mem::replace(&mut self.rights[f.0 as usize], Held::Spent) {
-            Held::Changed(right) => {
+        match mem::replace(&mut self.rights[f.0 as usize], FrameRight::Spent) {
+            FrameRight::Changed(right) => {
                 let page = right.page();
                 let (right, meta) = seal(&mut self.frames, right, iv, self.keys.of(page));
-                self.rights[f.0 as usize] = Held::Outside(right);
+                self.rights[f.0 as usize] = FrameRight::Outside(right);
                 meta
             }
             _ => unreachable!(),
@@ -52,16 +52,16 @@ impl Pager {
         ensures refused { result ≡ false → (sha256 (bytes_in self.old f.0) ≢ m.now.digest) × (self.new ≡ self.old) }
         ensures stays { StaysBut f.0 self.old self.new }
     {
-        match mem::replace(&mut self.rights[f.0 as usize], Held::Spent) {
-            Held::Outside(right) => {
+        match mem::replace(&mut self.rights[f.0 as usize], FrameRight::Spent) {
+            FrameRight::Outside(right) => {
                 match open_page(&mut self.frames, right, q, m, self.keys.of(q)) {
                     Ok(opened) => {
-                        self.rights[f.0 as usize] = Held::Changed(change(opened));
+                        self.rights[f.0 as usize] = FrameRight::Changed(change(opened));
                         self.homes.set(q, f);
                         true
                     }
                     Err(same) => {
-                        self.rights[f.0 as usize] = Held::Outside(same);
+                        self.rights[f.0 as usize] = FrameRight::Outside(same);
                         false
                     }
                 }

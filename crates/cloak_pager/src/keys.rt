@@ -1,14 +1,14 @@
 ghost use Rattle.std.specs.Prelude.{◌≡◌, ◌<◌, All};
 ghost use Rattle.cloak_model.specs.Ledger.{domain_key, key_in};
 
-use aes_block::Schedule;
+use aes_block::KeySchedule;
 use cloak_base::PageId;
 use std::marker::Model;
 
 /// The keys by their numbers, and for each domain the number of its key.
 #[derive(Drop)]
 pub(crate) struct KeyRing {
-    numbered: [Schedule; 4],
+    numbered: [KeySchedule; 4],
     group: [u32; 4],
 }
 
@@ -32,24 +32,24 @@ impl KeyRing {
         let [first, second, third, fourth] = &keys;
         KeyRing {
             numbered: [
-                Schedule::new(first),
-                Schedule::new(second),
-                Schedule::new(third),
-                Schedule::new(fourth),
+                KeySchedule::new(first),
+                KeySchedule::new(second),
+                KeySchedule::new(third),
+                KeySchedule::new(fourth),
             ],
             group,
         }
     }
 
     /// What a page is sealed under: the key of its domain.
-    pub(crate) fn of(&self, q: PageId) -> &Schedule
+    pub(crate) fn of(&self, q: PageId) -> &KeySchedule
         ensures { result.now ≡ key_in self.now q }
     {
         self.of_domain(q.domain)
     }
 
     /// The key of a domain, and key 0 if there is no such domain.
-    pub(crate) fn of_domain(&self, domain: u32) -> &Schedule
+    pub(crate) fn of_domain(&self, domain: u32) -> &KeySchedule
         ensures { result.now ≡ domain_key self.now domain }
     {
         let number = self.group.get(domain as usize).copied().unwrap_or(0);

@@ -10,7 +10,7 @@ pub fn law_of_calls()
 impl Pager {
     ghost use Rattle.cloak_pager.specs.State.{IsWholePager};
 
-    /// What is so of every pager, for proofs of the layer above. It does nothing.
+    /// What is true of every pager, for proofs of the layer above. It does nothing.
     pub fn whole(&self)
         ensures { IsWholePager self.now }
     {

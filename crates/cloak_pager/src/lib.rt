@@ -5,15 +5,15 @@
 //! of outside frames; beside them only an index of where each page is. There is no second copy of a page, and no plain
 //! byte outside the frames. No call takes memory after the opening.
 //!
-//! The layer above may rely on this: for every memory that the pager stands for (`StandsForMemory`), each call answers
-//! and does what the rules of cloaking tell of it, and the pager then stands for the result; `law_of_calls` says so of
-//! every list of calls. In which order frames are touched before an offer is for the layer above. What freezing and
-//! thawing a frame do is told of the pager alone (`specs/Freezing`): a pager with a frozen frame stands for no memory
-//! that has the newest bytes of its page.
+//! The layer above may rely on this: for every memory that the pager stands for (`StandsForMemory`), each call returns
+//! and does what the rules of cloaking tell of it, and the pager then stands for the result; `law_of_calls` says this
+//! of every list of calls. The order in which frames are touched before an offer is up to the layer above. What
+//! freezing and thawing a frame do is told of the pager alone (`specs/Freezing`): a pager with a frozen frame stands
+//! for no memory that has the newest bytes of its page.
 #![tactic(auto)]
 
+mod frame_right;
 mod freezing;
-mod held;
 mod keys;
 mod law;
 mod moves;
@@ -24,7 +24,7 @@ mod plain_bytes;
 mod touching;
 mod turning;
 
-pub use held::Held;
+pub use frame_right::FrameRight;
 pub use law::law_of_calls;
 pub use offering::Offered;
 pub use pager::Pager;

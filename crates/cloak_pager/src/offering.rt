@@ -1,11 +1,11 @@
 ghost use Rattle.std.specs.Prelude.{◌≡◌, ◌≢◌, ℕ, ◌<◌, ◌⊎◌, length, IsTrue, is_some};
 ghost use Rattle.cloak_base.specs.Random.{next_draw};
 
-use crate::held::Held;
+use crate::frame_right::FrameRight;
 use crate::pager::Pager;
 use aes_cbc::seal_page;
 use cloak_base::{Frame, Meta, PageId};
-use outside_io::Stream;
+use io_traits::Stream;
 use sha2::{Digest, Sha256};
 
 /// How an offer ended.
@@ -43,11 +43,11 @@ impl Pager {
         ensures model { FollowsCallUnclashed self.old self.new (answer_of result) (after_offer q g.0 write) }
     {
         let held = &self.rights[g.0 as usize];
-        if let Held::Changed(_) = held {
+        if let FrameRight::Changed(_) = held {
             return Offered::Ready;
         }
         if !write {
-            if let Held::Clean(_) = held {
+            if let FrameRight::Clean(_) = held {
                 return Offered::Ready;
             }
         }
@@ -72,7 +72,7 @@ impl Pager {
         ensures model { FollowsCallUnclashed self.old self.new (answer_of result) (after_offer q g.0 write) }
     {
         match &self.rights[g.0 as usize] {
-            Held::Outside(_) => {
+            FrameRight::Outside(_) => {
                 match self.table.get(q) {
                     Some(meta) => self.offer_shown(q, g, write, &meta),
                     None => {
@@ -81,18 +81,18 @@ impl Pager {
                     }
                 }
             }
-            Held::Clean(_) => {
+            FrameRight::Clean(_) => {
                 if write {
                     self.change_frame(g);
                 }
                 Offered::Ready
             }
-            Held::Changed(_) => Offered::Ready,
-            Held::Spent => unreachable!(),
+            FrameRight::Changed(_) => Offered::Ready,
+            FrameRight::Spent => unreachable!(),
         }
     }
 
-    /// The page was shown before: its frame is opened where the bytes are those that were shown.
+    /// The page was shown before: its frame is opened if the bytes are those that were shown.
     #[cold]
     #[inline(never)]
     fn offer_shown(&mut self, q: PageId, g: Frame, write: bool, m: &Meta) -> Offered
@@ -114,7 +114,7 @@ impl Pager {
         }
     }
 
-    /// Seals a page of these bytes into the outside frame. False, and nothing is placed, where no draw is left.
+    /// Seals a page of these bytes into the outside frame. False, and nothing is placed, if no draw is left.
     pub fn place(&mut self, q: PageId, f: Frame, bytes: &[u8; 4096], s: &mut Stream) -> bool
         requires inside { f.0 < length self.old.frames }
         requires page { IsIn (domains_of self.old.table) q }
@@ -142,7 +142,7 @@ impl Pager {
         ensures { IsPlaced self.old self.new q f.0 bytes.now iv.now }
     {
         match &self.rights[f.0 as usize] {
-            Held::Outside(right) => {
+            FrameRight::Outside(right) => {
                 let mut page = *bytes;
                 seal_page(self.keys.of(q), iv, &mut page);
                 let digest = Sha256::digest(page.as_slice());

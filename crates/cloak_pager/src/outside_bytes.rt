@@ -3,7 +3,7 @@ ghost use Rattle.std.specs.Borrow.{sem};
 ghost use Rattle.cloak_model.specs.Memory.{with_value_in};
 ghost use Rattle.cloak_model.specs.Effect.{IsWidth};
 
-use crate::held::Held;
+use crate::frame_right::FrameRight;
 use crate::pager::Pager;
 use cloak_base::Frame;
 use cloak_model::set_value_in;
@@ -26,7 +26,7 @@ impl Pager {
             self.reads += 1;
         }
         match &self.rights[f.0 as usize] {
-            Held::Outside(right) => self.frames.outside(right),
+            FrameRight::Outside(right) => self.frames.outside(right),
             _ => unreachable!(),
         }
     }
@@ -43,7 +43,7 @@ impl Pager {
             (after_write_outside f.0 (record { at = at; width = width; value = v })) }
     {
         match &self.rights[f.0 as usize] {
-            Held::Outside(right) => set_value_in(
+            FrameRight::Outside(right) => set_value_in(
                 self.frames.outside_mut(right),
                 at as usize,
                 width,
@@ -61,7 +61,7 @@ impl Pager {
         ensures model { FollowsCallStill self.old self.new tt (after_fill_outside f.0 b.now) }
     {
         match &self.rights[f.0 as usize] {
-            Held::Outside(right) => *self.frames.outside_mut(right) = *b,
+            FrameRight::Outside(right) => *self.frames.outside_mut(right) = *b,
             _ => unreachable!(),
         }
     }

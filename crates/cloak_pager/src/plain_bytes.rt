@@ -3,7 +3,7 @@ ghost use Rattle.cloak_model.specs.Memory.{with_value_in};
 ghost use Rattle.cloak_model.specs.Effect.{IsWidth};
 ghost use Rattle.cloak_model.specs.Memory.{value_in};
 
-use crate::held::Held;
+use crate::frame_right::FrameRight;
 use crate::pager::Pager;
 use cloak_base::{Frame, PageId};
 use cloak_model::{set_value_in, value_in};
@@ -25,11 +25,11 @@ impl Pager {
         ensures model { ReadsNewest self.now q at width result }
     {
         let held = &self.rights[f.0 as usize];
-        if let Held::Changed(right) = held {
+        if let FrameRight::Changed(right) = held {
             return value_in(self.frames.changed(right), at as usize, width);
         }
         match held {
-            Held::Clean(right) => value_in(self.frames.plain(right), at as usize, width),
+            FrameRight::Clean(right) => value_in(self.frames.plain(right), at as usize, width),
             _ => unreachable!(),
         }
     }
@@ -46,7 +46,7 @@ impl Pager {
             (after_write_plain q (record { at = at; width = width; value = v })) }
     {
         match &self.rights[f.0 as usize] {
-            Held::Changed(right) => set_value_in(
+            FrameRight::Changed(right) => set_value_in(
                 self.frames.changed_mut(right),
                 at as usize,
                 width,

@@ -1,10 +1,10 @@
 ghost use Rattle.std.specs.Prelude.{◌≡◌, ℕ, ◌<◌, length};
 ghost use Rattle.cloak_base.specs.Random.{next_draw};
 
-use crate::held::Held;
+use crate::frame_right::FrameRight;
 use crate::pager::Pager;
 use cloak_base::Frame;
-use outside_io::Stream;
+use io_traits::Stream;
 
 /// What a touch did.
 #[derive(Clone, Copy, Debug, PartialEq, Eq)]
@@ -24,24 +24,24 @@ impl Pager {
     ghost use Rattle.cloak_pager.specs.Turns.{touched_by, left_by, TouchTurns, StaysBut, CloseTurns, IsClosed};
     ghost use Rattle.cloak_pager.specs.Asking.{FollowsCall, FollowsCallStill, after_touch, shown_by, after_close};
 
-    /// Makes the frame outside. Made where it is asked for, since most frames are outside already.
+    /// Makes the frame outside. Inlined into its callers, since most frames are outside already.
     #[inline(always)]
     pub fn touch(&mut self, f: Frame, s: &mut Stream) -> Touched
         requires { f.0 < length self.old.frames }
         ensures exact_cause { result ≡ touched_by (right_at self.old f.0) (next_draw s.old) }
         ensures state { TouchTurns (right_at self.old f.0) (next_draw s.old) self.old self.new f.0 }
         ensures drawn { s.new ≡ left_by (right_at self.old f.0) (next_draw s.old) s.old }
-        ensures outside { right_at self.new f.0 ≡ Held.Outside f }
+        ensures outside { right_at self.new f.0 ≡ FrameRight.Outside f }
         ensures stays { StaysBut f.0 self.old self.new }
         ensures model { FollowsCall self.old s.old self.new s.new (shown_by result f.0 self.new) (after_touch f.0) }
     {
         match &self.rights[f.0 as usize] {
-            Held::Outside(_) => Touched::Quiet,
-            Held::Clean(_) => {
+            FrameRight::Outside(_) => Touched::Quiet,
+            FrameRight::Clean(_) => {
                 self.reseal_frame(f);
                 Touched::Resealed
             }
-            Held::Changed(_) => {
+            FrameRight::Changed(_) => {
                 match s.draw() {
                     Some(iv) => {
                         self.seal_frame(f, iv);
@@ -53,7 +53,7 @@ impl Pager {
                     }
                 }
             }
-            Held::Spent => unreachable!(),
+            FrameRight::Spent => unreachable!(),
         }
     }
 
@@ -64,8 +64,8 @@ impl Pager {
         ensures { CloseTurns (right_at self.old f.0) self.old self.new f.0 }
     {
         match &self.rights[f.0 as usize] {
-            Held::Outside(_) => {}
-            Held::Clean(_) => self.reseal_frame(f),
+            FrameRight::Outside(_) => {}
+            FrameRight::Clean(_) => self.reseal_frame(f),
             _ => unreachable!(),
         }
     }

@@ -3,7 +3,7 @@ ghost use Rattle.cloak_base.specs.declared.names.PageId.{PageId as AnyPage};
 ghost use Rattle.sha2.specs.Sha256.{sha256};
 ghost use Rattle.cloak_base.specs.Pages.{zero_page};
 
-use crate::held::Held;
+use crate::frame_right::FrameRight;
 use crate::pager::Pager;
 use cloak_base::{Frame, Meta, PageId};
 use page_states::{change, first_page, open_page, reseal, seal, wipe};
@@ -24,12 +24,12 @@ impl Pager {
         requires clean { IsClean (right_at self.old f.0) }
         ensures { (q : AnyPage) → held_in self.old f.0 ≡ Some q → IsResealed self.old self.new f.0 q }
     {
-        match mem::replace(&mut self.rights[f.0 as usize], Held::Spent) {
-            Held::Clean(right) => {
+        match mem::replace(&mut self.rights[f.0 as usize], FrameRight::Spent) {
+            FrameRight::Clean(right) => {
                 let page = right.page();
                 match self.table.get(page) {
                     Some(meta) => {
-                        self.rights[f.0 as usize] = Held::Outside(reseal(
+                        self.rights[f.0 as usize] = FrameRight::Outside(reseal(
                             &mut self.frames,
                             right,
                             &meta,
@@ -50,12 +50,12 @@ impl Pager {
         requires changed { IsChanged (right_at self.old f.0) }
         ensures { (q : AnyPage) → held_in self.old f.0 ≡ Some q → IsSealed self.old self.new f.0 q iv }
     {
-        match mem::replace(&mut self.rights[f.0 as usize], Held::Spent) {
-            Held::Changed(right) => {
+        match mem::replace(&mut self.rights[f.0 as usize], FrameRight::Spent) {
+            FrameRight::Changed(right) => {
                 let page = right.page();
                 let (right, meta) = seal(&mut self.frames, right, iv, self.keys.of(page));
                 self.table.set(page, meta);
-                self.rights[f.0 as usize] = Held::Outside(right);
+                self.rights[f.0 as usize] = FrameRight::Outside(right);
             }
             _ => unreachable!(),
         }
@@ -68,15 +68,15 @@ impl Pager {
         requires changed { IsChanged (right_at self.old f.0) }
         ensures { IsWiped self.old self.new f.0 }
     {
-        match mem::replace(&mut self.rights[f.0 as usize], Held::Spent) {
-            Held::Changed(right) => {
-                self.rights[f.0 as usize] = Held::Outside(wipe(&mut self.frames, right));
+        match mem::replace(&mut self.rights[f.0 as usize], FrameRight::Spent) {
+            FrameRight::Changed(right) => {
+                self.rights[f.0 as usize] = FrameRight::Outside(wipe(&mut self.frames, right));
             }
             _ => unreachable!(),
         }
     }
 
-    /// Opens the outside frame as page `q`, where its bytes have the digest of the metadata.
+    /// Opens the outside frame as page `q`, if its bytes have the digest of the metadata.
     pub(crate) fn open_frame(&mut self, q: PageId, g: Frame, m: &Meta) -> bool
         requires inside { g.0 < length self.old.frames }
         requires page { IsIn (domains_of self.old.table) q }
@@ -89,16 +89,16 @@ impl Pager {
         ensures clean { result ≡ true → IsClean (right_at self.new g.0) × (held_in self.new g.0 ≡ Some q) }
         ensures refused { result ≡ false → (sha256 (bytes_in self.old g.0) ≢ m.now.digest) × (self.new ≡ self.old) }
     {
-        match mem::replace(&mut self.rights[g.0 as usize], Held::Spent) {
-            Held::Outside(right) => {
+        match mem::replace(&mut self.rights[g.0 as usize], FrameRight::Spent) {
+            FrameRight::Outside(right) => {
                 match open_page(&mut self.frames, right, q, m, self.keys.of(q)) {
                     Ok(opened) => {
-                        self.rights[g.0 as usize] = Held::Clean(opened);
+                        self.rights[g.0 as usize] = FrameRight::Clean(opened);
                         self.homes.set(q, g);
                         true
                     }
                     Err(same) => {
-                        self.rights[g.0 as usize] = Held::Outside(same);
+                        self.rights[g.0 as usize] = FrameRight::Outside(same);
                         false
                     }
                 }
@@ -117,9 +117,13 @@ impl Pager {
         requires nowhere { (k : ℕ) → held_in self.old k ≢ Some q }
         ensures { HoldsNow self.old self.new q g.0 true zero_page }
     {
-        match mem::replace(&mut self.rights[g.0 as usize], Held::Spent) {
-            Held::Outside(right) => {
-                self.rights[g.0 as usize] = Held::Changed(first_page(&mut self.frames, right, q));
+        match mem::replace(&mut self.rights[g.0 as usize], FrameRight::Spent) {
+            FrameRight::Outside(right) => {
+                self.rights[g.0 as usize] = FrameRight::Changed(first_page(
+                    &mut self.frames,
+                    right,
+                    q,
+                ));
                 self.homes.set(q, g);
             }
             _ => unreachable!(),
@@ -133,9 +137,9 @@ impl Pager {
         ensures { (q : AnyPage) → held_in self.old g.0 ≡ Some q →
             HoldsNow self.old self.new q g.0 true (bytes_in self.old g.0) }
     {
-        match mem::replace(&mut self.rights[g.0 as usize], Held::Spent) {
-            Held::Clean(right) => {
-                self.rights[g.0 as usize] = Held::Changed(change(right));
+        match mem::replace(&mut self.rights[g.0 as usize], FrameRight::Spent) {
+            FrameRight::Clean(right) => {
+                self.rights[g.0 as usize] = FrameRight::Changed(change(right));
             }
             _ => unreachable!(),
         }

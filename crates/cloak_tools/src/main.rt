@@ -1,17 +1,16 @@
 //! The program `cloak_tools`: for people who make guest images and read records.
 //!
 //! `tool_commands::run_tools` is all of it over any words, files and output. The program exits with the number of the
-//! answer's status, of which 3 stands for a text, a manifest or an image that is faulty, and says on standard error why it
-//! came.
+//! answer's status, where 3 stands for a faulty text, manifest or image, and says on standard error why.
 #![tactic(auto)]
 
 use cloak_base::NoMemory;
-use outside_io::{FileShelf, StdSink};
-use program_parts::Status;
+use command_parts::Status;
 use std::fs::{File, OpenOptions};
 use std::io::ErrorKind;
 use std::process::ExitCode;
 use std::{env, io};
+use system_io::{FileShelf, StdSink};
 use tool_commands::{CommandLine, run_tools, sentence};
 
 /// Files that hold the three standard streams.
@@ -59,7 +58,7 @@ fn refuse_for_memory(rt: &HostRuntime) -> Status {
     }
 }
 
-/// Runs the tools, and says on standard error why a status other than 0 came. Where that cannot be said, nothing else
+/// Runs the tools, and says on standard error why a status other than 0 came. If that cannot be said, nothing else
 /// changes.
 fn run_and_say_why(rt: &HostRuntime) -> Status {
     let status = run_here(rt).unwrap_or_else(|_| refuse_for_memory(rt));

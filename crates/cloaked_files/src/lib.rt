@@ -1,7 +1,7 @@
 //! The cloaked files of a domain (this project's rules, `docs/MACHINE.md`): a file is a resource under a number that
 //! the program chooses, and every space of the domain may map it.
 //!
-//! The definition is `cloak_model`, `specs/Files`. A file is made where it is first asked for, has the size that was
+//! The definition is `cloak_model`, `specs/Files`. A file is made when it is first asked for, has the size that was
 //! asked for then, and stays when the spaces end. What stands in its pages is no matter of this crate.
 #![tactic(auto)]
 
@@ -12,9 +12,9 @@ ghost use Rattle.resource_map.specs.Owning.{SameSpaces};
 use cloak_model::{MapFault, Owner};
 use resource_map::Resources;
 
-/// The resource of a file, which is made where the domain has none of this number. `BadArg` where the file has another
-/// size, and for a new file where the size is 0 or above 1024; `Full` where a new file has no number left, or where the
-/// domain's pages with these are more than 1024. A refusal changes nothing.
+/// The resource of a file, which is made if the domain has none of this number. `BadArg` if the file has another size,
+/// and for a new file if the size is 0 or above 1024; `Full` if a new file has no number left, or if the domain's pages
+/// with these are more than 1024. A refusal changes nothing.
 #[tactic(auto, unfolding(cloak_model::specs::Files::file_resource, cloak_model::specs::Files::file_found))]
 pub fn file_resource(r: &mut Resources, number: u32, pages: u32) -> Result<u32, MapFault>
     ensures value { record { answer = result; resources = r.new } ≡ spec.file_resource number pages r.old }

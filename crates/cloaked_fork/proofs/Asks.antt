@@ -23,7 +23,7 @@ unfolding ask_forgets
 later_forgets domain [] w = IsLater-refl w
 later_forgets domain (n ∷ rest) w = IsLater-trans _ _ _ (later_forget domain n w) (later_forgets domain rest _)
 
--- where nothing is left to be asked, nothing happens
+-- if nothing is left to be asked, nothing happens
 pub copies_end : {S : Type 0} (stands_for : S → S → World → Type 0) (now : S) (domain : ℕ) → Follows stands_for now now tt (ask_copies domain [])
 unfolding ask_copies
 copies_end stands_for now domain first w stands unclashed = record { answer = λ i. tt; stands = stands }

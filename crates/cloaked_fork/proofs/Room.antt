@@ -2,7 +2,7 @@
 use Rattle.std.proofs.Common.{◌≡◌, Bool, true, false, ◌&&◌}
 use Rattle.std.specs.Prelude.{IsTrue}
 
--- where there is a slot, a space and room for copies, there is room for copies
+-- if there is a slot, a space and room for copies, there is room for copies
 pub room_to_copy : (slot space copies : Bool) → IsTrue (slot && (space && copies)) → IsTrue copies
 room_to_copy true true copies room = room
 room_to_copy true false copies room = cc

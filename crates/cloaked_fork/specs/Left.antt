@@ -1,4 +1,4 @@
--- What a fork or an end answers, with what it leaves.
+-- What a fork or an end returns, with what it leaves.
 use Rattle.std.specs.Prelude.{◌≡◌, ℕ, List, Option, Some, unwrap_or, Result}
 use Rattle.cloak_base.specs.declared.names.CtxId.{CtxId}
 use Rattle.cloak_model.specs.declared.inside.Ended.{Ended}
@@ -16,7 +16,7 @@ made_fork answer contexts r = record { answer = answer; spaces = spaces contexts
 abbrev pub ending : Ended → List (Option Context) → Resources → End
 ending ended contexts r = record { ending = ended; spaces = spaces contexts r }
 
--- the lowest number that is free, where one is
+-- the lowest number that is free, if one is
 abbrev pub lowest : {A : Type 0} → List (Option A) → ℕ
 lowest xs = unwrap_or (first_free xs) 0
 

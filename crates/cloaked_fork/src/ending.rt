@@ -108,8 +108,8 @@ fn end_in_space<M: PageSide>(
     end_settled(settled, r, c, domain, slot, space, m)
 }
 
-/// Ends the context of a slot, and with the last one of its space that space, its regions and its private resources;
-/// files stay. `Stopped` where the question for settled frames is answered so.
+/// Ends the context of a slot, and with the last one of its space also that space, its regions and its private
+/// resources; files stay. `Stopped` if the question for settled frames is answered so.
 pub fn end_context<M: PageSide>(
     r: &mut Resources,
     c: &mut Contexts,

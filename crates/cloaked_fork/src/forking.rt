@@ -61,7 +61,7 @@ fn copy_pages<M: PageSide>(r: &Resources, domain: u32, space: u32, m: &mut M)
     copy_all(domain, copies.as_slice(), m);
 }
 
-/// The caller's space is copied, with its context, to the lowest free numbers. Answers the new context's number.
+/// The caller's space is copied, with its context, to the lowest free numbers. Returns the new context's number.
 #[tactic(auto, using(crate::proofs::Freed::freed), unfolding(cloak_model::specs::Fork::forked))]
 fn copy_space(r: &mut Resources, c: &mut Contexts, domain: u32, caller: &Context) -> CtxId
     requires number { domain < 4 }
@@ -117,7 +117,7 @@ fn fork_settled<M: PageSide>(
     }
 }
 
-/// Copies the caller's space, with its context, where there is room.
+/// Copies the caller's space, with its context, if there is room.
 #[tactic(auto, using(crate::proofs::Laters::fork_laters), unfolding(cloak_model::specs::Fork::fork, cloak_model::specs::Fork::fork_if))]
 fn fork_caller<M: PageSide>(
     r: &mut Resources,
@@ -153,8 +153,9 @@ fn fork_caller<M: PageSide>(
     }
 }
 
-/// Copies the space of a slot's context, with that context: the new one answers 0 and is at the next instruction.
-/// Answers the number of the new context, and nothing where the question for settled frames is answered `Stopped`.
+/// Copies the space of a slot's context, with that context: the new one has 0 as its answer and is at the next
+/// instruction. Returns the number of the new context, or nothing if the question for settled frames is answered
+/// `Stopped`.
 pub fn fork_space<M: PageSide>(
     r: &mut Resources,
     c: &mut Contexts,

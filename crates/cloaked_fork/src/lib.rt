@@ -2,8 +2,8 @@
 //! project's rules, `docs/MACHINE.md`).
 //!
 //! Contracts see the definition's values (`cloak_model`, `specs/Fork`). Pages are the side's: nothing here knows what
-//! stands in them. The frames that are owed private pages are settled before any page is copied or dropped, and where
-//! that is answered `Stopped`, or there is no room, nothing of the domain changes.
+//! stands in them. The frames that are owed private pages are settled before any page is copied or dropped, and if that
+//! is answered `Stopped`, or there is no room, nothing of the domain changes.
 #![tactic(auto)]
 
 mod ending;

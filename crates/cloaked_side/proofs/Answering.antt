@@ -11,7 +11,7 @@ use Rattle.cloak_model.specs.Ask.{opened, shown_value}
 use Rattle.cloak_model.proofs.Later.{IsLater}
 use Rattle.cloak_model.proofs.PagesLater.{later_drawn, later_offered}
 use Rattle.cloak_model.specs.World.{World, Cloak, Flat, Cloaked, Alone, cipher_items, is_clashed, stored_at}
-use Rattle.cloak_model.specs.World.{view_of, is_missed, written}
+use Rattle.cloak_model.specs.World.{regime_of, is_missed, written}
 use Rattle.cloak_model.specs.Asking.{Asking, FollowsFrom, then_ask}
 use Rattle.cloak_model.specs.AskPages.{answer_item, replies, if_drawn, inside_access, ask_inside_address, get_at, got, put_at, stored_inside}
 use Rattle.cloak_model.specs.AskPages.{offer_events, offered_by, ask_offer, reached, is_store, ask_read, ask_write}
@@ -44,10 +44,10 @@ use Rattle.cloaked_side.specs.declared.side.Side.{Side}
 
 -- the domain that is answered
 domain_of : {E : Type 0} (gave : E → E → List Piece → Type 0) (first now : Side E) (w : World) →
-    Sees gave first now w → now.view.domain ≡ (view_of w).domain
+    Sees gave first now w → now.regime.domain ≡ (regime_of w).domain
 domain_of gave first now (Flat ram) sees = absurd sees
 domain_of gave first now (Alone handed) sees = absurd sees
-domain_of gave first now (Cloaked c) sees = ap (λ v. v.domain) sees.view
+domain_of gave first now (Cloaked c) sees = ap (λ v. v.domain) sees.regime
 
 -- whether a draw was missing
 missed_of : {E : Type 0} (gave : E → E → List Piece → Type 0) (first now : Side E) (w : World) →
@@ -57,7 +57,7 @@ missed_of gave first now (Alone handed) sees = absurd sees
 missed_of gave first now (Cloaked c) sees = sees.holds.missed
 
 pub answered_told : {E : Type 0} (gave : E → E → List Piece → Type 0) (first old new : Side E) (a : Answer) (w : World) →
-    Sees gave first old w → Sees gave first new (written (answer_item old.view.domain a) w) →
+    Sees gave first old w → Sees gave first new (written (answer_item old.regime.domain a) w) →
     FollowsFrom (Sees gave first) new a (replies a w)
 unfolding replies
 answered_told gave first old new a w sees stands = record {
@@ -156,7 +156,7 @@ get_told gave first mid new pa width value low a w read cut told =
 pub get_at_led : {E : Type 0} (gave : E → E → List Piece → Type 0) (first new : Side E) (va width pa : ℕ)
     (a : Answer) (w : World) →
     FollowsFrom (Sees gave first) new a
-    (if_drawn (get_at pa width) (opened (view_of w).satp (inside_access w va Load) pa w)) →
+    (if_drawn (get_at pa width) (opened (regime_of w).satp (inside_access w va Load) pa w)) →
     FollowsFrom (Sees gave first) new a (got va width (Ok pa) w)
 unfolding got
 get_at_led gave first new va width pa a w told = told
@@ -184,14 +184,14 @@ stored_err gave first new va width value cause a to w is told =
 pub put_at_led : {E : Type 0} (gave : E → E → List Piece → Type 0) (first new : Side E) (va width value pa : ℕ)
     (a : Answer) (w : World) →
     FollowsFrom (Sees gave first) new a
-    (if_drawn (put_at pa width value) (opened (view_of w).satp (inside_access w va Store) pa w)) →
+    (if_drawn (put_at pa width value) (opened (regime_of w).satp (inside_access w va Store) pa w)) →
     FollowsFrom (Sees gave first) new a (stored_inside va width value (Ok pa) w)
 unfolding stored_inside
 put_at_led gave first new va width value pa a w told = told
 
 -- A page was offered.
 
--- the memory and the step behind an offer
+-- the memory and the step after an offer
 abbrev pub offered_cloak : PageId → ℕ → Bool → Cloak → Cloak
 offered_cloak q g write c =
     let o = offer q g write c.memory in
@@ -203,13 +203,13 @@ sees_offered : {E : Type 0} (gave : E → E → List Piece → Type 0) (first ol
     TracksBy old.memory.now mid.memory.now (after_events mid.space (offer_events q g c.memory (offer q g write c.memory).answer)) →
     Spends 0 (length (offer q g write c.memory).ciphers) (spent_in old.memory.now) (spent_in mid.memory.now) →
     MapsStill old.memory.now mid.memory.now →
-    mid.violation ≡ old.violation → mid.view ≡ old.view → mid.space ≡ old.space →
+    mid.violation ≡ old.violation → mid.regime ≡ old.regime → mid.space ≡ old.space →
     SeesCloak gave first mid (offered_cloak q g write c)
-sees_offered gave first old mid given q g write c sees o tracks spends maps violation view space = record {
+sees_offered gave first old mid given q g write c sees o tracks spends maps violation regime space = record {
   holds = o.holds;
   emits = emits_items c.items (cipher_items (offer q g write c.memory).ciphers) sees.emits o.emits;
   violation = violation ∙ sees.violation;
-  view = view ∙ sees.view;
+  regime = regime ∙ sees.regime;
   tracks = tracks_on first.memory.now old.memory.now mid.memory.now mid.space c.events (offer_events q g c.memory (offer q g write c.memory).answer)
       (respaced first.memory.now old.memory.now old.space mid.space c.events space sees.tracks) tracks;
   spends = spends_more (0 + 0) 0 (reads_due (asked_by old.space c) + length (offer q g write c.memory).ciphers)
@@ -224,15 +224,15 @@ sees_offered gave first old mid given q g write c sees o tracks spends maps viol
       (maps_still old.memory.now mid.memory.now mid.space _ maps);
 }
 
--- the same side, but for a violation
+-- the same side, except for a violation
 pub with_violation : {E : Type 0} (gave : E → E → List Piece → Type 0) (first mid after : Side E) (v : Option Violation) (c : Cloak) →
-    SeesCloak gave first mid c → after.memory ≡ mid.memory → after.emitter ≡ mid.emitter → after.view ≡ mid.view → after.space ≡ mid.space →
+    SeesCloak gave first mid c → after.memory ≡ mid.memory → after.emitter ≡ mid.emitter → after.regime ≡ mid.regime → after.space ≡ mid.space →
     after.violation ≡ v → SeesCloak gave first after (record c { violation = v })
-with_violation gave first mid after v c sees memory emitter view space violated = record {
+with_violation gave first mid after v c sees memory emitter regime space violated = record {
   holds = subst (λ x. Holds x.now c.memory) (sym memory) sees.holds;
   emits = subst (λ e. Emits gave first.emitter.now e.now (item_pieces c.items)) (sym emitter) sees.emits;
   violation = violated;
-  view = view ∙ sees.view;
+  regime = regime ∙ sees.regime;
   tracks = subst (λ x. TracksBy first.memory.now x.now (after_events after.space c.events)) (sym memory)
       (respaced first.memory.now mid.memory.now mid.space after.space c.events space sees.tracks);
   spends = subst (λ x. Spends 0 (reads_due (asked_by after.space c)) (spent_in first.memory.now) (spent_in x.now)) (sym memory) sees.spends;
@@ -240,7 +240,7 @@ with_violation gave first mid after v c sees memory emitter view space violated 
       (maps_of first.memory.now mid.memory.now mid.space after.space c.events space sees.maps);
 }
 
--- Where a page was reached is no matter of the world.
+-- Where a page was reached does not concern the world.
 
 pub with_reached : {E : Type 0} (gave : E → E → List Piece → Type 0) (first mid : Side E) (f : Frame) (w : World) →
     Sees gave first mid w → Sees gave first (record mid { reached = f }) w
@@ -265,7 +265,7 @@ reached_within gave first mid f within = let s = within.stays in record {
     same_emitter = s.same_emitter;
     emits_some = s.emits_some;
     size = s.size;
-    view = s.view;
+    regime = s.regime;
     space = s.space;
     counting = s.counting;
     others = s.others;
@@ -284,15 +284,15 @@ pub asked_offer : {E : Type 0} (gave : E → E → List Piece → Type 0) (first
     ((m : CloakedMemory) → Holds old.memory.now m →
     Spends 0 (length (offer q g write m).ciphers) (spent_in old.memory.now) (spent_in mid.memory.now)) →
     MapsStill old.memory.now mid.memory.now →
-    mid.violation ≡ old.violation → mid.view ≡ old.view → mid.space ≡ old.space →
+    mid.violation ≡ old.violation → mid.regime ≡ old.regime → mid.space ≡ old.space →
     ((c c' : Cloak) → w ≡ Cloaked c → SeesCloak gave first old c → SeesCloak gave first mid c' →
-    c'.memory ≡ (offer q g (is_store kind) c.memory).memory → c'.view ≡ c.view →
+    c'.memory ≡ (offer q g (is_store kind) c.memory).memory → c'.regime ≡ c.regime →
     FollowsFrom (Sees gave first) new a (offered_by q va kind g (offer_of given) (Cloaked c'))) →
     FollowsFrom (Sees gave first) new a (ask_offer q va kind g w)
 unfolding ask_offer
-asked_offer gave first old mid new given q va kind g write a (Flat ram) kind_is sees clash offered tracks spends maps violation view space told = absurd sees
-asked_offer gave first old mid new given q va kind g write a (Alone handed) kind_is sees clash offered tracks spends maps violation view space told = absurd sees
-asked_offer {E} gave first old mid new given q va kind g write a (Cloaked c) kind_is sees clash offered tracks spends maps violation view space told =
+asked_offer gave first old mid new given q va kind g write a (Flat ram) kind_is sees clash offered tracks spends maps violation regime space told = absurd sees
+asked_offer gave first old mid new given q va kind g write a (Alone handed) kind_is sees clash offered tracks spends maps violation regime space told = absurd sees
+asked_offer {E} gave first old mid new given q va kind g write a (Cloaked c) kind_is sees clash offered tracks spends maps violation regime space told =
     let store = is_store kind in
     let o = offer q g store c.memory in
     let c' = offered_cloak q g store c in
@@ -306,11 +306,11 @@ asked_offer {E} gave first old mid new given q va kind g write a (Cloaked c) kin
     TracksBy old.memory.now mid.memory.now (after_events sp (offer_events q g c.memory (offer q g b c.memory).answer))) kind_is
     (tracks c.memory sees.holds) unclashed mid.space in
     subst (λ (x : Offer). FollowsFrom (Sees gave first) new a (offered_by q va kind g x (Cloaked c'))) done.answer
-    (told c c' refl sees (sees_offered gave first old mid given q g store c sees done goes least maps violation view space) refl refl)
+    (told c c' refl sees (sees_offered gave first old mid given q g store c sees done goes least maps violation regime space) refl refl)
 
 -- It is granted, once its translation is known.
 pub granted_told : {E : Type 0} (gave : E → E → List Piece → Type 0) (first after new : Side E) (q : PageId) (va : ℕ) (kind : Kind)
-    (g : ℕ) (a : Answer) (c : Cloak) → Sees gave first after (known (view_of (Cloaked c)).satp (inside_access (Cloaked c) va kind) (Some q) (Cloaked c)) →
+    (g : ℕ) (a : Answer) (c : Cloak) → Sees gave first after (known (regime_of (Cloaked c)).satp (inside_access (Cloaked c) va kind) (Some q) (Cloaked c)) →
     ((v : World) → Sees gave first after v → FollowsFrom (Sees gave first) new a (replies Granted v)) →
     FollowsFrom (Sees gave first) new a (offered_by q va kind g (offer_of ended.Ready) (Cloaked c))
 unfolding offered_by
@@ -351,7 +351,7 @@ unfolding reached
 reached_err gave first new q va kind cause a to w is told =
     subst (λ t. FollowsFrom (Sees gave first) new a (reached q va kind t w)) (sym is) told
 
--- The page's newest bytes, where no draw is missing.
+-- The page's newest bytes, if no draw is missing.
 pub plain_told : {E : Type 0} (gave : E → E → List Piece → Type 0) (first now : Side E) (q : PageId)
     (at width value : ℕ) (w : World) → Sees gave first now w → now.memory.now.missed ≡ false →
     ReadsNewest now.memory.now.pager q at width value →

@@ -18,7 +18,7 @@ use Rattle.cloaked_side.specs.declared.atomic.LedWord.{LedWord}
 use Rattle.cloaked_side.specs.declared.side.Side.{Side}
 use Rattle.cloaked_side.proofs.Marking.{asked_mark}
 
--- The word where an access leads.
+-- The word to which an access leads.
 
 pub led_word_told : {E : Type 0} (gave : E → E → List Piece → Type 0) (first mid new : Side E) (satp : ℕ) (a : Access) (pa word : ℕ)
     (w : World) → FollowsFrom (Sees gave first) mid (Ok pa) (ask_led satp a w) →

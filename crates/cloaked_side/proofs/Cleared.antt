@@ -46,7 +46,7 @@ owed_by_world gave first now f (Alone handed) sees = absurd sees
 owed_by_world gave first now f (Cloaked c) sees =
     owed_by_right now.memory.now.pager sees.holds.wiped c.memory sees.holds.pager f
 
--- A frame was settled where it was owed a page of a marked resource.
+-- A frame was settled if it was owed a page of a marked resource.
 pub sees_marked : {E : Type 0} (gave : E → E → List Piece → Type 0) (first old new : Side E) (domain : ℕ)
     (marked : List Bool) (f : ℕ) (w : World) →
     is_marked domain marked (owed_at old.memory.now.pager f) ≡ true → Sees gave first old w →
@@ -209,7 +209,7 @@ shows_of gave first now (Cloaked c) sees = record {
   holds = sees.holds;
   emits = sees.emits;
   violation = sees.violation;
-  view = sees.view;
+  regime = sees.regime;
   spends = sees.spends;
   maps = sees.maps;
 }
@@ -220,11 +220,11 @@ pub shows_settled : {E : Type 0} (gave : E → E → List Piece → Type 0) (fir
     ((m : CloakedMemory) → Holds old.memory.now m →
     Spends 0 (length (settle f m).ciphers) (spent_in old.memory.now) (spent_in new.memory.now)) →
     MapsStill old.memory.now new.memory.now →
-    new.violation ≡ old.violation → new.view ≡ old.view → new.space ≡ old.space →
+    new.violation ≡ old.violation → new.regime ≡ old.regime → new.space ≡ old.space →
     owed_at old.memory.now.pager f ≡ None → Shows gave first old w → Shows gave first new w
-shows_settled gave first old new f (Flat ram) settles spends maps violation view space none shows = shows
-shows_settled gave first old new f (Alone handed) settles spends maps violation view space none shows = shows
-shows_settled gave first old new f (Cloaked c) settles spends maps violation view space none shows =
+shows_settled gave first old new f (Flat ram) settles spends maps violation regime space none shows = shows
+shows_settled gave first old new f (Alone handed) settles spends maps violation regime space none shows = shows
+shows_settled gave first old new f (Cloaked c) settles spends maps violation regime space none shows =
     let h = shows.holds in
     let unowed : owed_in c.memory f ≡ None = owed_by_right old.memory.now.pager h.wiped c.memory h.pager f ∙ none in
     let s = subst (λ (x : AfterSettling). Settles gave old.emitter.now new.emitter.now new.memory.now x) (settle_none f c.memory unowed) (settles c.memory h) in
@@ -233,7 +233,7 @@ shows_settled gave first old new f (Cloaked c) settles spends maps violation vie
       emits = subst (λ (is : List Item). Emits gave first.emitter.now new.emitter.now (item_pieces is))
           (append-nil c.items) (emits_items c.items [] shows.emits s.emits);
       violation = violation ∙ shows.violation;
-      view = view ∙ shows.view;
+      regime = regime ∙ shows.regime;
       spends = spends_more (0 + 0) 0 (reads_due (asked_by old.space c) + 0) (reads_due (asked_by new.space c))
           (spent_in first.memory.now) (spent_in new.memory.now) (omega arith)
           (spends_then 0 0 (reads_due (asked_by old.space c)) 0 (spent_in first.memory.now) (spent_in old.memory.now) (spent_in new.memory.now)
@@ -279,7 +279,7 @@ sees_copied gave first old new domain from to (Cloaked c) same still meets track
         };
         emits = subst (λ e. Emits gave first.emitter.now e (item_pieces c.items)) (sym same.emitter) sees.emits;
         violation = same.violation ∙ sees.violation;
-        view = same.view ∙ sees.view;
+        regime = same.regime ∙ sees.regime;
         tracks = tracks_same first.memory.now old.memory.now new.memory.now new.space c.events
             (respaced first.memory.now old.memory.now old.space new.space c.events same.space sees.tracks) tracks;
         spends = spends_more (0 + 0) 0 (reads_due (asked_by old.space c) + 0) (reads_due (asked_by new.space c))
@@ -325,7 +325,7 @@ sees_dropped gave first begun old new domain r (Cloaked c) same still meets spac
         };
         emits = subst (λ e. Emits gave first.emitter.now e (item_pieces c.items)) (sym same.emitter) shows.emits;
         violation = same.violation ∙ shows.violation;
-        view = same.view ∙ shows.view;
+        regime = same.regime ∙ shows.regime;
         tracks = tracks_on first.memory.now begun.memory.now new.memory.now new.space c.events (Drop domain r ∷ [])
             (respaced first.memory.now begun.memory.now begun.space new.space c.events space sees.tracks)
             (tracks_drop begun.memory.now new.memory.now new.space domain r tracks);

@@ -14,8 +14,8 @@ use Rattle.cloak_model.specs.Opening.{numbers_below}
 use Rattle.cloak_model.specs.World.{World, items_of, ram_of}
 use Rattle.protect_meta.specs.Table.{Table}
 use Rattle.cloak_pager.specs.State.{PagerState, IsWholePager, IsNoneHeld, Names, held_in, page_of, right_at}
-use Rattle.cloak_pager.specs.declared.held.Held.{Held}
-use Rattle.cloak_pager.specs.declared.held.Held.TheVariants.{Outside, Clean, Changed, Spent}
+use Rattle.cloak_pager.specs.declared.frame_right.FrameRight.{FrameRight}
+use Rattle.cloak_pager.specs.declared.frame_right.FrameRight.TheVariants.{Outside, Clean, Changed, Spent}
 use Rattle.cloak_pager.proofs.Pages.{same_or_not}
 use Rattle.cloak_pager.proofs.Writes.{held_within}
 use Rattle.cloaked_side.specs.Ending.{EndsPages}
@@ -85,7 +85,7 @@ held_next d n p p' less before here r low = elim (same_or_not r n) [
   | inr other ↦ none_held_still p p' d r less (before r (omega (arith, low, other)))
 ]
 
-page_in : (t : Table) (k : ℕ) (q : PageId) (h : Held) → Names t k h → page_of h ≡ Some q → q.resource < 16
+page_in : (t : Table) (k : ℕ) (q : PageId) (h : FrameRight) → Names t k h → page_of h ≡ Some q → q.resource < 16
 page_in t k q (Outside r) named is = (let clash : None ≡ Some q = is in cc)
 page_in t k q (Clean r) named is =
     let same : r.page ≡ q = cc in subst (λ (x : PageId). x.resource < 16) same named.1.resource
@@ -122,7 +122,7 @@ asked_end gave first old mid new d w sees settles forgets =
     forgets (settled_for d 0 (length (ram_of w)) w)
     (subst (λ (n : ℕ). Sees gave first mid (settled_for d 0 n w)) (sym (count_of gave first old w sees)) (settles w sees))
 
--- What was so of a memory behind a reference is so of the one that was given back, whose size is told.
+-- What was true of a memory behind a reference is true of the one that was given back, whose size is told.
 
 pub others_back : (d : ℕ) (old back new : Memory) → SameSize old back → back ≡ new →
     ((k : ℕ) (q : PageId) → q.domain ≢ d → held_in new.pager k ≡ Some q → held_in old.pager k ≡ Some q) →

@@ -4,8 +4,8 @@ use Rattle.std.proofs.Common.{subst}
 use Rattle.cloak_base.specs.declared.names.PageId.{PageId}
 use Rattle.cloak_pager.specs.State.{PagerState, page_of, owed_under, right_at, held_in, owed_at}
 use Rattle.cloak_pager.specs.Turns.{StaysBut}
-use Rattle.cloak_pager.specs.declared.held.Held.{Held}
-use Rattle.cloak_pager.specs.declared.held.Held.TheVariants.{Outside, Clean, Changed, Spent}
+use Rattle.cloak_pager.specs.declared.frame_right.FrameRight.{FrameRight}
+use Rattle.cloak_pager.specs.declared.frame_right.FrameRight.TheVariants.{Outside, Clean, Changed, Spent}
 use Rattle.cloak_pager.proofs.Pages.{same_or_not}
 use Rattle.cloak_pager.proofs.Stands.{owed_held}
 use Rattle.cloaked_side.specs.Holding.{HoldsNoMore, HoldsNoOther}
@@ -22,8 +22,8 @@ no_more_then a b c first second = record {
 -- all rights stayed
 pub no_more_rights : (old new : PagerState) → new.rights ≡ old.rights → HoldsNoMore old new
 no_more_rights old new same = record {
-  held = λ k q e. sym (ap (λ (rs : List Held). page_of (slice_index_or rs k Spent)) same) ∙ e;
-  owed = λ k q e. sym (ap (λ (rs : List Held). owed_under (slice_index_or rs k Spent)) same) ∙ e;
+  held = λ k q e. sym (ap (λ (rs : List FrameRight). page_of (slice_index_or rs k Spent)) same) ∙ e;
+  owed = λ k q e. sym (ap (λ (rs : List FrameRight). owed_under (slice_index_or rs k Spent)) same) ∙ e;
 }
 
 never : (o : Option PageId) (q : PageId) → o ≡ None → o ≡ Some q → ⊥
@@ -74,7 +74,7 @@ pub no_other_same : (q : PageId) (old new : PagerState) → new ≡ old → Hold
 no_other_same q old new same k p not_q e = sym (ap (λ (s : PagerState). held_in s k) same) ∙ e
 
 -- a frame that is owed a page is owed the one that it holds
-owed_is_held : (h : Held) → owed_under h ≢ None → owed_under h ≡ page_of h
+owed_is_held : (h : FrameRight) → owed_under h ≢ None → owed_under h ≡ page_of h
 owed_is_held (Outside r) owed = absurd (owed refl)
 owed_is_held (Clean r) owed = absurd (owed refl)
 owed_is_held (Changed r) owed = refl

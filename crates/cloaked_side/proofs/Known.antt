@@ -23,7 +23,7 @@ use Rattle.shadow_law.specs.Misses.{StayOutsideBut}
 use Rattle.shadow_law.proofs.Changes.{settle_count, offer_count}
 use Rattle.shadow_law.proofs.Misses.{asked_walk, open_entry_agrees, page_entry_agrees, entry_within, keeps_birth}
 use Rattle.cloaked_side.specs.Holding.{HoldsNoMore, HoldsNoOther}
-use Rattle.cloaked_side.specs.Leading.{IsWalkOf, IsLedBy, IsLedSo, IsLive, IsReachedSo, IsViewIn, AreLedOutside, IsEntryOf, IsFoundSo, asked_led, entry_at, inside_view, place_in}
+use Rattle.cloaked_side.specs.Leading.{IsWalkOf, IsLedBy, IsLedSo, IsLive, IsReachedSo, IsRegimeIn, AreLedOutside, IsEntryOf, IsFoundSo, asked_led, entry_at, inside_regime, place_in}
 use Rattle.cloaked_side.specs.Tracking.{Tracks, TracksBy, MapsBy, spent_in}
 use Rattle.cloaked_side.specs.declared.memory.Memory.{Memory}
 use Rattle.cloaked_side.proofs.Tracking.{birth_made, birth_never, birth_still, born_tracks, events_then, look_tracks, no_events, touches_still, tracks_on}
@@ -31,7 +31,7 @@ use Rattle.cloaked_side.proofs.Tabled.{tables_none, walked_touches}
 use Rattle.cloaked_side.proofs.Offered.{offered_walk_still}
 use Rattle.cloak_base.specs.declared.names.SpaceId.{SpaceId}
 use Rattle.cloak_model.specs.AskPages.{inside_access}
-use Rattle.cloak_model.specs.World.{view_of}
+use Rattle.cloak_model.specs.World.{regime_of}
 use Rattle.cloak_model.specs.Ask.{known}
 use Rattle.shadow_fold.specs.Agreement.{TargetAgrees}
 use Rattle.shadow_fold.specs.Fold.{Fold, after_events, entry_in, frame, is_own_table}
@@ -42,7 +42,7 @@ use Rattle.cloak_base.specs.declared.names.Kind.{Kind}
 use Rattle.cloak_base.specs.declared.names.PageId.{PageId}
 use Rattle.cloak_model.specs.declared.access.Walked.{Walked}
 use Rattle.cloak_model.specs.declared.access.Access.{Access}
-use Rattle.cloak_model.specs.declared.view.View.{View}
+use Rattle.cloak_model.specs.declared.regime.InsideRegime.{InsideRegime}
 use Rattle.cloak_base.specs.declared.names.Mode.TheVariants.{U}
 use Rattle.cloak_model.specs.Ask.{shown_word, ask_word, ask_second, ask_after, ask_walk, ask_inside, ask_translate, ask_led, opened, ask_value, ask_store, shown_value, stored_value, loaded_at, ask_load, stored_to, ask_store_at, ask_first}
 use Rattle.cloak_model.specs.Asking.{Told, FollowsFrom, answered}
@@ -55,11 +55,11 @@ use Rattle.shadow_fold.specs.Agreement.{Present, EntryAgrees, satp_in, access_in
 use Rattle.shadow_fold.specs.Entries.{is_for}
 use Rattle.shadow_fold.specs.Table.{Table, looked}
 use Rattle.shadow_fold.specs.declared.entry.Entry.{Entry}
-use Rattle.shadow_fold.specs.declared.entry.ShadowView.{ShadowView}
-use Rattle.shadow_fold.specs.declared.entry.ShadowView.TheVariants.{Outside, Inside}
+use Rattle.shadow_fold.specs.declared.entry.Regime.{Regime}
+use Rattle.shadow_fold.specs.declared.entry.Regime.TheVariants.{Outside, Inside}
 use Rattle.cloak_model.specs.World.{ram_of}
 use Rattle.cloaked_side.proofs.Sided.{count_of, sees_also, sees_noted}
-use Rattle.cloaked_side.proofs.Spending.{due_events, paid_is, maps_born, maps_looked, maps_on, maps_still, since_then, spends_missed, spends_more, spends_still, spends_then}
+use Rattle.cloaked_side.proofs.Spending.{due_events, paid_is, maps_born, maps_looked, maps_on, maps_still, since_then, spends_missed, spends_more, spends_still, spends_then, live_looked}
 use Rattle.shadow_fold.specs.Reads.{Spends, reads_due}
 use Rattle.shadow_fold.proofs.Keys.{is_for-key}
 use Rattle.shadow_fold.proofs.Agreeing.{found}
@@ -72,18 +72,18 @@ use Rattle.cloaked_side.specs.declared.leading.Led.{Led}
 use Rattle.cloaked_side.specs.declared.side.Side.{Side}
 use Rattle.cloaked_side.proofs.Presents.{pager_owes}
 
-led_there : (c : Cloak) (view : ShadowView) (va : ℕ) (kind : Kind) (e : Entry) → (e.view ≡ view) × (e.page ≡ va / 4096) × (e.kind ≡ kind)
-    → (b : Told (Result ℕ ℕ)) → ask_translate (satp_in e.view) (access_in e.view va e.kind) (Cloaked c) ≡ b
-    → ask_translate (satp_in view) (access_in view va kind) (Cloaked c) ≡ b
-led_there c view va kind e same b is =
+led_there : (c : Cloak) (regime : Regime) (va : ℕ) (kind : Kind) (e : Entry) → (e.regime ≡ regime) × (e.page ≡ va / 4096) × (e.kind ≡ kind)
+    → (b : Told (Result ℕ ℕ)) → ask_translate (satp_in e.regime) (access_in e.regime va e.kind) (Cloaked c) ≡ b
+    → ask_translate (satp_in regime) (access_in regime va kind) (Cloaked c) ≡ b
+led_there c regime va kind e same b is =
     sym (λ i. ask_translate (satp_in (same.0 i)) (access_in (same.0 i) va (same.2 i)) (Cloaked c)) ∙ is
 
-walks_there : (ram : List (List ℕ)) (view : ShadowView) (va : ℕ) (kind : Kind) (e : Entry) → (e.view ≡ view) × (e.page ≡ va / 4096) × (e.kind ≡ kind)
-    → (r : Walk) → walk ram (satp_in e.view) (access_in e.view va e.kind) ≡ r → walk ram (satp_in view) (access_in view va kind) ≡ r
-walks_there ram view va kind e same r is =
+walks_there : (ram : List (List ℕ)) (regime : Regime) (va : ℕ) (kind : Kind) (e : Entry) → (e.regime ≡ regime) × (e.page ≡ va / 4096) × (e.kind ≡ kind)
+    → (r : Walk) → walk ram (satp_in e.regime) (access_in e.regime va e.kind) ≡ r → walk ram (satp_in regime) (access_in regime va kind) ≡ r
+walks_there ram regime va kind e same r is =
     sym (λ i. walk ram (satp_in (same.0 i)) (access_in (same.0 i) va (same.2 i))) ∙ is
 
-kind_of_access : (view : ShadowView) (va : ℕ) (kind : Kind) → (access_in view va kind).kind ≡ kind
+kind_of_access : (regime : Regime) (va : ℕ) (kind : Kind) → (access_in regime va kind).kind ≡ kind
 kind_of_access (Outside satp mode sum mxr) va kind = refl
 kind_of_access (Inside satp sum mxr space) va kind = refl
 
@@ -95,23 +95,23 @@ entry_place b pa kind = cond b (Ok pa) (Err (access_fault kind))
 abbrev pub entry_walk : Entry → ℕ → Walked
 entry_walk e va = record { pa = start_of e.frame.0 + va % 4096; pt1 = e.pt1; pt0 = e.pt0 }
 
-found_leads : {E : Type 0} (gave : E → E → List Piece → Type 0) (first now : Side E) (c : Cloak) (view : ShadowView) (va : ℕ)
-    (kind : Kind) (e : Entry) (b : Bool) → SeesCloak gave first now c → Some e ≡ find (is_for view (va / 4096) kind) now.memory.now.shadows.live
+found_leads : {E : Type 0} (gave : E → E → List Piece → Type 0) (first now : Side E) (c : Cloak) (regime : Regime) (va : ℕ)
+    (kind : Kind) (e : Entry) (b : Bool) → SeesCloak gave first now c → Some e ≡ find (is_for regime (va / 4096) kind) now.memory.now.shadows.live
     → b ≡ is_in_frames (frames_of now.memory.now) (start_of e.frame.0 + va % 4096)
-    → (walk c.memory.ram (satp_in view) (access_in view va kind) ≡ Ok (entry_walk e va))
-    × (ask_translate (satp_in view) (access_in view va kind) (Cloaked c)
+    → (walk c.memory.ram (satp_in regime) (access_in regime va kind) ≡ Ok (entry_walk e va))
+    × (ask_translate (satp_in regime) (access_in regime va kind) (Cloaked c)
     ≡ record { answer = entry_place b (start_of e.frame.0 + va % 4096) kind; world = noted (touches (listed e.pt1 ++ listed e.pt0)) (Cloaked c) })
-found_leads gave first now c view va kind e b sees is inside =
+found_leads gave first now c regime va kind e b sees is inside =
     let h = sees.holds in
     let held = held_in now.memory.now.pager in
-    let agrees = found (EntryAgrees (present held c.memory)) (is_for view (va / 4096) kind) now.memory.now.shadows.live e h.agrees (sym is) in
-    let key = is_for-key view (va / 4096) kind e agrees.0 in
+    let agrees = found (EntryAgrees (present held c.memory)) (is_for regime (va / 4096) kind) now.memory.now.shadows.live e h.agrees (sym is) in
+    let key = is_for-key regime (va / 4096) kind e agrees.0 in
     let hit = hit_is_led held c e va (pager_owes now.memory.now.pager h.wiped c.memory h.pager) agrees.1 (sym key.1) in
     let there : is_in_ram c.memory.ram (start_of e.frame.0 + va % 4096) ≡ b =
     ap (λ (n : ℕ). is_in_frames n (start_of e.frame.0 + va % 4096)) h.pager.count ∙ sym inside in
-    let at : (access_in e.view va e.kind).kind ≡ kind = kind_of_access e.view va e.kind ∙ key.2 in (
-      walks_there c.memory.ram view va kind e key _ hit.0,
-      led_there c view va kind e key _
+    let at : (access_in e.regime va e.kind).kind ≡ kind = kind_of_access e.regime va e.kind ∙ key.2 in (
+      walks_there c.memory.ram regime va kind e key _ hit.0,
+      led_there c regime va kind e key _
           (hit.1 b there
           ∙ ap (λ (k : Kind). let t : Told (Result ℕ ℕ) = record {
             answer = entry_place b (start_of e.frame.0 + va % 4096) k;
@@ -124,40 +124,40 @@ target_holds : (p : Present) (e : Entry) (o : Option PageId) → TargetAgrees p 
 target_holds p e None agrees = agrees
 target_holds p e (Some q) agrees = agrees.0
 
-found_agrees : {E : Type 0} (gave : E → E → List Piece → Type 0) (first now : Side E) (w : World) (view : ShadowView) (page : ℕ)
-    (kind : Kind) (e : Entry) → Sees gave first now w → Some e ≡ find (is_for view page kind) now.memory.now.shadows.live
-    → (is_for view page kind e ≡ true) × IfSome e.pt1 (λ f. held_in now.memory.now.pager f.0 ≡ None)
+found_agrees : {E : Type 0} (gave : E → E → List Piece → Type 0) (first now : Side E) (w : World) (regime : Regime) (page : ℕ)
+    (kind : Kind) (e : Entry) → Sees gave first now w → Some e ≡ find (is_for regime page kind) now.memory.now.shadows.live
+    → (is_for regime page kind e ≡ true) × IfSome e.pt1 (λ f. held_in now.memory.now.pager f.0 ≡ None)
     × IfSome e.pt0 (λ f. held_in now.memory.now.pager f.0 ≡ None) × (held_in now.memory.now.pager e.frame.0 ≡ e.cloaked)
-found_agrees gave first now (Flat ram) view page kind e sees is = absurd sees
-found_agrees gave first now (Alone handed) view page kind e sees is = absurd sees
-found_agrees gave first now (Cloaked c) view page kind e sees is =
+found_agrees gave first now (Flat ram) regime page kind e sees is = absurd sees
+found_agrees gave first now (Alone handed) regime page kind e sees is = absurd sees
+found_agrees gave first now (Cloaked c) regime page kind e sees is =
     let p = present (held_in now.memory.now.pager) c.memory in
-    let agrees = found (EntryAgrees p) (is_for view page kind) now.memory.now.shadows.live e sees.holds.agrees (sym is) in
+    let agrees = found (EntryAgrees p) (is_for regime page kind) now.memory.now.shadows.live e sees.holds.agrees (sym is) in
     (agrees.0, agrees.1.first, agrees.1.second, target_holds p e e.cloaked agrees.1.target)
 
-looked_known : (view v : ShadowView) (page n : ℕ) (kind k : Kind) (t : Table) → is_known v n k (looked view page kind t) ≡ is_known v n k t
+looked_known : (regime v : Regime) (page n : ℕ) (kind k : Kind) (t : Table) → is_known v n k (looked regime page kind t) ≡ is_known v n k t
 unfolding is_known looked
-looked_known view v page n kind k t = refl
+looked_known regime v page n kind k t = refl
 
-known_found : (view : ShadowView) (page : ℕ) (kind : Kind) (t : Table) (e : Entry) → Some e ≡ find (is_for view page kind) t.live → is_known view page kind t ≡ true
+known_found : (regime : Regime) (page : ℕ) (kind : Kind) (t : Table) (e : Entry) → Some e ≡ find (is_for regime page kind) t.live → is_known regime page kind t ≡ true
 unfolding is_known
-known_found view page kind t e is = sym (is_some-find (is_for view page kind) t.live) ∙ ap is_some (sym is)
+known_found regime page kind t e is = sym (is_some-find (is_for regime page kind) t.live) ∙ ap is_some (sym is)
 
-pub found_known : (view : ShadowView) (page : ℕ) (kind : Kind) (t u : Table) (e : Entry) → Some e ≡ find (is_for view page kind) t.live → u ≡ looked view page kind t
-    → is_known view page kind u ≡ true
-found_known view page kind t u e is same =
-    ap (λ (x : Table). is_known view page kind x) same ∙ looked_known view view page page kind kind t ∙ known_found view page kind t e is
+pub found_known : (regime : Regime) (page : ℕ) (kind : Kind) (t u : Table) (e : Entry) → Some e ≡ find (is_for regime page kind) t.live → u ≡ looked regime page kind t
+    → is_known regime page kind u ≡ true
+found_known regime page kind t u e is same =
+    ap (λ (x : Table). is_known regime page kind x) same ∙ looked_known regime regime page page kind kind t ∙ known_found regime page kind t e is
 
-pub found_target : {E : Type 0} (gave : E → E → List Piece → Type 0) (first now : Side E) (w : World) (view : ShadowView) (page : ℕ)
-    (kind : Kind) (e : Entry) (pa k : ℕ) (cloaked : Option PageId) → Sees gave first now w → Some e ≡ find (is_for view page kind) now.memory.now.shadows.live
+pub found_target : {E : Type 0} (gave : E → E → List Piece → Type 0) (first now : Side E) (w : World) (regime : Regime) (page : ℕ)
+    (kind : Kind) (e : Entry) (pa k : ℕ) (cloaked : Option PageId) → Sees gave first now w → Some e ≡ find (is_for regime page kind) now.memory.now.shadows.live
     → pa ≡ start_of e.frame.0 + k → k < 4096 → e.cloaked ≡ cloaked → held_in now.memory.now.pager (frame_of pa) ≡ cloaked
-found_target gave first now w view page kind e pa k cloaked sees is at small same =
+found_target gave first now w regime page kind e pa k cloaked sees is at small same =
     let there : frame_of pa ≡ e.frame.0 = omega (arith, at, small) in
-    ap (λ (f : ℕ). held_in now.memory.now.pager f) there ∙ (found_agrees gave first now w view page kind e sees is).3 ∙ same
+    ap (λ (f : ℕ). held_in now.memory.now.pager f) there ∙ (found_agrees gave first now w regime page kind e sees is).3 ∙ same
 
 -- A translation becomes known.
 
--- a side with this table in the place of its own
+-- a side with this table instead of its own
 abbrev pub with_table : {E : Type 0} → Side E → Table → Side E
 with_table old t = record old { memory = record old.memory { now = record old.memory.now { shadows = t } } }
 
@@ -183,7 +183,7 @@ sees_with gave first old t c events left sees agrees room tracks spends maps =
       };
       emits = sees.emits;
       violation = sees.violation;
-      view = sees.view;
+      regime = sees.regime;
       tracks = tracks_on first.memory.now old.memory.now new old.space c.events events sees.tracks tracks;
       spends = spends_more (0 + left) left (reads_due (asked_by old.space c) + 0) _ (spent_in first.memory.now) (spent_in new)
           (let further = due_events old.space c.events events c.items in omega (arith, further))
@@ -191,106 +191,102 @@ sees_with gave first old t c events left sees agrees room tracks spends maps =
       maps = maps_on first.memory.now old.memory.now new old.space c.events events sees.maps maps;
     }
 
-agrees_looked : (p : Present) (view : ShadowView) (page : ℕ) (kind : Kind) (t : Table) → Agrees p t → Agrees p (looked view page kind t)
+agrees_looked : (p : Present) (regime : Regime) (page : ℕ) (kind : Kind) (t : Table) → Agrees p t → Agrees p (looked regime page kind t)
 unfolding looked
-agrees_looked p view page kind t agrees = agrees
+agrees_looked p regime page kind t agrees = agrees
 
-looked_frames : (view : ShadowView) (page : ℕ) (kind : Kind) (t : Table) → (looked view page kind t).frames ≡ t.frames
+looked_frames : (regime : Regime) (page : ℕ) (kind : Kind) (t : Table) → (looked regime page kind t).frames ≡ t.frames
 unfolding looked
-looked_frames view page kind t = refl
+looked_frames regime page kind t = refl
 
-looked_misses : (view : ShadowView) (page : ℕ) (kind : Kind) (t : Table)
-    → (looked view page kind t).counts.misses ≡ cond (is_known view page kind t) t.counts.misses (one_more t.counts.misses)
+looked_misses : (regime : Regime) (page : ℕ) (kind : Kind) (t : Table)
+    → (looked regime page kind t).counts.misses ≡ cond (is_known regime page kind t) t.counts.misses (one_more t.counts.misses)
 unfolding looked
-looked_misses view page kind t = refl
+looked_misses regime page kind t = refl
 
 -- a look counts, and changes nothing else
-looks : {E : Type 0} (gave : E → E → List Piece → Type 0) (first old : Side E) (t : Table) (view : ShadowView) (va : ℕ)
-    (kind : Kind) (c : Cloak) (left : ℕ) → SeesCloak gave first old c → IsViewIn old.space view → t ≡ looked view (va / 4096) kind old.memory.now.shadows
+looks : {E : Type 0} (gave : E → E → List Piece → Type 0) (first old : Side E) (t : Table) (regime : Regime) (va : ℕ)
+    (kind : Kind) (c : Cloak) (left : ℕ) → SeesCloak gave first old c → IsRegimeIn old.space regime → t ≡ looked regime (va / 4096) kind old.memory.now.shadows
     → Spends left 0 (spent_in old.memory.now) (spent_in (record old.memory.now { shadows = t }))
-    → SeesCounted gave first (with_table old t) (record c { events = c.events ++ Look (satp_in view) (access_in view va kind) ∷ [] }) left 0
-looks gave first old t view va kind c left sees viewed is spends =
-    sees_with gave first old t c (Look (satp_in view) (access_in view va kind) ∷ []) left sees
+    → SeesCounted gave first (with_table old t) (record c { events = c.events ++ Look (satp_in regime) (access_in regime va kind) ∷ [] }) left 0
+looks gave first old t regime va kind c left sees viewed is spends =
+    sees_with gave first old t c (Look (satp_in regime) (access_in regime va kind) ∷ []) left sees
     (subst (Agrees (present (held_in old.memory.now.pager) c.memory)) (sym is)
-    (agrees_looked _ view (va / 4096) kind old.memory.now.shadows sees.holds.agrees))
-    (ap (λ (u : Table). u.frames) is ∙ looked_frames view (va / 4096) kind old.memory.now.shadows)
-    (look_tracks old.space view va kind viewed old.memory.now.counting old.memory.now.shadows t (held_in old.memory.now.pager) (λ counts. is))
-    spends (maps_still old.memory.now (record old.memory.now { shadows = t }) old.space (Look (satp_in view) (access_in view va kind) ∷ [])
-    (maps_looked old.memory.now (record old.memory.now { shadows = t }) view (va / 4096) kind is))
+    (agrees_looked _ regime (va / 4096) kind old.memory.now.shadows sees.holds.agrees))
+    (ap (λ (u : Table). u.frames) is ∙ looked_frames regime (va / 4096) kind old.memory.now.shadows)
+    (look_tracks old.space regime va kind viewed old.memory.now.counting old.memory.now.shadows t (held_in old.memory.now.pager) (λ counts. is))
+    spends (maps_still old.memory.now (record old.memory.now { shadows = t }) old.space (Look (satp_in regime) (access_in regime va kind) ∷ [])
+    (maps_looked old.memory.now (record old.memory.now { shadows = t }) regime (va / 4096) kind is))
 
 -- one that finds an entry
-pub looks_found : {E : Type 0} (gave : E → E → List Piece → Type 0) (first old : Side E) (t : Table) (view : ShadowView) (va : ℕ)
-    (kind : Kind) (e : Entry) (c : Cloak) → SeesCloak gave first old c → IsViewIn old.space view → t ≡ looked view (va / 4096) kind old.memory.now.shadows
-    → Some e ≡ find (is_for view (va / 4096) kind) old.memory.now.shadows.live
-    → SeesCloak gave first (with_table old t) (record c { events = c.events ++ Look (satp_in view) (access_in view va kind) ∷ [] })
-looks_found gave first old t view va kind e c sees viewed is there =
-    looks gave first old t view va kind c 0 sees viewed is
+pub looks_found : {E : Type 0} (gave : E → E → List Piece → Type 0) (first old : Side E) (t : Table) (regime : Regime) (va : ℕ)
+    (kind : Kind) (e : Entry) (c : Cloak) → SeesCloak gave first old c → IsRegimeIn old.space regime → t ≡ looked regime (va / 4096) kind old.memory.now.shadows
+    → Some e ≡ find (is_for regime (va / 4096) kind) old.memory.now.shadows.live
+    → SeesCloak gave first (with_table old t) (record c { events = c.events ++ Look (satp_in regime) (access_in regime va kind) ∷ [] })
+looks_found gave first old t regime va kind e c sees viewed is there =
+    looks gave first old t regime va kind c 0 sees viewed is
     (spends_still old.memory.now (record old.memory.now { shadows = t }) refl
-    (ap (λ (u : Table). u.counts.misses) is ∙ looked_misses view (va / 4096) kind old.memory.now.shadows
+    (ap (λ (u : Table). u.counts.misses) is ∙ looked_misses regime (va / 4096) kind old.memory.now.shadows
     ∙ ap (λ (b : Bool). cond b old.memory.now.shadows.counts.misses (one_more old.memory.now.shadows.counts.misses))
-    (known_found view (va / 4096) kind old.memory.now.shadows e there)))
+    (known_found regime (va / 4096) kind old.memory.now.shadows e there)))
 
-unknown_missed : (view : ShadowView) (page : ℕ) (kind : Kind) (t : Table) → None ≡ find (is_for view page kind) t.live → is_known view page kind t ≡ false
+unknown_missed : (regime : Regime) (page : ℕ) (kind : Kind) (t : Table) → None ≡ find (is_for regime page kind) t.live → is_known regime page kind t ≡ false
 unfolding is_known
-unknown_missed view page kind t is = sym (is_some-find (is_for view page kind) t.live) ∙ ap is_some (sym is)
+unknown_missed regime page kind t is = sym (is_some-find (is_for regime page kind) t.live) ∙ ap is_some (sym is)
 
-pub missed_unknown : (view : ShadowView) (page : ℕ) (kind : Kind) (t u : Table) → None ≡ find (is_for view page kind) t.live → u ≡ looked view page kind t
-    → is_known view page kind u ≡ false
-missed_unknown view page kind t u none same =
-    ap (λ (x : Table). is_known view page kind x) same ∙ looked_known view view page page kind kind t ∙ unknown_missed view page kind t none
+pub missed_unknown : (regime : Regime) (page : ℕ) (kind : Kind) (t u : Table) → None ≡ find (is_for regime page kind) t.live → u ≡ looked regime page kind t
+    → is_known regime page kind u ≡ false
+missed_unknown regime page kind t u none same =
+    ap (λ (x : Table). is_known regime page kind x) same ∙ looked_known regime regime page page kind kind t ∙ unknown_missed regime page kind t none
 
 -- one that misses
-pub looks_missed : {E : Type 0} (gave : E → E → List Piece → Type 0) (first old : Side E) (t : Table) (view : ShadowView) (va : ℕ)
-    (kind : Kind) (w : World) → Sees gave first old w → IsViewIn old.space view → t ≡ looked view (va / 4096) kind old.memory.now.shadows
-    → None ≡ find (is_for view (va / 4096) kind) old.memory.now.shadows.live
-    → SeesWalking gave first (with_table old t) (noted (Look (satp_in view) (access_in view va kind) ∷ []) w)
-looks_missed gave first old t view va kind (Flat ram) sees viewed is none = absurd sees
-looks_missed gave first old t view va kind (Alone handed) sees viewed is none = absurd sees
-looks_missed gave first old t view va kind (Cloaked c) sees viewed is none =
-    let look = Look (satp_in view) (access_in view va kind) in
+pub looks_missed : {E : Type 0} (gave : E → E → List Piece → Type 0) (first old : Side E) (t : Table) (regime : Regime) (va : ℕ)
+    (kind : Kind) (w : World) → Sees gave first old w → IsRegimeIn old.space regime → t ≡ looked regime (va / 4096) kind old.memory.now.shadows
+    → None ≡ find (is_for regime (va / 4096) kind) old.memory.now.shadows.live
+    → SeesWalking gave first (with_table old t) (noted (Look (satp_in regime) (access_in regime va kind) ∷ []) w)
+looks_missed gave first old t regime va kind (Flat ram) sees viewed is none = absurd sees
+looks_missed gave first old t regime va kind (Alone handed) sees viewed is none = absurd sees
+looks_missed gave first old t regime va kind (Cloaked c) sees viewed is none =
+    let look = Look (satp_in regime) (access_in regime va kind) in
     subst (λ (n : ℕ). SeesCounted gave first (with_table old t) (record c { events = c.events ++ look ∷ [] }) 2 n) (sym (since_then 0 c.events (look ∷ [])))
-    (looks gave first old t view va kind c 2 sees viewed is
+    (looks gave first old t regime va kind c 2 sees viewed is
     (spends_missed old.memory.now (record old.memory.now { shadows = t }) refl
-    (ap (λ (u : Table). u.counts.misses) is ∙ looked_misses view (va / 4096) kind old.memory.now.shadows
+    (ap (λ (u : Table). u.counts.misses) is ∙ looked_misses regime (va / 4096) kind old.memory.now.shadows
     ∙ ap (λ (b : Bool). cond b old.memory.now.shadows.counts.misses (one_more old.memory.now.shadows.counts.misses))
-    (unknown_missed view (va / 4096) kind old.memory.now.shadows none))))
+    (unknown_missed regime (va / 4096) kind old.memory.now.shadows none))))
 
--- where accesses are not counted, a look is nothing
-pub looks_uncounted : {E : Type 0} (gave : E → E → List Piece → Type 0) (first now : Side E) (view : ShadowView) (va : ℕ)
-    (kind : Kind) (w : World) → Sees gave first now w → IsViewIn now.space view → now.memory.now.counting ≡ false
-    → Sees gave first now (noted (Look (satp_in view) (access_in view va kind) ∷ []) w)
-looks_uncounted gave first now view va kind w sees viewed uncounted =
+-- if accesses are not counted, a look needs nothing
+pub looks_uncounted : {E : Type 0} (gave : E → E → List Piece → Type 0) (first now : Side E) (regime : Regime) (va : ℕ)
+    (kind : Kind) (w : World) → Sees gave first now w → IsRegimeIn now.space regime → now.memory.now.counting ≡ false
+    → Sees gave first now (noted (Look (satp_in regime) (access_in regime va kind) ∷ []) w)
+looks_uncounted gave first now regime va kind w sees viewed uncounted =
     sees_noted gave first now _ w
-    (look_tracks now.space view va kind viewed now.memory.now.counting now.memory.now.shadows now.memory.now.shadows (held_in now.memory.now.pager)
+    (look_tracks now.space regime va kind viewed now.memory.now.counting now.memory.now.shadows now.memory.now.shadows (held_in now.memory.now.pager)
     (λ counts. absurd (false≢true (sym uncounted ∙ counts)))) sees
-
-live_looked : (view : ShadowView) (page : ℕ) (kind : Kind) (t : Table) → (looked view page kind t).live ≡ t.live
-unfolding looked
-live_looked view page kind t = refl
 
 -- An access is led by an entry.
 
-found_after : (view : ShadowView) (page : ℕ) (kind : Kind) (t u : Table) (e : Entry) → u ≡ looked view page kind t
-    → Some e ≡ find (is_for view page kind) t.live → Some e ≡ find (is_for view page kind) u.live
-found_after view page kind t u e is there =
-    there ∙ ap (λ (x : List Entry). find (is_for view page kind) x) (sym (ap (λ (y : Table). y.live) is ∙ live_looked view page kind t))
+found_after : (regime : Regime) (page : ℕ) (kind : Kind) (t u : Table) (e : Entry) → u ≡ looked regime page kind t
+    → Some e ≡ find (is_for regime page kind) t.live → Some e ≡ find (is_for regime page kind) u.live
+found_after regime page kind t u e is there =
+    there ∙ ap (λ (x : List Entry). find (is_for regime page kind) x) (sym (ap (λ (y : Table). y.live) is ∙ live_looked regime page kind t))
 
 -- the access is looked up, and the tables of the entry, which are outside, are touched
-pub entry_follows : {E : Type 0} (gave : E → E → List Piece → Type 0) (first old : Side E) (t : Table) (w : World) (view : ShadowView) (va : ℕ)
-    (kind : Kind) (e : Entry) (b : Bool) (to : Result ℕ ℕ) → Sees gave first old w → IsViewIn old.space view → t ≡ looked view (va / 4096) kind old.memory.now.shadows
-    → Some e ≡ find (is_for view (va / 4096) kind) old.memory.now.shadows.live
+pub entry_follows : {E : Type 0} (gave : E → E → List Piece → Type 0) (first old : Side E) (t : Table) (w : World) (regime : Regime) (va : ℕ)
+    (kind : Kind) (e : Entry) (b : Bool) (to : Result ℕ ℕ) → Sees gave first old w → IsRegimeIn old.space regime → t ≡ looked regime (va / 4096) kind old.memory.now.shadows
+    → Some e ≡ find (is_for regime (va / 4096) kind) old.memory.now.shadows.live
     → b ≡ is_in_frames (frames_of old.memory.now) (start_of e.frame.0 + va % 4096) → to ≡ entry_place b (start_of e.frame.0 + va % 4096) kind
-    → FollowsFrom (Sees gave first) (with_table old t) to (asked_led view va kind w)
+    → FollowsFrom (Sees gave first) (with_table old t) to (asked_led regime va kind w)
 unfolding ask_led
-entry_follows gave first old t (Flat ram) view va kind e b to sees viewed is there inside at = absurd sees
-entry_follows gave first old t (Alone handed) view va kind e b to sees viewed is there inside at = absurd sees
-entry_follows gave first old t (Cloaked c) view va kind e b to sees viewed is there inside at =
+entry_follows gave first old t (Flat ram) regime va kind e b to sees viewed is there inside at = absurd sees
+entry_follows gave first old t (Alone handed) regime va kind e b to sees viewed is there inside at = absurd sees
+entry_follows gave first old t (Cloaked c) regime va kind e b to sees viewed is there inside at =
     let new = with_table old t in
-    let c1 : Cloak = record c { events = c.events ++ Look (satp_in view) (access_in view va kind) ∷ [] } in
-    let sees1 = looks_found gave first old t view va kind e c sees viewed is there in
-    let there1 = found_after view (va / 4096) kind old.memory.now.shadows t e is there in
-    let led = found_leads gave first new c1 view va kind e b sees1 there1 inside in
-    let agrees = found_agrees gave first new (Cloaked c1) view (va / 4096) kind e sees1 there1 in
+    let c1 : Cloak = record c { events = c.events ++ Look (satp_in regime) (access_in regime va kind) ∷ [] } in
+    let sees1 = looks_found gave first old t regime va kind e c sees viewed is there in
+    let there1 = found_after regime (va / 4096) kind old.memory.now.shadows t e is there in
+    let led = found_leads gave first new c1 regime va kind e b sees1 there1 inside in
+    let agrees = found_agrees gave first new (Cloaked c1) regime (va / 4096) kind e sees1 there1 in
     subst (λ (x : Told (Result ℕ ℕ)). FollowsFrom (Sees gave first) new to x) (sym led.1)
     (record {
       answer = at;
@@ -299,40 +295,40 @@ entry_follows gave first old t (Cloaked c) view va kind e b to sees viewed is th
     })
 
 -- it is led so, whether its walk is handed on or not
-pub entry_so : {E : Type 0} (gave : E → E → List Piece → Type 0) (first old : Side E) (t : Table) (w : World) (view : ShadowView) (va : ℕ)
-    (kind : Kind) (e : Entry) (cloaked : Option PageId) (led : Led) → Sees gave first old w → IsViewIn old.space view
-    → t ≡ looked view (va / 4096) kind old.memory.now.shadows → Some e ≡ find (is_for view (va / 4096) kind) old.memory.now.shadows.live
+pub entry_so : {E : Type 0} (gave : E → E → List Piece → Type 0) (first old : Side E) (t : Table) (w : World) (regime : Regime) (va : ℕ)
+    (kind : Kind) (e : Entry) (cloaked : Option PageId) (led : Led) → Sees gave first old w → IsRegimeIn old.space regime
+    → t ≡ looked regime (va / 4096) kind old.memory.now.shadows → Some e ≡ find (is_for regime (va / 4096) kind) old.memory.now.shadows.live
     → is_in_frames (frames_of old.memory.now) (start_of e.frame.0 + va % 4096) ≡ true → led.pa ≡ start_of e.frame.0 + va % 4096
     → (led.walked ≡ Some (entry_walk e va)) ⊎ ((led.walked ≡ None) × (e.cloaked ≡ cloaked))
-    → IsLedSo (with_table old t).memory.now (asked_led view va kind w).world view va kind cloaked led
+    → IsLedSo (with_table old t).memory.now (asked_led regime va kind w).world regime va kind cloaked led
 unfolding ask_led
-entry_so gave first old t (Flat ram) view va kind e cloaked led sees viewed is there inside at so = absurd sees
-entry_so gave first old t (Alone handed) view va kind e cloaked led sees viewed is there inside at so = absurd sees
-entry_so gave first old t (Cloaked c) view va kind e cloaked led sees viewed is there inside at so =
+entry_so gave first old t (Flat ram) regime va kind e cloaked led sees viewed is there inside at so = absurd sees
+entry_so gave first old t (Alone handed) regime va kind e cloaked led sees viewed is there inside at so = absurd sees
+entry_so gave first old t (Cloaked c) regime va kind e cloaked led sees viewed is there inside at so =
     let new = with_table old t in
-    let c1 : Cloak = record c { events = c.events ++ Look (satp_in view) (access_in view va kind) ∷ [] } in
-    let sees1 = looks_found gave first old t view va kind e c sees viewed is there in
-    let there1 = found_after view (va / 4096) kind old.memory.now.shadows t e is there in
-    let found_there = found_leads gave first new c1 view va kind e true sees1 there1 (sym inside) in
-    let agrees = found_agrees gave first new (Cloaked c1) view (va / 4096) kind e sees1 there1 in
+    let c1 : Cloak = record c { events = c.events ++ Look (satp_in regime) (access_in regime va kind) ∷ [] } in
+    let sees1 = looks_found gave first old t regime va kind e c sees viewed is there in
+    let there1 = found_after regime (va / 4096) kind old.memory.now.shadows t e is there in
+    let found_there = found_leads gave first new c1 regime va kind e true sees1 there1 (sym inside) in
+    let agrees = found_agrees gave first new (Cloaked c1) regime (va / 4096) kind e sees1 there1 in
     let inside_ram : is_in_ram c.memory.ram (start_of e.frame.0 + va % 4096) ≡ true =
     ap (λ (n : ℕ). is_in_frames n (start_of e.frame.0 + va % 4096)) sees.holds.pager.count ∙ inside in
     let after = noted (touches (listed e.pt1 ++ listed e.pt0)) (Cloaked c1) in
-    subst (λ (x : Told (Result ℕ ℕ)). IsLedSo new.memory.now x.world view va kind cloaked led) (sym found_there.1)
+    subst (λ (x : Told (Result ℕ ℕ)). IsLedSo new.memory.now x.world regime va kind cloaked led) (sym found_there.1)
     (elim so [
       | inl walked ↦ record {
-        by = subst (λ (o : Option Walked). IfSome o (λ x. IsWalkOf after view va kind x × (x.pa ≡ led.pa))) (sym walked)
+        by = subst (λ (o : Option Walked). IfSome o (λ x. IsWalkOf after regime va kind x × (x.pa ≡ led.pa))) (sym walked)
             ((found_there.0, inside_ram), sym at);
         outside = subst (λ (o : Option Walked). IfSome o (AreOutside (held_in new.memory.now.pager))) (sym walked)
             (record { first = agrees.1; second = agrees.2 });
         live = λ none. absurd (none-some (entry_walk e va) (sym none ∙ walked));
       }
       | inr same ↦ record {
-        by = subst (λ (o : Option Walked). IfSome o (λ x. IsWalkOf after view va kind x × (x.pa ≡ led.pa))) (sym same.0) tt;
+        by = subst (λ (o : Option Walked). IfSome o (λ x. IsWalkOf after regime va kind x × (x.pa ≡ led.pa))) (sym same.0) tt;
         outside = subst (λ (o : Option Walked). IfSome o (AreOutside (held_in new.memory.now.pager))) (sym same.0) tt;
         live = λ none counts. (
-          found_known view (va / 4096) kind old.memory.now.shadows t e there is,
-          found_target gave first old (Cloaked c) view (va / 4096) kind e led.pa (va % 4096) cloaked sees there at (omega arith) same.1,
+          found_known regime (va / 4096) kind old.memory.now.shadows t e there is,
+          found_target gave first old (Cloaked c) regime (va / 4096) kind e led.pa (va % 4096) cloaked sees there at (omega arith) same.1,
         );
       }
     ])
@@ -365,7 +361,7 @@ pub learns : {E : Type 0} (gave : E → E → List Piece → Type 0) (first old 
     (cloaked : Option PageId) (w : World) → Sees gave first old w → IsEntryOf w (held_in old.memory.now.pager) e
     → entry_in old.space satp a walked cloaked ≡ e → is_own_table e ≡ false
     → (IsWithin old.memory.now.shadows.frames e
-    → AreBirthCalls (is_known e.view e.page e.kind old.memory.now.shadows) e old.memory.now.shadows t)
+    → AreBirthCalls (is_known e.regime e.page e.kind old.memory.now.shadows) e old.memory.now.shadows t)
     → Sees gave first (with_table old t) (noted (Born satp a walked cloaked ∷ []) w)
 learns gave first old t e satp a walked cloaked (Flat ram) sees is same other born = absurd sees
 learns gave first old t e satp a walked cloaked (Alone handed) sees is same other born = absurd sees
@@ -381,7 +377,7 @@ learns gave first old t e satp a walked cloaked (Cloaked c) sees is same other b
     (spends_still old.memory.now (record old.memory.now { shadows = t }) refl (birth_misses _ e old.memory.now.shadows t made))
     (maps_born old.memory.now (record old.memory.now { shadows = t }) old.space satp a walked cloaked _ e same made)
 
--- where accesses are not counted, nothing needs to be learnt
+-- if accesses are not counted, nothing needs to be learnt
 pub unlearnt : {E : Type 0} (gave : E → E → List Piece → Type 0) (first old : Side E) (t : Table) (satp : ℕ) (a : Access) (walked : Walked)
     (cloaked : Option PageId) (w : World) → old.memory.now.counting ≡ false → t ≡ old.memory.now.shadows → Sees gave first old w
     → Sees gave first (with_table old t) (noted (Born satp a walked cloaked ∷ []) w)
@@ -393,21 +389,21 @@ unlearnt gave first old t satp a walked cloaked w uncounted same sees =
 
 -- The walk of an access that led somewhere.
 
-pub walk_of : {E : Type 0} (gave : E → E → List Piece → Type 0) (first old mid : Side E) (view : ShadowView) (va : ℕ) (kind : Kind)
+pub walk_of : {E : Type 0} (gave : E → E → List Piece → Type 0) (first old mid : Side E) (regime : Regime) (va : ℕ) (kind : Kind)
     (walked : Walked) (w : World) → SeesWalking gave first old w → is_in_frames (frames_of mid.memory.now) walked.pa ≡ true
-    → FollowsFrom (SeesWalking gave first) mid (Ok walked) (ask_walk (satp_in view) (access_in view va kind) w)
-    → IsWalkOf (ask_translate (satp_in view) (access_in view va kind) w).world view va kind walked
+    → FollowsFrom (SeesWalking gave first) mid (Ok walked) (ask_walk (satp_in regime) (access_in regime va kind) w)
+    → IsWalkOf (ask_translate (satp_in regime) (access_in regime va kind) w).world regime va kind walked
 unfolding ask_translate ask_inside
-walk_of gave first old mid view va kind walked (Flat ram) sees inside told = absurd sees
-walk_of gave first old mid view va kind walked (Alone handed) sees inside told = absurd sees
-walk_of gave first old mid view va kind walked (Cloaked c) sees inside told =
-    let satp = satp_in view in
-    let a = access_in view va kind in
+walk_of gave first old mid regime va kind walked (Flat ram) sees inside told = absurd sees
+walk_of gave first old mid regime va kind walked (Alone handed) sees inside told = absurd sees
+walk_of gave first old mid regime va kind walked (Cloaked c) sees inside told =
+    let satp = satp_in regime in
+    let a = access_in regime va kind in
     let asked = asked_walk satp a c in
     let c' : Cloak = asked.0 in
     let stands = subst (λ (v : World). SeesWalking gave first mid v) asked.1 told.stands in
-    subst (λ (o : Walk). IsWalkOf (ask_inside a o (ask_walk satp a (Cloaked c)).world).world view va kind walked) told.answer
-    (subst (λ (v : World). IsWalkOf v view va kind walked) (sym asked.1)
+    subst (λ (o : Walk). IsWalkOf (ask_inside a o (ask_walk satp a (Cloaked c)).world).world regime va kind walked) told.answer
+    (subst (λ (v : World). IsWalkOf v regime va kind walked) (sym asked.1)
     (asked.2 ∙ sym told.answer, ap (λ (n : ℕ). is_in_frames n walked.pa) stands.holds.pager.count ∙ inside))
 
 translate_unclashed : (satp : ℕ) (a : Access) (w : World) → is_clashed (ask_translate satp a w).world ≡ false
@@ -432,7 +428,7 @@ tracks_self : (memory : Memory) → Tracks memory (fold_of memory)
 unfolding fold_of
 tracks_self memory = record { pages = λ f. refl; entries = λ counts. record { live = λ passes. refl; counts = refl } }
 
--- the tables of a walk that led somewhere are outside behind it
+-- the tables of a walk that led somewhere are outside after it
 pub walk_outside : {E : Type 0} (gave : E → E → List Piece → Type 0) (first old mid : Side E) (satp : ℕ) (a : Access) (walked : Walked) (w : World)
     → SeesWalking gave first old w → FollowsFrom (SeesWalking gave first) mid (Ok walked) (ask_walk satp a w) → AreOutside (held_in mid.memory.now.pager) walked
 walk_outside gave first old mid satp a walked (Flat ram) sees told = absurd sees
@@ -470,53 +466,53 @@ pub sees_known : {E : Type 0} (gave : E → E → List Piece → Type 0) (first 
 sees_known gave first now satp a cloaked w sees calls =
     sees_noted gave first now _ w (births_still now.memory.now now.space satp a cloaked (walk (ram_of w) satp a) calls) sees
 
--- the entry of an access of a view
-entry_key : (space : Option SpaceId) (view : ShadowView) (va : ℕ) (kind : Kind) (walked : Walked) (cloaked : Option PageId) → IsViewIn space view
-    → let e = entry_in space (satp_in view) (access_in view va kind) walked cloaked in (t : Table) → is_known e.view e.page e.kind t ≡ is_known view (va / 4096) kind t
-entry_key space (Outside satp mode sum mxr) va kind walked cloaked viewed t = ap (λ (v : ShadowView). is_known v (va / 4096) kind t) (viewed va kind)
-entry_key space (Inside satp sum mxr x) va kind walked cloaked viewed t = ap (λ (v : ShadowView). is_known v (va / 4096) kind t) (viewed va kind)
+-- the entry of an access of a regime
+entry_key : (space : Option SpaceId) (regime : Regime) (va : ℕ) (kind : Kind) (walked : Walked) (cloaked : Option PageId) → IsRegimeIn space regime
+    → let e = entry_in space (satp_in regime) (access_in regime va kind) walked cloaked in (t : Table) → is_known e.regime e.page e.kind t ≡ is_known regime (va / 4096) kind t
+entry_key space (Outside satp mode sum mxr) va kind walked cloaked viewed t = ap (λ (v : Regime). is_known v (va / 4096) kind t) (viewed va kind)
+entry_key space (Inside satp sum mxr x) va kind walked cloaked viewed t = ap (λ (v : Regime). is_known v (va / 4096) kind t) (viewed va kind)
 
-pub sees_live : {E : Type 0} (gave : E → E → List Piece → Type 0) (first now : Side E) (view : ShadowView) (va : ℕ) (kind : Kind) (cloaked : Option PageId) (w : World)
-    → Sees gave first now w → IsViewIn now.space view → (now.memory.now.counting ≡ true → is_known view (va / 4096) kind now.memory.now.shadows ≡ true)
-    → Sees gave first now (known (satp_in view) (access_in view va kind) cloaked w)
-sees_live gave first now view va kind cloaked w sees viewed live =
-    sees_known gave first now (satp_in view) (access_in view va kind) cloaked w sees
-    (λ walked leads counts. birth_still (entry_in now.space (satp_in view) (access_in view va kind) walked cloaked) now.memory.now.shadows
-    (entry_key now.space view va kind walked cloaked viewed now.memory.now.shadows ∙ live counts))
+pub sees_live : {E : Type 0} (gave : E → E → List Piece → Type 0) (first now : Side E) (regime : Regime) (va : ℕ) (kind : Kind) (cloaked : Option PageId) (w : World)
+    → Sees gave first now w → IsRegimeIn now.space regime → (now.memory.now.counting ≡ true → is_known regime (va / 4096) kind now.memory.now.shadows ≡ true)
+    → Sees gave first now (known (satp_in regime) (access_in regime va kind) cloaked w)
+sees_live gave first now regime va kind cloaked w sees viewed live =
+    sees_known gave first now (satp_in regime) (access_in regime va kind) cloaked w sees
+    (λ walked leads counts. birth_still (entry_in now.space (satp_in regime) (access_in regime va kind) walked cloaked) now.memory.now.shadows
+    (entry_key now.space regime va kind walked cloaked viewed now.memory.now.shadows ∙ live counts))
 
 -- the entry of the walk is the one that is built
-pub entry_same : (space : Option SpaceId) (view : ShadowView) (va : ℕ) (kind : Kind) (walked : Walked) (cloaked : Option PageId) (f : Frame) (pa : ℕ) (e : Entry) → IsViewIn space view
+pub entry_same : (space : Option SpaceId) (regime : Regime) (va : ℕ) (kind : Kind) (walked : Walked) (cloaked : Option PageId) (f : Frame) (pa : ℕ) (e : Entry) → IsRegimeIn space regime
     → walked.pa ≡ pa → f.0 ≡ frame_of pa
-    → e ≡ record { view = view; page = va / 4096; kind = kind; frame = f; pt1 = walked.pt1; pt0 = walked.pt0; cloaked = cloaked }
-    → entry_in space (satp_in view) (access_in view va kind) walked cloaked ≡ e
+    → e ≡ record { regime = regime; page = va / 4096; kind = kind; frame = f; pt1 = walked.pt1; pt0 = walked.pt0; cloaked = cloaked }
+    → entry_in space (satp_in regime) (access_in regime va kind) walked cloaked ≡ e
 entry_same space (Outside satp mode sum mxr) va kind walked cloaked f pa e viewed led at is =
-    let by : ShadowView → ℕ → Entry = λ v n. record { view = v; page = va / 4096; kind = kind; frame = record { 0 = n }; pt1 = walked.pt1; pt0 = walked.pt0; cloaked = cloaked } in
+    let by : Regime → ℕ → Entry = λ v n. record { regime = v; page = va / 4096; kind = kind; frame = record { 0 = n }; pt1 = walked.pt1; pt0 = walked.pt0; cloaked = cloaked } in
     (λ i. by (viewed va kind i) ((ap (λ (n : ℕ). frame_of n) led ∙ sym at) i)) ∙ sym is
 entry_same space (Inside satp sum mxr x) va kind walked cloaked f pa e viewed led at is =
-    let by : ShadowView → ℕ → Entry = λ v n. record { view = v; page = va / 4096; kind = kind; frame = record { 0 = n }; pt1 = walked.pt1; pt0 = walked.pt0; cloaked = cloaked } in
+    let by : Regime → ℕ → Entry = λ v n. record { regime = v; page = va / 4096; kind = kind; frame = record { 0 = n }; pt1 = walked.pt1; pt0 = walked.pt0; cloaked = cloaked } in
     (λ i. by (viewed va kind i) ((ap (λ (n : ℕ). frame_of n) led ∙ sym at) i)) ∙ sym is
 
 -- what was born of a walk that leads there is what is known then
-pub born_known : {E : Type 0} (gave : E → E → List Piece → Type 0) (first now : Side E) (view : ShadowView) (va : ℕ) (kind : Kind) (walked : Walked) (cloaked : Option PageId) (w : World)
-    → IsWalkOf w view va kind walked → Sees gave first now (noted (Born (satp_in view) (access_in view va kind) walked cloaked ∷ []) w)
-    → Sees gave first now (known (satp_in view) (access_in view va kind) cloaked w)
-born_known gave first now view va kind walked cloaked (Flat ram) is sees = absurd is
-born_known gave first now view va kind walked cloaked (Alone handed) is sees = absurd is
-born_known gave first now view va kind walked cloaked (Cloaked c) is sees =
-    subst (λ (r : Walk). Sees gave first now (noted (births_by (satp_in view) (access_in view va kind) cloaked r) (Cloaked c))) (sym is.0) sees
+pub born_known : {E : Type 0} (gave : E → E → List Piece → Type 0) (first now : Side E) (regime : Regime) (va : ℕ) (kind : Kind) (walked : Walked) (cloaked : Option PageId) (w : World)
+    → IsWalkOf w regime va kind walked → Sees gave first now (noted (Born (satp_in regime) (access_in regime va kind) walked cloaked ∷ []) w)
+    → Sees gave first now (known (satp_in regime) (access_in regime va kind) cloaked w)
+born_known gave first now regime va kind walked cloaked (Flat ram) is sees = absurd is
+born_known gave first now regime va kind walked cloaked (Alone handed) is sees = absurd is
+born_known gave first now regime va kind walked cloaked (Cloaked c) is sees =
+    subst (λ (r : Walk). Sees gave first now (noted (births_by (satp_in regime) (access_in regime va kind) cloaked r) (Cloaked c))) (sym is.0) sees
 
--- a walk leads there still behind a settling
-pub settled_is : {E : Type 0} (gave : E → E → List Piece → Type 0) (first old : Side E) (view : ShadowView) (va : ℕ) (kind : Kind) (walked : Walked) (f : ℕ) (w : World)
-    → Sees gave first old w → AreOutside (held_in old.memory.now.pager) walked → IsWalkOf w view va kind walked → IsWalkOf (settled f w) view va kind walked
-settled_is gave first old view va kind walked f (Flat ram) sees out is = absurd is
-settled_is gave first old view va kind walked f (Alone handed) sees out is = absurd is
-settled_is gave first old view va kind walked f (Cloaked c) sees out is =
+-- a walk still leads there after a settling
+pub settled_is : {E : Type 0} (gave : E → E → List Piece → Type 0) (first old : Side E) (regime : Regime) (va : ℕ) (kind : Kind) (walked : Walked) (f : ℕ) (w : World)
+    → Sees gave first old w → AreOutside (held_in old.memory.now.pager) walked → IsWalkOf w regime va kind walked → IsWalkOf (settled f w) regime va kind walked
+settled_is gave first old regime va kind walked f (Flat ram) sees out is = absurd is
+settled_is gave first old regime va kind walked f (Alone handed) sees out is = absurd is
+settled_is gave first old regime va kind walked f (Cloaked c) sees out is =
     let h = sees.holds in (
-      settled_walk (held_in old.memory.now.pager) c.memory f (satp_in view) (access_in view va kind) walked (pager_owes old.memory.now.pager h.wiped c.memory h.pager) out is.0,
+      settled_walk (held_in old.memory.now.pager) c.memory f (satp_in regime) (access_in regime va kind) walked (pager_owes old.memory.now.pager h.wiped c.memory h.pager) out is.0,
       ap (λ (n : ℕ). is_in_frames n walked.pa) (settle_count f c.memory) ∙ is.1,
     )
 
--- what frames held no page hold none where they hold no more
+-- frames that held no page hold none if they hold no more than before
 outside_still : (old new : PagerState) (f : ℕ) → HoldsNoMore old new → StayOutsideBut f (held_in old) (held_in new)
 outside_still old new f less x other none = by_held (held_in new x) refl
   where
@@ -525,37 +521,37 @@ outside_still old new f less x other none = by_held (held_in new x) refl
     by_held (Some p) is = absurd (none-some p (sym none ∙ less.held x p is))
 
 -- The frame of an open access was settled: the entry of its walk agrees.
-pub open_entry : {E : Type 0} (gave : E → E → List Piece → Type 0) (first old new : Side E) (view : ShadowView) (va : ℕ) (kind : Kind)
-    (pa : ℕ) (walked : Walked) (w : World) → Sees gave first old w → IsWalkOf w view va kind walked → walked.pa ≡ pa
+pub open_entry : {E : Type 0} (gave : E → E → List Piece → Type 0) (first old new : Side E) (regime : Regime) (va : ℕ) (kind : Kind)
+    (pa : ℕ) (walked : Walked) (w : World) → Sees gave first old w → IsWalkOf w regime va kind walked → walked.pa ≡ pa
     → AreOutside (held_in old.memory.now.pager) walked → HoldsNoMore old.memory.now.pager new.memory.now.pager
     → held_in new.memory.now.pager (frame_of pa) ≡ None → frames_of new.memory.now ≡ frames_of old.memory.now
-    → IsEntryOf (settled (frame_of pa) w) (held_in new.memory.now.pager) (entry_at view va kind pa walked None)
-open_entry gave first old new view va kind pa walked (Flat ram) sees is at outside less none count = absurd sees
-open_entry gave first old new view va kind pa walked (Alone handed) sees is at outside less none count = absurd sees
-open_entry gave first old new view va kind pa walked (Cloaked c) sees is at outside less none count =
+    → IsEntryOf (settled (frame_of pa) w) (held_in new.memory.now.pager) (entry_at regime va kind pa walked None)
+open_entry gave first old new regime va kind pa walked (Flat ram) sees is at outside less none count = absurd sees
+open_entry gave first old new regime va kind pa walked (Alone handed) sees is at outside less none count = absurd sees
+open_entry gave first old new regime va kind pa walked (Cloaked c) sees is at outside less none count =
     let h = sees.holds in
     let held = held_in old.memory.now.pager in
     let held' = held_in new.memory.now.pager in
-    let agrees = open_entry_agrees held held' c.memory view va kind walked is.0 is.1
+    let agrees = open_entry_agrees held held' c.memory regime va kind walked is.0 is.1
     (pager_owes old.memory.now.pager h.wiped c.memory h.pager) outside
     (outside_still old.memory.now.pager new.memory.now.pager (frame_of walked.pa) less)
     (subst (λ (n : ℕ). held' (frame_of n) ≡ None) (sym at) none) in
-    let within = entry_within c.memory.ram view va kind walked None is.0 is.1 in (
-      subst (λ (n : ℕ). EntryAgrees (present held' (settle (frame_of n) c.memory).memory) (entry_at view va kind n walked None)) at agrees,
-      subst (λ (n : ℕ). IsWithin n (entry_at view va kind pa walked None)) (sym (settle_count (frame_of pa) c.memory))
-          (subst (λ (n : ℕ). IsWithin (length c.memory.ram) (entry_at view va kind n walked None)) at within),
+    let within = entry_within c.memory.ram regime va kind walked None is.0 is.1 in (
+      subst (λ (n : ℕ). EntryAgrees (present held' (settle (frame_of n) c.memory).memory) (entry_at regime va kind n walked None)) at agrees,
+      subst (λ (n : ℕ). IsWithin n (entry_at regime va kind pa walked None)) (sym (settle_count (frame_of pa) c.memory))
+          (subst (λ (n : ℕ). IsWithin (length c.memory.ram) (entry_at regime va kind n walked None)) at within),
     )
 
--- Its target was settled, and its translation learned, where it was new.
+-- Its target was settled, and its translation was learned if it was new.
 
-pub led_entry : {E : Type 0} (gave : E → E → List Piece → Type 0) (first old new : Side E) (view : ShadowView) (va : ℕ) (kind : Kind)
-    (led : Led) (walked : Walked) (w : World) → Sees gave first old w → led.walked ≡ Some walked → IsLedBy w view va kind led
+pub led_entry : {E : Type 0} (gave : E → E → List Piece → Type 0) (first old new : Side E) (regime : Regime) (va : ℕ) (kind : Kind)
+    (led : Led) (walked : Walked) (w : World) → Sees gave first old w → led.walked ≡ Some walked → IsLedBy w regime va kind led
     → AreLedOutside (held_in old.memory.now.pager) led → HoldsNoMore old.memory.now.pager new.memory.now.pager
     → held_in new.memory.now.pager (frame_of led.pa) ≡ None → frames_of new.memory.now ≡ frames_of old.memory.now
-    → IsEntryOf (settled (frame_of led.pa) w) (held_in new.memory.now.pager) (entry_at view va kind led.pa walked None)
-led_entry gave first old new view va kind led walked w sees some by outside less none count =
-    let is = subst (λ (o : Option Walked). IfSome o (λ x. IsWalkOf w view va kind x × (x.pa ≡ led.pa))) some by in
-    open_entry gave first old new view va kind led.pa walked w sees is.0 is.1
+    → IsEntryOf (settled (frame_of led.pa) w) (held_in new.memory.now.pager) (entry_at regime va kind led.pa walked None)
+led_entry gave first old new regime va kind led walked w sees some by outside less none count =
+    let is = subst (λ (o : Option Walked). IfSome o (λ x. IsWalkOf w regime va kind x × (x.pa ≡ led.pa))) some by in
+    open_entry gave first old new regime va kind led.pa walked w sees is.0 is.1
     (subst (λ (o : Option Walked). IfSome o (AreOutside (held_in old.memory.now.pager))) some outside) less none count
 
 -- A page was offered in the frame, which holds it now: the entry of the walk agrees, unless the frame is one of its tables.
@@ -589,36 +585,36 @@ outside_but old new g q whole others here x other none = by_held (held_in new x)
       | inr unlike ↦ absurd (none-some p (sym none ∙ others x p unlike.1 is))
     ]
 
-page_entry_in : {E : Type 0} (gave : E → E → List Piece → Type 0) (first old new : Side E) (view : ShadowView) (va : ℕ) (kind : Kind)
+page_entry_in : {E : Type 0} (gave : E → E → List Piece → Type 0) (first old new : Side E) (regime : Regime) (va : ℕ) (kind : Kind)
     (q : PageId) (pa : ℕ) (walked : Walked) (c c' : Cloak) → SeesCloak gave first old c → SeesCloak gave first new c'
     → c'.memory ≡ (offer q (frame_of pa) (is_store kind) c.memory).memory
-    → IsWalkOf (Cloaked c) view va kind walked → walked.pa ≡ pa
+    → IsWalkOf (Cloaked c) regime va kind walked → walked.pa ≡ pa
     → AreOutside (held_in old.memory.now.pager) walked → HoldsNoOther q old.memory.now.pager new.memory.now.pager
     → held_in new.memory.now.pager (frame_of pa) ≡ Some q
     → (kind ≡ Store → owed_at new.memory.now.pager (frame_of pa) ≡ Some q)
     → frames_of new.memory.now ≡ frames_of old.memory.now
-    → is_table (record { 0 = frame_of pa }) (entry_at view va kind pa walked (Some q)) ≡ false
-    → IsEntryOf (Cloaked c') (held_in new.memory.now.pager) (entry_at view va kind pa walked (Some q))
-page_entry_in gave first old new view va kind q pa walked c c' sees sees' is_memory is at outside others here owed count apart =
+    → is_table (record { 0 = frame_of pa }) (entry_at regime va kind pa walked (Some q)) ≡ false
+    → IsEntryOf (Cloaked c') (held_in new.memory.now.pager) (entry_at regime va kind pa walked (Some q))
+page_entry_in gave first old new regime va kind q pa walked c c' sees sees' is_memory is at outside others here owed count apart =
     let h = sees.holds in
     let h' = sees'.holds in
     let held = held_in old.memory.now.pager in
     let held' = held_in new.memory.now.pager in
-    let agrees = page_entry_agrees held held' c.memory view va kind walked q is.0 is.1
+    let agrees = page_entry_agrees held held' c.memory regime va kind walked q is.0 is.1
     (pager_owes old.memory.now.pager h.wiped c.memory h.pager) outside
-    (subst (λ (n : ℕ). is_table (record { 0 = frame_of n }) (entry_at view va kind n walked (Some q)) ≡ false) (sym at) apart)
+    (subst (λ (n : ℕ). is_table (record { 0 = frame_of n }) (entry_at regime va kind n walked (Some q)) ≡ false) (sym at) apart)
     (outside_but old.memory.now.pager new.memory.now.pager (frame_of walked.pa) q h'.pager.whole others
     (subst (λ (n : ℕ). held' (frame_of n) ≡ Some q) (sym at) here))
     (subst (λ (n : ℕ). held' (frame_of n) ≡ Some q) (sym at) here)
     (λ store. subst (λ (n : ℕ). owed_in (offer q (frame_of n) (is_store kind) c.memory).memory (frame_of n) ≡ Some q) (sym at)
     (subst (λ (m : CloakedMemory). owed_in m (frame_of pa) ≡ Some q) is_memory
     (owed_by_right new.memory.now.pager h'.wiped c'.memory h'.pager (frame_of pa) ∙ owed store))) in (
-      subst (λ (m : CloakedMemory). EntryAgrees (present held' m) (entry_at view va kind pa walked (Some q))) (sym is_memory)
+      subst (λ (m : CloakedMemory). EntryAgrees (present held' m) (entry_at regime va kind pa walked (Some q))) (sym is_memory)
           (subst (λ (n : ℕ). EntryAgrees (present held' (offer q (frame_of n) (is_store kind) c.memory).memory)
-          (entry_at view va kind n walked (Some q))) at agrees),
-      subst (λ (n : ℕ). IsWithin n (entry_at view va kind pa walked (Some q))) (h.pager.count ∙ sym count ∙ sym h'.pager.count)
-          (subst (λ (n : ℕ). IsWithin (length c.memory.ram) (entry_at view va kind n walked (Some q))) at
-          (entry_within c.memory.ram view va kind walked (Some q) is.0 is.1)),
+          (entry_at regime va kind n walked (Some q))) at agrees),
+      subst (λ (n : ℕ). IsWithin n (entry_at regime va kind pa walked (Some q))) (h.pager.count ∙ sym count ∙ sym h'.pager.count)
+          (subst (λ (n : ℕ). IsWithin (length c.memory.ram) (entry_at regime va kind n walked (Some q))) at
+          (entry_within c.memory.ram regime va kind walked (Some q) is.0 is.1)),
     )
 
 -- Where an access was led.
@@ -629,7 +625,7 @@ pub if_led : {P Q : Led → Type 0} (r : Result Led ℕ) → ((led : Led) → P 
 if_led (Ok led) all p = all led p
 if_led (Err cause) all p = tt
 
--- The walk of an access, behind a look that missed.
+-- The walk of an access, after a look that missed.
 
 -- the touches of a walk are few
 word_since : (pa : ℕ) (c : Cloak) → (c' : Cloak) × ((ask_word pa (Cloaked c)).world ≡ Cloaked c') × (touched_since 0 c'.events ≤ touched_since 0 c.events + 1)
@@ -682,7 +678,7 @@ walked_sees gave first now satp a c =
       holds = seen.holds;
       emits = seen.emits;
       violation = seen.violation;
-      view = seen.view;
+      regime = seen.regime;
       tracks = seen.tracks;
       spends = (
           let n = touched_since 0 there.0.events in
@@ -698,173 +694,173 @@ abbrev pub walk_place : ℕ → Kind → Walk → Result ℕ ℕ
 walk_place n kind (Err cause) = Err cause
 walk_place n kind (Ok walked) = entry_place (is_in_frames n walked.pa) walked.pa kind
 
-inside_told : {E : Type 0} (gave : E → E → List Piece → Type 0) (first mid : Side E) (view : ShadowView) (va : ℕ) (kind : Kind)
+inside_told : {E : Type 0} (gave : E → E → List Piece → Type 0) (first mid : Side E) (regime : Regime) (va : ℕ) (kind : Kind)
     (r : Walk) (to : Result ℕ ℕ) (v : World) → Sees gave first mid v → to ≡ walk_place (frames_of mid.memory.now) kind r
-    → FollowsFrom (Sees gave first) mid to (ask_inside (access_in view va kind) r v)
+    → FollowsFrom (Sees gave first) mid to (ask_inside (access_in regime va kind) r v)
 unfolding ask_inside
-inside_told gave first mid view va kind (Err cause) to v sees is = record { answer = is; stands = sees }
-inside_told gave first mid view va kind (Ok walked) to v sees is = record {
+inside_told gave first mid regime va kind (Err cause) to v sees is = record { answer = is; stands = sees }
+inside_told gave first mid regime va kind (Ok walked) to v sees is = record {
   answer = is
       ∙ ap (λ (n : ℕ). entry_place (is_in_frames n walked.pa) walked.pa kind) (sym (count_of gave first mid v sees))
-      ∙ ap (λ (k : Kind). entry_place (is_in_frames (length (ram_of v)) walked.pa) walked.pa k) (sym (kind_of_access view va kind));
+      ∙ ap (λ (k : Kind). entry_place (is_in_frames (length (ram_of v)) walked.pa) walked.pa k) (sym (kind_of_access regime va kind));
   stands = sees;
 }
 
 -- an access is led by its walk
-pub walk_follows : {E : Type 0} (gave : E → E → List Piece → Type 0) (first old mid : Side E) (view : ShadowView) (va : ℕ) (kind : Kind)
-    (r : Walk) (to : Result ℕ ℕ) (w : World) → let w1 = noted (Look (satp_in view) (access_in view va kind) ∷ []) w in
-    SeesWalking gave first old w1 → FollowsFrom (SeesWalking gave first) mid r (ask_walk (satp_in view) (access_in view va kind) w1)
-    → to ≡ walk_place (frames_of mid.memory.now) kind r → FollowsFrom (Sees gave first) mid to (asked_led view va kind w)
+pub walk_follows : {E : Type 0} (gave : E → E → List Piece → Type 0) (first old mid : Side E) (regime : Regime) (va : ℕ) (kind : Kind)
+    (r : Walk) (to : Result ℕ ℕ) (w : World) → let w1 = noted (Look (satp_in regime) (access_in regime va kind) ∷ []) w in
+    SeesWalking gave first old w1 → FollowsFrom (SeesWalking gave first) mid r (ask_walk (satp_in regime) (access_in regime va kind) w1)
+    → to ≡ walk_place (frames_of mid.memory.now) kind r → FollowsFrom (Sees gave first) mid to (asked_led regime va kind w)
 unfolding ask_led ask_translate
-walk_follows gave first old mid view va kind r to (Flat ram) sees told is = absurd sees
-walk_follows gave first old mid view va kind r to (Alone handed) sees told is = absurd sees
-walk_follows gave first old mid view va kind r to (Cloaked c) sees told is =
-    let satp = satp_in view in
-    let a = access_in view va kind in
+walk_follows gave first old mid regime va kind r to (Flat ram) sees told is = absurd sees
+walk_follows gave first old mid regime va kind r to (Alone handed) sees told is = absurd sees
+walk_follows gave first old mid regime va kind r to (Cloaked c) sees told is =
+    let satp = satp_in regime in
+    let a = access_in regime va kind in
     let t = ask_walk satp a (noted (Look satp a ∷ []) (Cloaked c)) in
     subst (λ (o : Walk). FollowsFrom (Sees gave first) mid to (ask_inside a o t.world)) told.answer
-    (inside_told gave first mid view va kind r to t.world (walked_sees gave first mid satp a c told.stands) is)
+    (inside_told gave first mid regime va kind r to t.world (walked_sees gave first mid satp a c told.stands) is)
 
 -- and led so
-pub walk_so : {E : Type 0} (gave : E → E → List Piece → Type 0) (first old mid : Side E) (view : ShadowView) (va : ℕ) (kind : Kind)
-    (cloaked : Option PageId) (walked : Walked) (pa : ℕ) (w : World) → let w1 = noted (Look (satp_in view) (access_in view va kind) ∷ []) w in
-    SeesWalking gave first old w1 → FollowsFrom (SeesWalking gave first) mid (Ok walked) (ask_walk (satp_in view) (access_in view va kind) w1)
+pub walk_so : {E : Type 0} (gave : E → E → List Piece → Type 0) (first old mid : Side E) (regime : Regime) (va : ℕ) (kind : Kind)
+    (cloaked : Option PageId) (walked : Walked) (pa : ℕ) (w : World) → let w1 = noted (Look (satp_in regime) (access_in regime va kind) ∷ []) w in
+    SeesWalking gave first old w1 → FollowsFrom (SeesWalking gave first) mid (Ok walked) (ask_walk (satp_in regime) (access_in regime va kind) w1)
     → is_in_frames (frames_of mid.memory.now) walked.pa ≡ true → walked.pa ≡ pa
-    → IsLedSo mid.memory.now (asked_led view va kind w).world view va kind cloaked (record { pa = pa; walked = Some walked; missed = true })
+    → IsLedSo mid.memory.now (asked_led regime va kind w).world regime va kind cloaked (record { pa = pa; walked = Some walked; missed = true })
 unfolding ask_led
-walk_so gave first old mid view va kind cloaked walked pa w sees told inside at =
-    let w1 = noted (Look (satp_in view) (access_in view va kind) ∷ []) w in
+walk_so gave first old mid regime va kind cloaked walked pa w sees told inside at =
+    let w1 = noted (Look (satp_in regime) (access_in regime va kind) ∷ []) w in
     record {
-      by = (walk_of gave first old mid view va kind walked w1 sees inside told, at);
-      outside = walk_outside gave first old mid (satp_in view) (access_in view va kind) walked w1 sees told;
+      by = (walk_of gave first old mid regime va kind walked w1 sees inside told, at);
+      outside = walk_outside gave first old mid (satp_in regime) (access_in regime va kind) walked w1 sees told;
       live = λ none. absurd (none-some walked (sym none));
     }
 
 -- the walk of an access that is not clashed is not
-pub led_unclashed : (view : ShadowView) (va : ℕ) (kind : Kind) (w : World) → is_clashed (asked_led view va kind w).world ≡ false
-    → is_clashed (ask_walk (satp_in view) (access_in view va kind) (noted (Look (satp_in view) (access_in view va kind) ∷ []) w)).world ≡ false
+pub led_unclashed : (regime : Regime) (va : ℕ) (kind : Kind) (w : World) → is_clashed (asked_led regime va kind w).world ≡ false
+    → is_clashed (ask_walk (satp_in regime) (access_in regime va kind) (noted (Look (satp_in regime) (access_in regime va kind) ∷ []) w)).world ≡ false
 unfolding ask_led
-led_unclashed view va kind w unclashed = translate_unclashed (satp_in view) (access_in view va kind) _ unclashed
+led_unclashed regime va kind w unclashed = translate_unclashed (satp_in regime) (access_in regime va kind) _ unclashed
 
--- The target of an open access was settled. Where it was led without a walk, its translation stays.
+-- The target of an open access was settled. If it was led without a walk, its translation stays.
 
-quiet_known : (view : ShadowView) (page : ℕ) (kind : Kind) (t t' : Table) (o : Option PageId) (f : ℕ) → t' ≡ killed_if (is_some o) (frame f) t → o ≡ None
-    → is_known view page kind t ≡ true → is_known view page kind t' ≡ true
-quiet_known view page kind t t' o f ends none known =
-    ap (λ (u : Table). is_known view page kind u) (ends ∙ ap (λ (x : Option PageId). killed_if (is_some x) (frame f) t) none) ∙ known
+quiet_known : (regime : Regime) (page : ℕ) (kind : Kind) (t t' : Table) (o : Option PageId) (f : ℕ) → t' ≡ killed_if (is_some o) (frame f) t → o ≡ None
+    → is_known regime page kind t ≡ true → is_known regime page kind t' ≡ true
+quiet_known regime page kind t t' o f ends none known =
+    ap (λ (u : Table). is_known regime page kind u) (ends ∙ ap (λ (x : Option PageId). killed_if (is_some x) (frame f) t) none) ∙ known
 
-pub opened_live : {E : Type 0} (gave : E → E → List Piece → Type 0) (first old new : Side E) (view : ShadowView) (va : ℕ) (kind : Kind) (led : Led) (f : ℕ) (w : World)
-    → f ≡ frame_of led.pa → Sees gave first new (settled (frame_of led.pa) w) → IsViewIn new.space view → led.walked ≡ None
-    → IsLive old.memory.now view va kind None led → new.memory.now.counting ≡ old.memory.now.counting
+pub opened_live : {E : Type 0} (gave : E → E → List Piece → Type 0) (first old new : Side E) (regime : Regime) (va : ℕ) (kind : Kind) (led : Led) (f : ℕ) (w : World)
+    → f ≡ frame_of led.pa → Sees gave first new (settled (frame_of led.pa) w) → IsRegimeIn new.space regime → led.walked ≡ None
+    → IsLive old.memory.now regime va kind None led → new.memory.now.counting ≡ old.memory.now.counting
     → new.memory.now.shadows ≡ killed_if (is_some (held_in old.memory.now.pager f)) (frame f) old.memory.now.shadows
-    → Sees gave first new (opened (satp_in view) (access_in view va kind) led.pa w)
-opened_live gave first old new view va kind led f w at sees viewed none live counting ends =
-    sees_live gave first new view va kind None (settled (frame_of led.pa) w) sees viewed (λ counts.
+    → Sees gave first new (opened (satp_in regime) (access_in regime va kind) led.pa w)
+opened_live gave first old new regime va kind led f w at sees viewed none live counting ends =
+    sees_live gave first new regime va kind None (settled (frame_of led.pa) w) sees viewed (λ counts.
     let is = live none (sym counting ∙ counts) in
-    quiet_known view (va / 4096) kind old.memory.now.shadows new.memory.now.shadows (held_in old.memory.now.pager f) f ends
+    quiet_known regime (va / 4096) kind old.memory.now.shadows new.memory.now.shadows (held_in old.memory.now.pager f) f ends
     (ap (held_in old.memory.now.pager) at ∙ is.1) is.0)
 
 -- A page was offered where its access was led, and the frame holds it now.
 
-offered_is : {E : Type 0} (gave : E → E → List Piece → Type 0) (first old : Side E) (view : ShadowView) (va : ℕ) (kind : Kind) (q : PageId) (g : ℕ) (write : Bool) (walked : Walked)
+offered_is : {E : Type 0} (gave : E → E → List Piece → Type 0) (first old : Side E) (regime : Regime) (va : ℕ) (kind : Kind) (q : PageId) (g : ℕ) (write : Bool) (walked : Walked)
     (c c' : Cloak) → SeesCloak gave first old c → c'.memory ≡ (offer q g write c.memory).memory → AreOutside (held_in old.memory.now.pager) walked
-    → IsWalkOf (Cloaked c) view va kind walked → IsWalkOf (Cloaked c') view va kind walked
-offered_is gave first old view va kind q g write walked c c' sees is out by =
+    → IsWalkOf (Cloaked c) regime va kind walked → IsWalkOf (Cloaked c') regime va kind walked
+offered_is gave first old regime va kind q g write walked c c' sees is out by =
     let h = sees.holds in
-    subst (λ (m : CloakedMemory). (walk m.ram (satp_in view) (access_in view va kind) ≡ Ok walked) × (is_in_ram m.ram walked.pa ≡ true)) (sym is) (
-      offered_walk_still (held_in old.memory.now.pager) c.memory q g write (satp_in view) (access_in view va kind) walked (pager_owes old.memory.now.pager h.wiped c.memory h.pager) out by.0,
+    subst (λ (m : CloakedMemory). (walk m.ram (satp_in regime) (access_in regime va kind) ≡ Ok walked) × (is_in_ram m.ram walked.pa ≡ true)) (sym is) (
+      offered_walk_still (held_in old.memory.now.pager) c.memory q g write (satp_in regime) (access_in regime va kind) walked (pager_owes old.memory.now.pager h.wiped c.memory h.pager) out by.0,
       ap (λ (n : ℕ). is_in_frames n walked.pa) (offer_count q g write c.memory) ∙ by.1,
     )
 
-pub reached_so : {E : Type 0} (gave : E → E → List Piece → Type 0) (first old new : Side E) (view : ShadowView) (va : ℕ) (kind : Kind) (q : PageId) (led : Led) (c c' : Cloak)
+pub reached_so : {E : Type 0} (gave : E → E → List Piece → Type 0) (first old new : Side E) (regime : Regime) (va : ℕ) (kind : Kind) (q : PageId) (led : Led) (c c' : Cloak)
     → SeesCloak gave first old c → SeesCloak gave first new c' → c'.memory ≡ (offer q (frame_of led.pa) (is_store kind) c.memory).memory
-    → IsLedSo old.memory.now (Cloaked c) view va kind (Some q) led → HoldsNoOther q old.memory.now.pager new.memory.now.pager
+    → IsLedSo old.memory.now (Cloaked c) regime va kind (Some q) led → HoldsNoOther q old.memory.now.pager new.memory.now.pager
     → held_in new.memory.now.pager (frame_of led.pa) ≡ Some q → (kind ≡ Store → owed_at new.memory.now.pager (frame_of led.pa) ≡ Some q)
     → frames_of new.memory.now ≡ frames_of old.memory.now → new.memory.now.counting ≡ old.memory.now.counting
     → (held_in old.memory.now.pager (frame_of led.pa) ≡ Some q → new.memory.now.shadows ≡ old.memory.now.shadows)
-    → IsReachedSo new.memory.now (Cloaked c') view va kind q led
-reached_so gave first old new view va kind q led c c' sees sees' is so others here owed count counting again = record {
+    → IsReachedSo new.memory.now (Cloaked c') regime va kind q led
+reached_so gave first old new regime va kind q led c c' sees sees' is so others here owed count counting again = record {
   by = by_walk led.walked so.by so.outside;
   reached = entry led.walked so.by so.outside;
   live = λ none counts. let live = so.live none (sym counting ∙ counts) in (
-    ap (λ (t : Table). is_known view (va / 4096) kind t) (again live.1) ∙ live.0,
+    ap (λ (t : Table). is_known regime (va / 4096) kind t) (again live.1) ∙ live.0,
     here,
   );
 }
   where
-    by_walk : (o : Option Walked) → IfSome o (λ x. IsWalkOf (Cloaked c) view va kind x × (x.pa ≡ led.pa)) → IfSome o (AreOutside (held_in old.memory.now.pager))
-        → IfSome o (λ x. IsWalkOf (Cloaked c') view va kind x × (x.pa ≡ led.pa))
+    by_walk : (o : Option Walked) → IfSome o (λ x. IsWalkOf (Cloaked c) regime va kind x × (x.pa ≡ led.pa)) → IfSome o (AreOutside (held_in old.memory.now.pager))
+        → IfSome o (λ x. IsWalkOf (Cloaked c') regime va kind x × (x.pa ≡ led.pa))
     by_walk None by out = tt
-    by_walk (Some walked) by out = (offered_is gave first old view va kind q (frame_of led.pa) (is_store kind) walked c c' sees is out by.0, by.1)
+    by_walk (Some walked) by out = (offered_is gave first old regime va kind q (frame_of led.pa) (is_store kind) walked c c' sees is out by.0, by.1)
 
-    entry : (o : Option Walked) → IfSome o (λ x. IsWalkOf (Cloaked c) view va kind x × (x.pa ≡ led.pa)) → IfSome o (AreOutside (held_in old.memory.now.pager))
-        → IfSome o (λ walked. let e = entry_at view va kind led.pa walked (Some q) in is_table e.frame e ≡ false → IsEntryOf (Cloaked c') (held_in new.memory.now.pager) e)
+    entry : (o : Option Walked) → IfSome o (λ x. IsWalkOf (Cloaked c) regime va kind x × (x.pa ≡ led.pa)) → IfSome o (AreOutside (held_in old.memory.now.pager))
+        → IfSome o (λ walked. let e = entry_at regime va kind led.pa walked (Some q) in is_table e.frame e ≡ false → IsEntryOf (Cloaked c') (held_in new.memory.now.pager) e)
     entry None by out = tt
     entry (Some walked) by out =
-        λ apart. page_entry_in gave first old new view va kind q led.pa walked c c' sees sees' is by.0 by.1 out others here owed count apart
+        λ apart. page_entry_in gave first old new regime va kind q led.pa walked c c' sees sees' is by.0 by.1 out others here owed count apart
 
 -- An entry through its page's own frame never becomes live.
 
-pub own_of : (f : Frame) (q : PageId) (e : Entry) {b : Bool} {view : ShadowView} {page : ℕ} {kind : Kind} {pt1 pt0 : Option Frame}
-    → e ≡ record { view = view; page = page; kind = kind; frame = f; pt1 = pt1; pt0 = pt0; cloaked = Some q } → is_table f e ≡ b → is_own_table e ≡ b
+pub own_of : (f : Frame) (q : PageId) (e : Entry) {b : Bool} {regime : Regime} {page : ℕ} {kind : Kind} {pt1 pt0 : Option Frame}
+    → e ≡ record { regime = regime; page = page; kind = kind; frame = f; pt1 = pt1; pt0 = pt0; cloaked = Some q } → is_table f e ≡ b → is_own_table e ≡ b
 own_of f q e {b} is table =
     ap (λ (x : Entry). is_some x.cloaked && is_table x.frame e) is ∙ table
 
 pub own_same : (q : PageId) (e x : Entry) → e ≡ x → is_own_table x ≡ false → is_some e.cloaked ≡ true → is_table e.frame e ≡ false
 own_same q e x is other some = ap (λ (b : Bool). b && is_table e.frame e) (sym some) ∙ ap is_own_table is ∙ other
 
-pub never_known : {E : Type 0} (gave : E → E → List Piece → Type 0) (first now : Side E) (view : ShadowView) (va : ℕ) (kind : Kind) (walked : Walked) (cloaked : Option PageId) (e : Entry) (w : World)
-    → Sees gave first now w → IsWalkOf w view va kind walked → entry_in now.space (satp_in view) (access_in view va kind) walked cloaked ≡ e → is_own_table e ≡ true
-    → Sees gave first now (known (satp_in view) (access_in view va kind) cloaked w)
-never_known gave first now view va kind walked cloaked e w sees is same own =
-    born_known gave first now view va kind walked cloaked w is
+pub never_known : {E : Type 0} (gave : E → E → List Piece → Type 0) (first now : Side E) (regime : Regime) (va : ℕ) (kind : Kind) (walked : Walked) (cloaked : Option PageId) (e : Entry) (w : World)
+    → Sees gave first now w → IsWalkOf w regime va kind walked → entry_in now.space (satp_in regime) (access_in regime va kind) walked cloaked ≡ e → is_own_table e ≡ true
+    → Sees gave first now (known (satp_in regime) (access_in regime va kind) cloaked w)
+never_known gave first now regime va kind walked cloaked e w sees is same own =
+    born_known gave first now regime va kind walked cloaked w is
     (sees_noted gave first now _ w
-    (born_tracks now.space (satp_in view) (access_in view va kind) walked cloaked now.memory.now.counting now.memory.now.shadows now.memory.now.shadows (held_in now.memory.now.pager)
+    (born_tracks now.space (satp_in regime) (access_in regime va kind) walked cloaked now.memory.now.counting now.memory.now.shadows now.memory.now.shadows (held_in now.memory.now.pager)
     (λ counts. birth_never _ now.memory.now.shadows (ap is_own_table same ∙ own))) sees)
 
--- the questions of a cloaked program are asked by the view of its hart
+-- the questions of a cloaked program are asked by the regime of its hart
 pub asked_inside : {E : Type 0} (gave : E → E → List Piece → Type 0) (first now : Side E) (space : SpaceId) (va : ℕ) (kind : Kind)
-    (w : World) → Sees gave first now w → ask_inside_address va kind w ≡ asked_led (inside_view now.view space) va kind w
+    (w : World) → Sees gave first now w → ask_inside_address va kind w ≡ asked_led (inside_regime now.regime space) va kind w
 unfolding ask_inside_address
 asked_inside gave first now space va kind (Flat ram) sees = absurd sees
 asked_inside gave first now space va kind (Alone handed) sees = absurd sees
 asked_inside gave first now space va kind (Cloaked c) sees =
-    let by_view : View → Told (Result ℕ ℕ) = λ v. ask_led v.satp (record { mode = U; sum = v.sum; mxr = v.mxr; va = va; kind = kind }) (Cloaked c) in
-    sym (ap by_view sees.view)
+    let by_regime : InsideRegime → Told (Result ℕ ℕ) = λ v. ask_led v.satp (record { mode = U; sum = v.sum; mxr = v.mxr; va = va; kind = kind }) (Cloaked c) in
+    sym (ap by_regime sees.regime)
 
 -- and by its access
 pub access_inside : {E : Type 0} (gave : E → E → List Piece → Type 0) (first now : Side E) (space : SpaceId) (va : ℕ) (kind : Kind)
     (w : World) → Sees gave first now w → (P : ℕ → Access → Type 0)
-    → P (satp_in (inside_view now.view space)) (access_in (inside_view now.view space) va kind) → P (view_of w).satp (inside_access w va kind)
+    → P (satp_in (inside_regime now.regime space)) (access_in (inside_regime now.regime space) va kind) → P (regime_of w).satp (inside_access w va kind)
 access_inside gave first now space va kind (Flat ram) sees P is = absurd sees
 access_inside gave first now space va kind (Alone handed) sees P is = absurd sees
 access_inside gave first now space va kind (Cloaked c) sees P is =
-    subst (λ (v : View). P v.satp (record { mode = U; sum = v.sum; mxr = v.mxr; va = va; kind = kind })) sees.view is
+    subst (λ (v : InsideRegime). P v.satp (record { mode = U; sum = v.sum; mxr = v.mxr; va = va; kind = kind })) sees.regime is
 
--- The questions of a program, by its view.
+-- The questions of a program, by its regime.
 
-pub opened_inside : {E : Type 0} (gave : E → E → List Piece → Type 0) (first now mid : Side E) (space : SpaceId) (view : ShadowView) (va : ℕ) (kind : Kind) (pa : ℕ) (w : World)
-    → Sees gave first now w → view ≡ inside_view now.view space → Sees gave first mid (opened (satp_in view) (access_in view va kind) pa w)
-    → Sees gave first mid (opened (view_of w).satp (inside_access w va kind) pa w)
-opened_inside gave first now mid space view va kind pa w sees is stands =
+pub opened_inside : {E : Type 0} (gave : E → E → List Piece → Type 0) (first now mid : Side E) (space : SpaceId) (regime : Regime) (va : ℕ) (kind : Kind) (pa : ℕ) (w : World)
+    → Sees gave first now w → regime ≡ inside_regime now.regime space → Sees gave first mid (opened (satp_in regime) (access_in regime va kind) pa w)
+    → Sees gave first mid (opened (regime_of w).satp (inside_access w va kind) pa w)
+opened_inside gave first now mid space regime va kind pa w sees is stands =
     access_inside gave first now space va kind w sees (λ (satp : ℕ) (a : Access). Sees gave first mid (opened satp a pa w))
-    (subst (λ (v : ShadowView). Sees gave first mid (opened (satp_in v) (access_in v va kind) pa w)) is stands)
+    (subst (λ (v : Regime). Sees gave first mid (opened (satp_in v) (access_in v va kind) pa w)) is stands)
 
-pub known_inside : {E : Type 0} (gave : E → E → List Piece → Type 0) (first now mid : Side E) (space : SpaceId) (view : ShadowView) (va : ℕ) (kind : Kind) (cloaked : Option PageId) (w : World)
-    → Sees gave first now w → view ≡ inside_view now.view space → Sees gave first mid (known (satp_in view) (access_in view va kind) cloaked w)
-    → Sees gave first mid (known (view_of w).satp (inside_access w va kind) cloaked w)
-known_inside gave first now mid space view va kind cloaked w sees is stands =
+pub known_inside : {E : Type 0} (gave : E → E → List Piece → Type 0) (first now mid : Side E) (space : SpaceId) (regime : Regime) (va : ℕ) (kind : Kind) (cloaked : Option PageId) (w : World)
+    → Sees gave first now w → regime ≡ inside_regime now.regime space → Sees gave first mid (known (satp_in regime) (access_in regime va kind) cloaked w)
+    → Sees gave first mid (known (regime_of w).satp (inside_access w va kind) cloaked w)
+known_inside gave first now mid space regime va kind cloaked w sees is stands =
     access_inside gave first now space va kind w sees (λ (satp : ℕ) (a : Access). Sees gave first mid (known satp a cloaked w))
-    (subst (λ (v : ShadowView). Sees gave first mid (known (satp_in v) (access_in v va kind) cloaked w)) is stands)
+    (subst (λ (v : Regime). Sees gave first mid (known (satp_in v) (access_in v va kind) cloaked w)) is stands)
 
--- Views.
+-- Regimes.
 
-pub viewed_inside : (space : Option SpaceId) (s : SpaceId) (v : ShadowView) (view : View) → space ≡ Some s → v ≡ inside_view view s → IsViewIn space v
-viewed_inside space s v view at is =
-    subst (λ (o : Option SpaceId). IsViewIn o v) (sym at) (subst (λ (x : ShadowView). IsViewIn (Some s) x) (sym is) (λ va kind. refl))
+pub viewed_inside : (space : Option SpaceId) (s : SpaceId) (v : Regime) (regime : InsideRegime) → space ≡ Some s → v ≡ inside_regime regime s → IsRegimeIn space v
+viewed_inside space s v regime at is =
+    subst (λ (o : Option SpaceId). IsRegimeIn o v) (sym at) (subst (λ (x : Regime). IsRegimeIn (Some s) x) (sym is) (λ va kind. refl))
 
-pub viewed_outside : (space : Option SpaceId) (satp : ℕ) (a : Access) → space ≡ None → IsViewIn space (Outside satp a.mode a.sum a.mxr)
-viewed_outside space satp a none = subst (λ (o : Option SpaceId). IsViewIn o (Outside satp a.mode a.sum a.mxr)) (sym none) (λ va kind. refl)
+pub viewed_outside : (space : Option SpaceId) (satp : ℕ) (a : Access) → space ≡ None → IsRegimeIn space (Outside satp a.mode a.sum a.mxr)
+viewed_outside space satp a none = subst (λ (o : Option SpaceId). IsRegimeIn o (Outside satp a.mode a.sum a.mxr)) (sym none) (λ va kind. refl)
 
 -- A whole access of the kernel.
 
@@ -903,7 +899,7 @@ store_fault gave first new satp a width value cause w led =
     subst (λ (to : Result ℕ ℕ). FollowsFrom (Sees gave first) new (Err cause) (stored_to satp a width value to (ask_led satp a w).world)) led.answer
     (record { answer = refl; stands = led.stands })
 
--- an access that is not clashed did not clash where it was led
+-- an access that has not clashed did not clash when it was led
 pub load_unclashed : (satp : ℕ) (a : Access) (width : ℕ) (w : World) → is_clashed (ask_load satp a width w).world ≡ false
     → is_clashed (ask_led satp a w).world ≡ false
 unfolding ask_load
@@ -917,33 +913,33 @@ store_unclashed satp a width value w unclashed =
     let told = ask_led satp a w in (later_stored_to satp a width value told.answer told.world).mark unclashed
 
 -- the entry of a walk, built at the frame of its address
-pub entry_is : (view : ShadowView) (va : ℕ) (kind : Kind) (f : Frame) (pa : ℕ) (walked : Walked) (cloaked : Option PageId) (e : Entry)
+pub entry_is : (regime : Regime) (va : ℕ) (kind : Kind) (f : Frame) (pa : ℕ) (walked : Walked) (cloaked : Option PageId) (e : Entry)
     → f.0 ≡ frame_of pa
-    → e ≡ record { view = view; page = va / 4096; kind = kind; frame = f; pt1 = walked.pt1; pt0 = walked.pt0; cloaked = cloaked }
-    → entry_at view va kind pa walked cloaked ≡ e
-entry_is view va kind f pa walked cloaked e at is =
-    let by : ℕ → Entry = λ n. record { view = view; page = va / 4096; kind = kind; frame = record { 0 = n }; pt1 = walked.pt1; pt0 = walked.pt0; cloaked = cloaked } in
+    → e ≡ record { regime = regime; page = va / 4096; kind = kind; frame = f; pt1 = walked.pt1; pt0 = walked.pt0; cloaked = cloaked }
+    → entry_at regime va kind pa walked cloaked ≡ e
+entry_is regime va kind f pa walked cloaked e at is =
+    let by : ℕ → Entry = λ n. record { regime = regime; page = va / 4096; kind = kind; frame = record { 0 = n }; pt1 = walked.pt1; pt0 = walked.pt0; cloaked = cloaked } in
     sym (is ∙ ap by at)
 
--- where the question of a cloaked program begins with an access
-pub inside_follows : {E : Type 0} (gave : E → E → List Piece → Type 0) (first old mid : Side E) (space : SpaceId) (view : ShadowView) (va : ℕ)
-    (kind : Kind) (to : Result ℕ ℕ) (w : World) → Sees gave first old w → view ≡ inside_view old.view space
-    → (is_clashed (asked_led view va kind w).world ≡ false → FollowsFrom (Sees gave first) mid to (asked_led view va kind w))
+-- when the question of a cloaked program begins with an access
+pub inside_follows : {E : Type 0} (gave : E → E → List Piece → Type 0) (first old mid : Side E) (space : SpaceId) (regime : Regime) (va : ℕ)
+    (kind : Kind) (to : Result ℕ ℕ) (w : World) → Sees gave first old w → regime ≡ inside_regime old.regime space
+    → (is_clashed (asked_led regime va kind w).world ≡ false → FollowsFrom (Sees gave first) mid to (asked_led regime va kind w))
     → is_clashed (ask_inside_address va kind w).world ≡ false → FollowsFrom (Sees gave first) mid to (ask_inside_address va kind w)
-inside_follows gave first old mid space view va kind to w sees is told =
+inside_follows gave first old mid space regime va kind to w sees is told =
     subst (λ (t : Told (Result ℕ ℕ)). is_clashed t.world ≡ false → FollowsFrom (Sees gave first) mid to t)
     (sym (asked_inside gave first old space va kind w sees))
-    (subst (λ (v : ShadowView). is_clashed (asked_led v va kind w).world ≡ false → FollowsFrom (Sees gave first) mid to (asked_led v va kind w)) is told)
+    (subst (λ (v : Regime). is_clashed (asked_led v va kind w).world ≡ false → FollowsFrom (Sees gave first) mid to (asked_led v va kind w)) is told)
 
--- the world behind it is one that it was led in
-pub led_behind : {E : Type 0} (gave : E → E → List Piece → Type 0) (first old : Side E) (memory : Memory) (space : SpaceId) (view : ShadowView) (va : ℕ)
-    (kind : Kind) (cloaked : Option PageId) (led : Led) (w : World) → Sees gave first old w → view ≡ inside_view old.view space
-    → (is_clashed (asked_led view va kind w).world ≡ false → IsLedSo memory (asked_led view va kind w).world view va kind cloaked led)
-    → is_clashed (ask_inside_address va kind w).world ≡ false → IsLedSo memory (ask_inside_address va kind w).world view va kind cloaked led
-led_behind gave first old memory space view va kind cloaked led w sees is by =
-    subst (λ (t : Told (Result ℕ ℕ)). is_clashed t.world ≡ false → IsLedSo memory t.world view va kind cloaked led)
+-- the world after it is one in which it was led
+pub led_behind : {E : Type 0} (gave : E → E → List Piece → Type 0) (first old : Side E) (memory : Memory) (space : SpaceId) (regime : Regime) (va : ℕ)
+    (kind : Kind) (cloaked : Option PageId) (led : Led) (w : World) → Sees gave first old w → regime ≡ inside_regime old.regime space
+    → (is_clashed (asked_led regime va kind w).world ≡ false → IsLedSo memory (asked_led regime va kind w).world regime va kind cloaked led)
+    → is_clashed (ask_inside_address va kind w).world ≡ false → IsLedSo memory (ask_inside_address va kind w).world regime va kind cloaked led
+led_behind gave first old memory space regime va kind cloaked led w sees is by =
+    subst (λ (t : Told (Result ℕ ℕ)). is_clashed t.world ≡ false → IsLedSo memory t.world regime va kind cloaked led)
     (sym (asked_inside gave first old space va kind w sees))
-    (subst (λ (v : ShadowView). is_clashed (asked_led v va kind w).world ≡ false → IsLedSo memory (asked_led v va kind w).world view va kind cloaked led) is by)
+    (subst (λ (v : Regime). is_clashed (asked_led v va kind w).world ≡ false → IsLedSo memory (asked_led v va kind w).world regime va kind cloaked led) is by)
 
 -- Without paging an access leads to its own address.
 
@@ -964,30 +960,30 @@ bare_access gave first now satp a b w sees off inside =
     (sym (ap by (bare_walk satp a w off)))
     (record { answer = ap (λ (x : Bool). cond x (Ok a.va) (Err (access_fault a.kind))) there; stands = sees })
 
-bare_translates : {E : Type 0} (gave : E → E → List Piece → Type 0) (first now : Side E) (view : ShadowView) (va : ℕ) (kind : Kind)
-    (b : Bool) (w : World) → Sees gave first now w → has_paging (satp_in view) ≡ false
+bare_translates : {E : Type 0} (gave : E → E → List Piece → Type 0) (first now : Side E) (regime : Regime) (va : ℕ) (kind : Kind)
+    (b : Bool) (w : World) → Sees gave first now w → has_paging (satp_in regime) ≡ false
     → b ≡ is_in_frames (frames_of now.memory.now) va
-    → FollowsFrom (Sees gave first) now (cond b (Ok va) (Err (access_fault kind))) (ask_translate (satp_in view) (access_in view va kind) w)
+    → FollowsFrom (Sees gave first) now (cond b (Ok va) (Err (access_fault kind))) (ask_translate (satp_in regime) (access_in regime va kind) w)
 bare_translates gave first now (Outside satp mode sum mxr) va kind b w sees off inside =
     bare_access gave first now satp (access_in (Outside satp mode sum mxr) va kind) b w sees off inside
 bare_translates gave first now (Inside satp sum mxr space) va kind b w sees off inside =
     bare_access gave first now satp (access_in (Inside satp sum mxr space) va kind) b w sees off inside
 
-pub bare_follows : {E : Type 0} (gave : E → E → List Piece → Type 0) (first now : Side E) (view : ShadowView) (va : ℕ) (kind : Kind)
-    (b : Bool) (w : World) → Sees gave first now w → IsViewIn now.space view → now.memory.now.counting ≡ false → has_paging (satp_in view) ≡ false
+pub bare_follows : {E : Type 0} (gave : E → E → List Piece → Type 0) (first now : Side E) (regime : Regime) (va : ℕ) (kind : Kind)
+    (b : Bool) (w : World) → Sees gave first now w → IsRegimeIn now.space regime → now.memory.now.counting ≡ false → has_paging (satp_in regime) ≡ false
     → b ≡ is_in_frames (frames_of now.memory.now) va
-    → FollowsFrom (Sees gave first) now (cond b (Ok va) (Err (access_fault kind))) (asked_led view va kind w)
+    → FollowsFrom (Sees gave first) now (cond b (Ok va) (Err (access_fault kind))) (asked_led regime va kind w)
 unfolding ask_led
-bare_follows gave first now view va kind b w sees viewed uncounted off inside =
-    bare_translates gave first now view va kind b _ (looks_uncounted gave first now view va kind w sees viewed uncounted) off inside
+bare_follows gave first now regime va kind b w sees viewed uncounted off inside =
+    bare_translates gave first now regime va kind b _ (looks_uncounted gave first now regime va kind w sees viewed uncounted) off inside
 
 -- what was found of an access, by the name that the question of a cloaked program has for it
-pub found_inside : {E : Type 0} (gave : E → E → List Piece → Type 0) (first now : Side E) (view : ShadowView) (va : ℕ) (kind : Kind)
-    (cloaked : Option PageId) (to : Result Led ℕ) (w : World) → ask_inside_address va kind w ≡ asked_led view va kind w
-    → (is_clashed (asked_led view va kind w).world ≡ false → IsFoundSo gave first now w view va kind cloaked (Some to))
+pub found_inside : {E : Type 0} (gave : E → E → List Piece → Type 0) (first now : Side E) (regime : Regime) (va : ℕ) (kind : Kind)
+    (cloaked : Option PageId) (to : Result Led ℕ) (w : World) → ask_inside_address va kind w ≡ asked_led regime va kind w
+    → (is_clashed (asked_led regime va kind w).world ≡ false → IsFoundSo gave first now w regime va kind cloaked (Some to))
     → is_clashed (ask_inside_address va kind w).world ≡ false
     → FollowsFrom (Sees gave first) now (place_in to) (ask_inside_address va kind w)
-    × IfOk to (IsLedSo now.memory.now (ask_inside_address va kind w).world view va kind cloaked)
-found_inside gave first now view va kind cloaked to w same so =
-    subst (λ (t : Told (Result ℕ ℕ)). is_clashed t.world ≡ false → FollowsFrom (Sees gave first) now (place_in to) t × IfOk to (IsLedSo now.memory.now t.world view va kind cloaked))
+    × IfOk to (IsLedSo now.memory.now (ask_inside_address va kind w).world regime va kind cloaked)
+found_inside gave first now regime va kind cloaked to w same so =
+    subst (λ (t : Told (Result ℕ ℕ)). is_clashed t.world ≡ false → FollowsFrom (Sees gave first) now (place_in to) t × IfOk to (IsLedSo now.memory.now t.world regime va kind cloaked))
     (sym same) so

@@ -10,7 +10,7 @@ use Rattle.shadow_fold.specs.Entries.{is_for, is_table, is_target}
 use Rattle.shadow_fold.specs.Following.{killed_if}
 use Rattle.shadow_fold.specs.Table.{Table, is_known, ending}
 use Rattle.shadow_fold.specs.declared.entry.Entry.{Entry}
-use Rattle.shadow_fold.specs.declared.entry.ShadowView.{ShadowView}
+use Rattle.shadow_fold.specs.declared.entry.Regime.{Regime}
 use Rattle.cloaked_side.specs.Seeing.{LosesOnly, StaysWalking}
 use Rattle.cloaked_side.specs.declared.side.Side.{Side}
 use Rattle.cloaked_side.proofs.Sided.{within_self}
@@ -36,21 +36,21 @@ any_left p q (x ∷ xs) some =
 
 loses_ending : (ends : Entry → Bool) (t : Table) → LosesOnly t (ending ends t)
 unfolding is_known ending
-loses_ending ends t view page kind known = any_left (is_for view page kind) (λ e. not (ends e)) t.live known
+loses_ending ends t regime page kind known = any_left (is_for regime page kind) (λ e. not (ends e)) t.live known
 
 pub loses_killed : (b : Bool) (f : Frame) (t : Table) → LosesOnly t (killed_if b f t)
-loses_killed true f t view page kind known =
-    loses_ending (is_target f) t view page kind (loses_ending (is_table f) (ending (is_target f) t) view page kind known)
-loses_killed false f t view page kind known = known
+loses_killed true f t regime page kind known =
+    loses_ending (is_target f) t regime page kind (loses_ending (is_table f) (ending (is_target f) t) regime page kind known)
+loses_killed false f t regime page kind known = known
 
-pub unknown_still : (old new : Table) (view : ShadowView) (page : ℕ) (kind : Kind) → LosesOnly old new
-    → is_known view page kind old ≡ false → is_known view page kind new ≡ false
-unknown_still old new view page kind loses unknown = by (is_known view page kind new) refl
+pub unknown_still : (old new : Table) (regime : Regime) (page : ℕ) (kind : Kind) → LosesOnly old new
+    → is_known regime page kind old ≡ false → is_known regime page kind new ≡ false
+unknown_still old new regime page kind loses unknown = by (is_known regime page kind new) refl
   where
-    by : (b : Bool) → is_known view page kind new ≡ b → b ≡ false
-    by true known = absurd (false≢true (sym unknown ∙ loses view page kind known))
+    by : (b : Bool) → is_known regime page kind new ≡ b → b ≡ false
+    by true known = absurd (false≢true (sym unknown ∙ loses regime page kind known))
     by false known = refl
 
 pub walking_of : {E : Type 0} (gave : E → E → List Piece → Type 0) (old new : Side E) → Keeps (StaysWalking gave) old new
     → StaysWalking gave old new
-walking_of gave old new keeps = keeps old (record { within = within_self gave old; loses = λ view page kind known. known })
+walking_of gave old new keeps = keeps old (record { within = within_self gave old; loses = λ regime page kind known. known })

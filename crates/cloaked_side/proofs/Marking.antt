@@ -36,7 +36,7 @@ holds_remarked memory new marks m is h = record {
   marks = is;
 }
 
--- a side with these reservations in the place of its own
+-- a side with these reservations instead of its own
 abbrev pub with_reservations : {E : Type 0} → Side E → List (Option ℕ) → Side E
 with_reservations old marks =
     record old { memory = record old.memory { now = record old.memory.now { reservations = marks } } }
@@ -50,7 +50,7 @@ sees_remarked gave first old new next (Cloaked c) is sees = record {
   holds = holds_remarked old.memory.now new (next c.memory.marks) c.memory (is ∙ ap next sees.holds.marks) sees.holds;
   emits = sees.emits;
   violation = sees.violation;
-  view = sees.view;
+  regime = sees.regime;
   tracks = sees.tracks;
   spends = sees.spends;
   maps = sees.maps;

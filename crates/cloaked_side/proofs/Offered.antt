@@ -10,7 +10,7 @@ use Rattle.cloak_model.specs.declared.access.Access.{Access}
 use Rattle.cloak_model.specs.declared.access.Walked.{Walked}
 use Rattle.cloak_model.specs.Cloaking.{CloakedMemory, AfterSettling, AfterOffer, Ready, Mismatch, Missed, owed_in, owes, owing_frame, settle, settle_frame_if, with_comparison, taken, compared, unless_missed, offer}
 use Rattle.cloak_model.specs.Walk.{walk}
-use Rattle.shadow_law.specs.Agreeing.{Held, OwedIsHeld, AreOutside}
+use Rattle.shadow_law.specs.Agreeing.{HeldPages, OwedIsHeld, AreOutside}
 use Rattle.shadow_law.specs.Walks.{IsSame}
 use Rattle.shadow_law.proofs.Changes.{map_some, settle_spares, offer_count}
 use Rattle.shadow_law.proofs.Hits.{untouched}
@@ -75,15 +75,15 @@ offer_ram q g write x m none = by (owes q (owed_in m g))
         (unless_ram x m1 (settle_frame_if (owing_frame m1 q) m1) last (frame_if_still (owing_frame m1 q) x m1 first.unowed).ram
         (ap (λ (ram : List (List ℕ)). slice_index_or ram x []) (compared_ram q g write _ (settle_frame_if (owing_frame m1 q) m1).memory)))
 
-unowed_of : (held : Held) (m : CloakedMemory) (x : ℕ) → OwedIsHeld held m → held x ≡ None → owed_in m x ≡ None
+unowed_of : (held : HeldPages) (m : CloakedMemory) (x : ℕ) → OwedIsHeld held m → held x ≡ None → owed_in m x ≡ None
 unowed_of held m x owed none = by (owed_in m x) refl
   where
     by : (o : Option PageId) → owed_in m x ≡ o → o ≡ None
     by None is = refl
     by (Some q) is = absurd (none-some q (sym none ∙ owed x q is))
 
--- so a walk through outside tables leads there still, also where the page's frame is one of them
-pub offered_walk_still : (held : Held) (m : CloakedMemory) (q : PageId) (g : ℕ) (write : Bool) (satp : ℕ) (a : Access) (w : Walked) → OwedIsHeld held m
+-- so a walk through outside tables still leads there, even if the page's frame is one of them
+pub offered_walk_still : (held : HeldPages) (m : CloakedMemory) (q : PageId) (g : ℕ) (write : Bool) (satp : ℕ) (a : Access) (w : Walked) → OwedIsHeld held m
     → AreOutside held w → walk m.ram satp a ≡ Ok w → walk (offer q g write m).memory.ram satp a ≡ Ok w
 offered_walk_still held m q g write satp a w owed out = walk_kept m.ram (offer q g write m).memory.ram satp a w (record {
   count = offer_count q g write m;

@@ -8,8 +8,8 @@ use Rattle.cloak_base.specs.declared.names.PageId.{PageId}
 use Rattle.cloak_model.specs.Cloaking.{CloakedMemory, owed_in}
 use Rattle.cloak_pager.specs.State.{PagerState, page_of, owed_under, right_at, held_in}
 use Rattle.cloak_pager.specs.Relation.{StandsForMemory, FrameStands}
-use Rattle.cloak_pager.specs.declared.held.Held.{Held}
-use Rattle.cloak_pager.specs.declared.held.Held.TheVariants.{Outside, Clean, Changed, Spent}
+use Rattle.cloak_pager.specs.declared.frame_right.FrameRight.{FrameRight}
+use Rattle.cloak_pager.specs.declared.frame_right.FrameRight.TheVariants.{Outside, Clean, Changed, Spent}
 use Rattle.cloak_pager.proofs.Stands.{owed_held, owed_by_right}
 use Rattle.shadow_law.specs.Agreeing.{OwedIsHeld, CleanIsShown}
 
@@ -23,7 +23,7 @@ held_within p f q count is = elim (cases_lt f (length p.rights)) [
   | inr h ↦ absurd (none-some q (ap page_of (sym (get_or_past p.rights f Spent h)) ∙ is))
 ]
 
-shown_by : (p : PagerState) (wiped : PageId → Bool) (m : CloakedMemory) (f : ℕ) (q : PageId) (h : Held) → FrameStands p wiped m f h
+shown_by : (p : PagerState) (wiped : PageId → Bool) (m : CloakedMemory) (f : ℕ) (q : PageId) (h : FrameRight) → FrameStands p wiped m f h
     → page_of h ≡ Some q → owed_under h ≡ None → m.ledger.recorded q ≡ Some (slice_index_or m.ram f [])
 shown_by p wiped m f q (Outside r) stands is clean = absurd (none-some q is)
 shown_by p wiped m f q (Clean r) stands is clean = ap m.ledger.recorded (sym (same_Some r.page q is)) ∙ stands.shown

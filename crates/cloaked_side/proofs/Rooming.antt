@@ -1,4 +1,4 @@
--- Room for a page: what the settlings before an offer come to.
+-- Room for a page: what the settlings before an offer result in.
 use Rattle.std.proofs.Common.{◌≡◌, ◌≢◌, ◌<◌, ◌+◌, ℕ, Bool, true, false, not, cond, List, [], ◌∷◌, ◌++◌, Option, Some, None}
 use Rattle.std.proofs.Common.{length, get_or, append_assoc, inl, inr, ◌⊎◌, refl, ap, sym, ◌∙◌, subst, arith}
 use Rattle.std.specs.Str.{bytes_eq}
@@ -16,8 +16,8 @@ use Rattle.cloak_pager.specs.Turns.{StaysBut}
 use Rattle.cloak_pager.proofs.Pages.{same_or_not}
 use Rattle.cloak_pager.specs.State.{PagerState, IsWholePager, page_of, owed_under, right_at, held_in, owed_at}
 use Rattle.cloak_pager.specs.Relation.{StandsForMemory}
-use Rattle.cloak_pager.specs.declared.held.Held.{Held}
-use Rattle.cloak_pager.specs.declared.held.Held.TheVariants.{Outside, Clean, Changed, Spent}
+use Rattle.cloak_pager.specs.declared.frame_right.FrameRight.{FrameRight}
+use Rattle.cloak_pager.specs.declared.frame_right.FrameRight.TheVariants.{Outside, Clean, Changed, Spent}
 use Rattle.cloak_pager.proofs.Stands.{owed_by_right, owed_held}
 use Rattle.cloak_pager.proofs.Touches.{settle_none}
 use Rattle.cloak_pager.proofs.Writes.{held_within}
@@ -38,13 +38,13 @@ use Rattle.cloaked_side.specs.declared.memory.Offer.{Offer as Ended}
 use Rattle.cloaked_side.proofs.Settling.{Counts, counts, draws_by, missed_by, marks_by}
 
 -- a frame that holds a page is owed it or owed nothing
-pub changed_or_not : (h : Held) (q : PageId) → page_of h ≡ Some q → (owed_under h ≡ Some q) ⊎ (owed_under h ≡ None)
+pub changed_or_not : (h : FrameRight) (q : PageId) → page_of h ≡ Some q → (owed_under h ≡ Some q) ⊎ (owed_under h ≡ None)
 changed_or_not (Outside r) q e = inr refl
 changed_or_not (Clean r) q e = inr refl
 changed_or_not (Changed r) q e = inl e
 changed_or_not Spent q e = inr refl
 
-pub unheld_unowed : (h : Held) → page_of h ≡ None → owed_under h ≡ None
+pub unheld_unowed : (h : FrameRight) → page_of h ≡ None → owed_under h ≡ None
 unheld_unowed (Outside r) e = refl
 unheld_unowed (Clean r) e = refl
 unheld_unowed (Changed r) e = e
@@ -110,7 +110,7 @@ offer_later q g write m e =
     ap (λ b. cond b (record { memory = m; ciphers = []; answer = Ready })
     (unless_missed (settle g m) (later q g write))) e
 
--- an offer where nobody holds the page and the frame is outside
+-- an offer when nobody holds the page and the frame is outside
 offer_bare : (p : PagerState) (w : PageId → Bool) (m : CloakedMemory) (g : ℕ) (q : PageId) (write : Bool) →
     StandsForMemory p w m → held_in p g ≡ None → ((k : ℕ) → held_in p k ≢ Some q) →
     compared q g write (m.ledger.recorded q) m ≡ offer q g write m
@@ -351,7 +351,7 @@ rooms_spend gave e e' old new room q g m r spends write =
     ap (λ (x : AfterOffer). length x.ciphers) (r.offers write) ∙ length-append r.ciphers o.ciphers in
     spends_more 0 0 (length r.ciphers) (length (offer q g write m).ciphers) (spent_in old) (spent_in new) (omega (arith, shown)) spends
 
--- What an offer of the pager comes to, once there is room, of the memory around it.
+-- What an offer of the pager results in, once there is room, as an offer of the memory around it.
 pub offers_so : {E : Type 0} (gave : E → E → List Piece → Type 0) (e e' : E) (old new : Memory) (given : Ended)
     (answer : Offer) (q : PageId) (g : ℕ) (write : Bool) (m : CloakedMemory) →
     (r : Rooms gave e e' old true q g m) → (answer ≢ Missed) → offer_of given ≡ answer →

@@ -7,7 +7,7 @@ use Rattle.cloak_base.specs.declared.names.PageId.{PageId}
 use Rattle.cloak_base.specs.declared.names.Kind.{Kind}
 use Rattle.cloak_base.specs.Pages.{is_of}
 use Rattle.cloak_base.proofs.Pages.{is_of_tells}
-use Rattle.cloak_model.specs.declared.view.View.{View}
+use Rattle.cloak_model.specs.declared.regime.InsideRegime.{InsideRegime}
 use Rattle.cloak_model.specs.declared.answer.Answer.{Answer}
 use Rattle.cloak_model.specs.World.{World, Flat, Cloaked, Alone, is_clashed}
 use Rattle.cloak_model.specs.Asking.{FollowsFrom, Told}
@@ -22,39 +22,39 @@ served_by : (v n d : ℕ) (b : Bool) → nat_lt v n ≡ b → d < 2 ^ 32 → d �
 served_by v n d true test small is = (is, subst (λ (x : ℕ). x < n) (sym is) (ltb-true v n test))
 served_by v n d false test small is = absurd (omega (arith, small, is))
 
--- a number of 32 bits that a side serves is that of its view, and one of the memory's domains
+-- a number of 32 bits that a side serves is that of its regime, and one of the memory's domains
 pub served_is : {E : Type 0} (side : Side E) (d : ℕ) → d < 2 ^ 32 → d ≡ served side →
-    (d ≡ side.view.domain) × (d < domains_in side.memory.now)
+    (d ≡ side.regime.domain) × (d < domains_in side.memory.now)
 served_is side d small is =
-    served_by side.view.domain (domains_in side.memory.now) d
-    (nat_lt side.view.domain (domains_in side.memory.now)) refl small is
+    served_by side.regime.domain (domains_in side.memory.now) d
+    (nat_lt side.regime.domain (domains_in side.memory.now)) refl small is
 
-pub served_same : {E : Type 0} (old new : Side E) → SameSize old.memory.now new.memory.now → new.view ≡ old.view →
+pub served_same : {E : Type 0} (old new : Side E) → SameSize old.memory.now new.memory.now → new.regime ≡ old.regime →
     served new ≡ served old
-served_same old new size view =
-    ap (λ (v : View). cond (nat_lt v.domain (domains_in new.memory.now)) v.domain (2 ^ 32)) view
-    ∙ ap (λ (n : ℕ). cond (nat_lt old.view.domain n) old.view.domain (2 ^ 32)) size.domains
+served_same old new size regime =
+    ap (λ (v : InsideRegime). cond (nat_lt v.domain (domains_in new.memory.now)) v.domain (2 ^ 32)) regime
+    ∙ ap (λ (n : ℕ). cond (nat_lt old.regime.domain n) old.regime.domain (2 ^ 32)) size.domains
 
-pub unused_still : {E : Type 0} (old new : Side E) (n : ℕ) → new.view ≡ old.view →
+pub unused_still : {E : Type 0} (old new : Side E) (n : ℕ) → new.regime ≡ old.regime →
     HoldsNoMore old.memory.now.pager new.memory.now.pager → IsUnused old n → IsUnused new n
-unused_still old new n view less unused k q e =
-    subst (λ (v : View). is_of v.domain n q ≡ false) (sym view) (unused k q (less.held k q e))
+unused_still old new n regime less unused k q e =
+    subst (λ (v : InsideRegime). is_of v.domain n q ≡ false) (sym regime) (unused k q (less.held k q e))
 
-pub cleared_still : {E : Type 0} (old new : Side E) (r : ℕ) → new.view ≡ old.view →
+pub cleared_still : {E : Type 0} (old new : Side E) (r : ℕ) → new.regime ≡ old.regime →
     HoldsNoMore old.memory.now.pager new.memory.now.pager → IsCleared old r → IsCleared new r
-cleared_still old new r view less cleared = record {
+cleared_still old new r regime less cleared = record {
   resource = cleared.resource;
-  none_owed = λ k q e. subst (λ (v : View). is_of v.domain r q ≡ false) (sym view)
+  none_owed = λ k q e. subst (λ (v : InsideRegime). is_of v.domain r q ≡ false) (sym regime)
       (cleared.none_owed k q (less.owed k q e));
 }
 
 -- a page of another resource was offered
-pub unused_offered : {E : Type 0} (old new : Side E) (q : PageId) (n : ℕ) → new.view ≡ old.view →
+pub unused_offered : {E : Type 0} (old new : Side E) (q : PageId) (n : ℕ) → new.regime ≡ old.regime →
     HoldsNoOther q old.memory.now.pager new.memory.now.pager → n ≢ q.resource → IsUnused old n → IsUnused new n
-unused_offered old new q n view others not_n unused k p e = elim (is_of_tells new.view.domain n p) [
+unused_offered old new q n regime others not_n unused k p e = elim (is_of_tells new.regime.domain n p) [
   | inl here ↦
       let other : p ≢ q = λ same. not_n (sym here.1.1 ∙ ap (λ (x : PageId). x.resource) same) in
-      subst (λ (v : View). is_of v.domain n p ≡ false) (sym view) (unused k p (others k p other e))
+      subst (λ (v : InsideRegime). is_of v.domain n p ≡ false) (sym regime) (unused k p (others k p other e))
   | inr there ↦ there.0
 ]
 
@@ -98,10 +98,10 @@ asked_put gave first old new va width value a (Alone handed) sees unclashed told
 asked_put gave first old new va width value a (Cloaked c) sees unclashed told = told unclashed
 
 -- a side whose domain is one of the memory's serves it
-pub served_here : {E : Type 0} (side : Side E) → side.view.domain < domains_in side.memory.now →
-    served side ≡ side.view.domain
+pub served_here : {E : Type 0} (side : Side E) → side.regime.domain < domains_in side.memory.now →
+    served side ≡ side.regime.domain
 served_here side here =
-    ap (λ (b : Bool). cond b side.view.domain (2 ^ 32)) (lt-ltb side.view.domain (domains_in side.memory.now) here)
+    ap (λ (b : Bool). cond b side.regime.domain (2 ^ 32)) (lt-ltb side.regime.domain (domains_in side.memory.now) here)
 
 -- The side still serves the same context, or none.
 

@@ -20,7 +20,7 @@ use Rattle.cloaked_side.specs.Tracking.{spent_in}
 use Rattle.cloaked_side.specs.declared.memory.Memory.{Memory}
 use Rattle.shadow_fold.specs.Reads.{Spends, Spent}
 
--- the draws behind a settling that showed this
+-- the draws after a settling that showed this
 abbrev pub draws_by : List (ℕ × List ℕ) → Bool → ℕ → ℕ
 draws_by [] missed n = n
 draws_by (c ∷ ciphers) true n = n
@@ -30,7 +30,7 @@ abbrev pub missed_by : Bool → Bool → Bool
 missed_by true before = true
 missed_by false before = before
 
--- the reservations behind it: a frame that showed something was written
+-- the reservations after it: a frame that showed something was written
 abbrev pub marks_by : List (ℕ × List ℕ) → List (Option ℕ) → List (Option ℕ)
 marks_by [] marks = marks
 marks_by (c ∷ ciphers) marks = map (unless_written (λ mark. frame_of mark == c.0)) marks
@@ -104,7 +104,7 @@ settled_spends old p left f shown missed n meets spends m h =
     subst (λ (cs : List (ℕ × List ℕ)). Spends 0 (length cs) (spent_in old) n)
     (ap (λ (x : List (ℕ × List ℕ) × Bool). x.0) v.answer) spends
 
--- whether a draw was missing in a settling, where none was before
+-- whether a draw was missing in a settling, if none was before
 pub settle_missed : (f : ℕ) (m : CloakedMemory) → m.ledger.missed ≡ false →
     (settle f m).missed ≡ (settle f m).memory.ledger.missed
 settle_missed f m none = by_value (settle f m).missed (counts f m).missed

@@ -2,7 +2,7 @@
 use Rattle.std.proofs.Common.{suc, ◌≡◌, ◌≢◌, ◌==◌, ◌+◌, arith, ℕ, Bool, true, cond, Option, None, length, map, slice_index_or, List, [], ◌∷◌, ◌++◌, append-nil, refl, ap}
 use Rattle.std.proofs.Common.{sym, ◌∙◌, subst}
 use Rattle.std.proofs.lemmas.List.{length-set}
-use Rattle.cloak_model.specs.declared.view.View.{View}
+use Rattle.cloak_model.specs.declared.regime.InsideRegime.{InsideRegime}
 use Rattle.cloak_model.specs.Cloaking.{CloakedMemory, settle}
 use Rattle.cloak_model.specs.declared.item.Item.{Item}
 use Rattle.cloak_model.specs.Events.{Event, Read, Touch, Write}
@@ -45,17 +45,17 @@ use Rattle.cloaked_side.specs.declared.side.Side.{Side}
 -- What calls did to a side that sees this: events and items more, and a memory that went on with them.
 pub counted_on : {E : Type 0} (gave : E → E → List Piece → Type 0) (first old new : Side E) (c c' : Cloak) (left more : ℕ)
     (es : List Event) (is : List Item) → c'.events ≡ c.events ++ es → c'.items ≡ c.items ++ is → c'.violation ≡ new.violation →
-    c'.view ≡ c.view → new.view ≡ old.view → new.space ≡ old.space → Holds new.memory.now c'.memory →
+    c'.regime ≡ c.regime → new.regime ≡ old.regime → new.space ≡ old.space → Holds new.memory.now c'.memory →
     Emits gave first.emitter.now new.emitter.now (item_pieces (c.items ++ is)) →
     TracksBy old.memory.now new.memory.now (after_events new.space es) →
     Spends 0 (reads_due (record { space = new.space; events = es; items = is; changed = [] })) (spent_in old.memory.now) (spent_in new.memory.now) →
     MapsBy old.memory.now new.memory.now new.space es →
     SeesCounted gave first old c left more → SeesCounted gave first new c' left more
-counted_on gave first old new c c' left more es is evented itemed violated viewed view space holds emits tracks spends maps sees = record {
+counted_on gave first old new c c' left more es is evented itemed violated viewed regime space holds emits tracks spends maps sees = record {
   holds = holds;
   emits = subst (λ (xs : List Item). Emits gave first.emitter.now new.emitter.now (item_pieces xs)) (sym itemed) emits;
   violation = sym violated;
-  view = view ∙ sees.view ∙ sym viewed;
+  regime = regime ∙ sees.regime ∙ sym viewed;
   tracks = subst (λ (xs : List Event). TracksBy first.memory.now new.memory.now (after_events new.space xs)) (sym evented)
       (tracks_on first.memory.now old.memory.now new.memory.now new.space c.events es
       (respaced first.memory.now old.memory.now old.space new.space c.events space sees.tracks) tracks);
@@ -78,7 +78,7 @@ sees_also gave first now c left more events still sees = record {
   holds = sees.holds;
   emits = sees.emits;
   violation = sees.violation;
-  view = sees.view;
+  regime = sees.regime;
   tracks = tracks_on first.memory.now now.memory.now now.memory.now now.space c.events events sees.tracks still;
   spends = (
       let further = due_events now.space c.events events c.items in
@@ -99,15 +99,15 @@ sees_noted gave first now events (Cloaked c) still sees = sees_also gave first n
 
 -- an item more, and the memory as it was
 pub sees_written : {E : Type 0} (gave : E → E → List Piece → Type 0) (first old new : Side E) (i : Item) (w : World) →
-    new.memory ≡ old.memory → new.violation ≡ old.violation → new.view ≡ old.view → new.space ≡ old.space →
+    new.memory ≡ old.memory → new.violation ≡ old.violation → new.regime ≡ old.regime → new.space ≡ old.space →
     Emits gave old.emitter.now new.emitter.now (item_pieces (i ∷ [])) → Sees gave first old w → Sees gave first new (written i w)
-sees_written gave first old new i (Flat ram) memory violation view space emits sees = sees
-sees_written gave first old new i (Alone handed) memory violation view space emits sees = sees
-sees_written gave first old new i (Cloaked c) memory violation view space emits sees = record {
+sees_written gave first old new i (Flat ram) memory violation regime space emits sees = sees
+sees_written gave first old new i (Alone handed) memory violation regime space emits sees = sees
+sees_written gave first old new i (Cloaked c) memory violation regime space emits sees = record {
   holds = subst (λ x. Holds x.now c.memory) (sym memory) sees.holds;
   emits = emits_items c.items (i ∷ []) sees.emits emits;
   violation = violation ∙ sees.violation;
-  view = view ∙ sees.view;
+  regime = regime ∙ sees.regime;
   tracks = subst (λ x. TracksBy first.memory.now x.now (after_events new.space c.events)) (sym memory)
       (respaced first.memory.now old.memory.now old.space new.space c.events space sees.tracks);
   spends = subst (λ x. Spends 0 (reads_due (asked_by new.space (record c { items = c.items ++ i ∷ [] }))) (spent_in first.memory.now) (spent_in x.now)) (sym memory)
@@ -123,15 +123,15 @@ pub counted_settled : {E : Type 0} (gave : E → E → List Piece → Type 0) (f
     TracksBy old.memory.now new.memory.now (touched (frame f)) →
     ((m : CloakedMemory) → Holds old.memory.now m → Spends 0 (length (settle f m).ciphers) (spent_in old.memory.now) (spent_in new.memory.now)) →
     MapsStill old.memory.now new.memory.now →
-    new.violation ≡ old.violation → new.view ≡ old.view → new.space ≡ old.space →
+    new.violation ≡ old.violation → new.regime ≡ old.regime → new.space ≡ old.space →
     SeesCounted gave first old c left more → SeesCounted gave first new (settled_in f c) left more
-counted_settled gave first old new f c left more settles tracks spends maps violation view space sees =
+counted_settled gave first old new f c left more settles tracks spends maps violation regime space sees =
     let s = settles c.memory sees.holds in
     let cs = (settle f c.memory).ciphers in
     let due : reads_due (record { space = new.space; events = Touch f ∷ []; items = cipher_items cs; changed = [] }) ≡ length cs =
     (let shown = ciphers_due cs in omega (arith, shown)) in
     counted_on gave first old new c (settled_in f c) left more (Touch f ∷ []) (cipher_items cs) refl refl (sym (violation ∙ sees.violation)) refl
-    view space s.holds (emits_items c.items (cipher_items cs) sees.emits s.emits)
+    regime space s.holds (emits_items c.items (cipher_items cs) sees.emits s.emits)
     (tracks_touch old.memory.now new.memory.now new.space f tracks)
     (subst (λ (n : ℕ). Spends 0 n (spent_in old.memory.now) (spent_in new.memory.now)) (sym due) (spends c.memory sees.holds))
     (maps_still old.memory.now new.memory.now new.space (Touch f ∷ []) maps) sees
@@ -142,12 +142,12 @@ pub sees_settled : {E : Type 0} (gave : E → E → List Piece → Type 0) (firs
     TracksBy old.memory.now new.memory.now (touched (frame f)) →
     ((m : CloakedMemory) → Holds old.memory.now m → Spends 0 (length (settle f m).ciphers) (spent_in old.memory.now) (spent_in new.memory.now)) →
     MapsStill old.memory.now new.memory.now →
-    new.violation ≡ old.violation → new.view ≡ old.view → new.space ≡ old.space →
+    new.violation ≡ old.violation → new.regime ≡ old.regime → new.space ≡ old.space →
     Sees gave first old w → Sees gave first new (settled f w)
-sees_settled gave first old new f (Flat ram) settles tracks spends maps violation view space sees = sees
-sees_settled gave first old new f (Alone handed) settles tracks spends maps violation view space sees = sees
-sees_settled gave first old new f (Cloaked c) settles tracks spends maps violation view space sees =
-    counted_settled gave first old new f c 0 0 settles tracks spends maps violation view space sees
+sees_settled gave first old new f (Flat ram) settles tracks spends maps violation regime space sees = sees
+sees_settled gave first old new f (Alone handed) settles tracks spends maps violation regime space sees = sees
+sees_settled gave first old new f (Cloaked c) settles tracks spends maps violation regime space sees =
+    counted_settled gave first old new f c 0 0 settles tracks spends maps violation regime space sees
 
 pub same_size : {memory : Memory} → SameSize memory memory
 same_size = record { frames = refl; domains = refl }
@@ -162,7 +162,7 @@ stays_self gave side = record {
   same_emitter = refl;
   emits_some = ([], emits_none gave side.emitter.now);
   size = same_size;
-  view = refl;
+  regime = refl;
   space = refl;
   counting = refl;
   others = λ k q n e. e;
@@ -178,10 +178,10 @@ stays_then gave first old new s t = record {
   same_emitter = t.same_emitter ∙ s.same_emitter;
   emits_some = some_then gave _ _ _ s.emits_some t.emits_some;
   size = size_then first.memory.now old.memory.now new.memory.now s.size t.size;
-  view = t.view ∙ s.view;
+  regime = t.regime ∙ s.regime;
   space = t.space ∙ s.space;
   counting = t.counting ∙ s.counting;
-  others = λ k q n e. s.others k q n (t.others k q (subst (λ (v : View). q.domain ≢ v.domain) (sym s.view) n) e);
+  others = λ k q n e. s.others k q n (t.others k q (subst (λ (v : InsideRegime). q.domain ≢ v.domain) (sym s.regime) n) e);
 }
 
 pub within_then : {E : Type 0} (gave : E → E → List Piece → Type 0) (first old new : Side E) →
@@ -200,16 +200,16 @@ stays_on gave first old new keeps s = stays_then gave first old new s (keeps old
 pub within_more : {E : Type 0} (gave : E → E → List Piece → Type 0) (first old new : Side E) →
     StaysWithin gave first old →
     new.memory.ghost_name ≡ old.memory.ghost_name → new.emitter.ghost_name ≡ old.emitter.ghost_name →
-    EmitsSome gave old.emitter.now new.emitter.now → SameSize old.memory.now new.memory.now → new.view ≡ old.view →
+    EmitsSome gave old.emitter.now new.emitter.now → SameSize old.memory.now new.memory.now → new.regime ≡ old.regime →
     new.space ≡ old.space → new.memory.now.counting ≡ old.memory.now.counting →
     HoldsNoMore old.memory.now.pager new.memory.now.pager → StaysWithin gave first new
-within_more gave first old new s memory emitter some size view space counting less = within_then gave first old new s (record {
+within_more gave first old new s memory emitter some size regime space counting less = within_then gave first old new s (record {
   stays = record {
     same_memory = memory;
     same_emitter = emitter;
     emits_some = some;
     size = size;
-    view = view;
+    regime = regime;
     space = space;
     counting = counting;
     others = λ k q n e. less.held k q e;
@@ -217,35 +217,35 @@ within_more gave first old new s memory emitter some size view space counting le
   no_more = less;
 })
 
--- the same, where a page of the domain that is served was offered
+-- the same, if a page of the domain that is served was offered
 pub stays_offered : {E : Type 0} (gave : E → E → List Piece → Type 0) (first old new : Side E) (q : PageId) →
-    Stays gave first old → q.domain ≡ old.view.domain →
+    Stays gave first old → q.domain ≡ old.regime.domain →
     new.memory.ghost_name ≡ old.memory.ghost_name → new.emitter.ghost_name ≡ old.emitter.ghost_name →
-    EmitsSome gave old.emitter.now new.emitter.now → SameSize old.memory.now new.memory.now → new.view ≡ old.view →
+    EmitsSome gave old.emitter.now new.emitter.now → SameSize old.memory.now new.memory.now → new.regime ≡ old.regime →
     new.space ≡ old.space → new.memory.now.counting ≡ old.memory.now.counting →
     HoldsNoOther q old.memory.now.pager new.memory.now.pager → Stays gave first new
-stays_offered gave first old new q s own memory emitter some size view space counting others =
+stays_offered gave first old new q s own memory emitter some size regime space counting others =
     stays_then gave first old new s (record {
       same_memory = memory;
       same_emitter = emitter;
       emits_some = some;
       size = size;
-      view = view;
+      regime = regime;
       space = space;
       counting = counting;
       others = λ k p n e. others k p (λ same. n (ap (λ (x : PageId). x.domain) same ∙ own)) e;
     })
 
--- a pager alone is another one of the same size, in which frames hold no more
+-- only the pager is another one, of the same size, in which frames hold no more
 pub within_repaged : {E : Type 0} (gave : E → E → List Piece → Type 0) (first old new : Side E) →
     StaysWithin gave first old →
     new.memory.ghost_name ≡ old.memory.ghost_name → new.emitter ≡ old.emitter →
-    SameSize old.memory.now new.memory.now → new.view ≡ old.view → new.space ≡ old.space →
+    SameSize old.memory.now new.memory.now → new.regime ≡ old.regime → new.space ≡ old.space →
     new.memory.now.counting ≡ old.memory.now.counting → HoldsNoMore old.memory.now.pager new.memory.now.pager →
     StaysWithin gave first new
-within_repaged gave first old new s memory emitter size view space counting less =
+within_repaged gave first old new s memory emitter size regime space counting less =
     within_more gave first old new s memory (ap (λ e. e.ghost_name) emitter)
-    (subst (λ e. EmitsSome gave old.emitter.now e.now) (sym emitter) ([], emits_none gave old.emitter.now)) size view
+    (subst (λ e. EmitsSome gave old.emitter.now e.now) (sym emitter) ([], emits_none gave old.emitter.now)) size regime
     space counting less
 
 -- another pager, and all else of the side as it was
@@ -256,7 +256,7 @@ pub record Repaged {E : Type 0} (old new : Side E) : Type 0 where
   pub marks : new.memory.now.reservations ≡ old.memory.now.reservations
   pub emitter : new.emitter.now ≡ old.emitter.now
   pub violation : new.violation ≡ old.violation
-  pub view : new.view ≡ old.view
+  pub regime : new.regime ≡ old.regime
   pub space : new.space ≡ old.space
 
 -- other reservations too, since a frame was written
@@ -266,7 +266,7 @@ pub record Rewritten {E : Type 0} (old new : Side E) : Type 0 where
   pub missed : new.memory.now.missed ≡ old.memory.now.missed
   pub emitter : new.emitter.now ≡ old.emitter.now
   pub violation : new.violation ≡ old.violation
-  pub view : new.view ≡ old.view
+  pub regime : new.regime ≡ old.regime
   pub space : new.space ≡ old.space
 
 repaged : {E : Type 0} (old new : Side E) → Repaged old new → Rewritten old new
@@ -276,7 +276,7 @@ repaged old new same = record {
   missed = same.missed;
   emitter = same.emitter;
   violation = same.violation;
-  view = same.view;
+  regime = same.regime;
   space = same.space;
 }
 
@@ -357,7 +357,7 @@ pub counted_moved : {E : Type 0} (gave : E → E → List Piece → Type 0) (fir
 counted_moved gave first old new c m' events left more same kept marks still stands tracks spends maps sees =
     let h = sees.holds in
     counted_on gave first old new c (record c { memory = m'; events = c.events ++ events }) left more events [] refl
-    (sym (append-nil c.items)) (sym (same.violation ∙ sees.violation)) refl same.view same.space
+    (sym (append-nil c.items)) (sym (same.violation ∙ sees.violation)) refl same.regime same.space
     (record {
       wiped = h.wiped;
       pager = stands h.wiped h.pager;
@@ -411,7 +411,7 @@ counted_read gave first old new c left more same shadows counting read sees =
       };
       emits = subst (λ e. Emits gave first.emitter.now e (item_pieces c.items)) (sym same.emitter) sees.emits;
       violation = same.violation ∙ sees.violation;
-      view = same.view ∙ sees.view;
+      regime = same.regime ∙ sees.regime;
       tracks = tracks_same first.memory.now old.memory.now new.memory.now new.space c.events
           (respaced first.memory.now old.memory.now old.space new.space c.events same.space sees.tracks)
           (same_tracks _ _ _ _ (held_in old.memory.now.pager) (held_in new.memory.now.pager) counting shadows
@@ -438,7 +438,7 @@ counted_event gave first now c f sees =
       holds = sees.holds;
       emits = sees.emits;
       violation = sees.violation;
-      view = sees.view;
+      regime = sees.regime;
       tracks = tracks_on first.memory.now now.memory.now now.memory.now now.space c.events (Read f ∷ []) sees.tracks
           (tracks_read now.memory.now now.space f);
       spends = spends_more 0 0 (suc (reads_due (asked_by now.space c))) _ (spent_in first.memory.now) (spent_in now.memory.now)
@@ -534,17 +534,17 @@ pub walking_read : {E A : Type 0} (gave : E → E → List Piece → Type 0) (fi
     TracksBy old.memory.now mid.memory.now (touched (frame f)) →
     ((m : CloakedMemory) → Holds old.memory.now m → Spends 0 (length (settle f m).ciphers) (spent_in old.memory.now) (spent_in mid.memory.now)) →
     MapsStill old.memory.now mid.memory.now →
-    mid.violation ≡ old.violation → mid.view ≡ old.view → mid.space ≡ old.space → Repaged mid new →
+    mid.violation ≡ old.violation → mid.regime ≡ old.regime → mid.space ≡ old.space → Repaged mid new →
     new.memory.now.shadows ≡ mid.memory.now.shadows → new.memory.now.counting ≡ mid.memory.now.counting →
     SeesFrame mid.memory.now.pager f bytes → IsReadOnce mid.memory.now.pager new.memory.now.pager → a ≡ show bytes →
     SeesWalking gave first old v → FollowsFrom (λ side w. SeesWalking gave first side w) new a
     (record { answer = show (slice_index_or (ram_of (settled f v)) f []); world = settled f v })
-walking_read gave first old mid new f (Flat ram) show bytes a settles tracks spends maps violation view space same shadows counting sees_frame read is sees = absurd sees
-walking_read gave first old mid new f (Alone handed) show bytes a settles tracks spends maps violation view space same shadows counting sees_frame read is sees = absurd sees
-walking_read gave first old mid new f (Cloaked c) show bytes a settles tracks spends maps violation view space same shadows counting sees_frame read is sees =
+walking_read gave first old mid new f (Flat ram) show bytes a settles tracks spends maps violation regime space same shadows counting sees_frame read is sees = absurd sees
+walking_read gave first old mid new f (Alone handed) show bytes a settles tracks spends maps violation regime space same shadows counting sees_frame read is sees = absurd sees
+walking_read gave first old mid new f (Cloaked c) show bytes a settles tracks spends maps violation regime space same shadows counting sees_frame read is sees =
     let c' = settled_in f c in
     let n = touched_since 0 c.events in
-    let seen : SeesCounted gave first mid c' 2 n = counted_settled gave first old mid f c 2 n settles tracks spends maps violation view space sees in
+    let seen : SeesCounted gave first mid c' 2 n = counted_settled gave first old mid f c 2 n settles tracks spends maps violation regime space sees in
     record {
       answer = is ∙ ap show (sees_frame seen.holds.wiped c'.memory seen.holds.pager);
       stands = subst (λ (k : ℕ). SeesCounted gave first new c' 2 k) (sym (since_then 0 c.events (Touch f ∷ [])))
@@ -587,15 +587,15 @@ pub no_other_on : {E : Type 0} (gave : E → E → List Piece → Type 0) (old n
     Keeps (StaysWithin gave) old new → HoldsNoOther q old.memory.now.pager new.memory.now.pager
 no_other_on gave old new q keeps k p n e = (keeps old (within_self gave old)).no_more.held k p e
 
--- the same of what stays of it where pages are offered too
+-- the same for what stays of it if pages are offered too
 pub stays_repaged : {E : Type 0} (gave : E → E → List Piece → Type 0) (first old new : Side E) → Stays gave first old →
     new.memory.ghost_name ≡ old.memory.ghost_name → new.emitter ≡ old.emitter →
-    SameSize old.memory.now new.memory.now → new.view ≡ old.view → new.space ≡ old.space →
+    SameSize old.memory.now new.memory.now → new.regime ≡ old.regime → new.space ≡ old.space →
     new.memory.now.counting ≡ old.memory.now.counting → HoldsNoMore old.memory.now.pager new.memory.now.pager →
     Stays gave first new
-stays_repaged gave first old new s memory emitter size view space counting less =
+stays_repaged gave first old new s memory emitter size regime space counting less =
     stays_then gave first old new s
-    (within_repaged gave old old new (within_self gave old) memory emitter size view space counting less).stays
+    (within_repaged gave old old new (within_self gave old) memory emitter size regime space counting less).stays
 
 -- metadata alone leaves as many frames and domains
 pub turned_size : (old new : Memory) (metas : PageId → Option Meta) → MetasTurn old.pager new.pager metas →

@@ -19,8 +19,8 @@ use Rattle.cloak_model.specs.Record.{is_cipher}
 use Rattle.cloak_model.specs.World.{cipher_items}
 use Rattle.cloak_pager.specs.State.{PagerState}
 use Rattle.cloak_pager.specs.Turns.{IsReadOnce, TouchTurns, OfferTurns, OfferedTurns}
-use Rattle.cloak_pager.specs.declared.held.Held.{Held}
-use Rattle.cloak_pager.specs.declared.held.Held.TheVariants.{Outside, Clean, Changed, Spent as Gone}
+use Rattle.cloak_pager.specs.declared.frame_right.FrameRight.{FrameRight}
+use Rattle.cloak_pager.specs.declared.frame_right.FrameRight.TheVariants.{Outside, Clean, Changed, Spent as Gone}
 use Rattle.cloak_pager.specs.declared.offering.Offered.{Offered}
 use Rattle.cloak_pager.specs.declared.offering.Offered.TheVariants.{Ready, Mismatch}
 use Rattle.cloak_base.specs.declared.names.Meta.{Meta}
@@ -32,7 +32,7 @@ use Rattle.shadow_fold.specs.Reads.{Spent, Spends, is_read, reads_due}
 use Rattle.shadow_fold.specs.Table.{Table, looked, one_more, ending, killed}
 use Rattle.shadow_fold.specs.Entries.{is_target, is_table}
 use Rattle.shadow_fold.specs.declared.entry.Entry.{Entry}
-use Rattle.shadow_fold.specs.declared.entry.ShadowView.{ShadowView}
+use Rattle.shadow_fold.specs.declared.entry.Regime.{Regime}
 use Rattle.shadow_fold.proofs.Agreeing.{keeps_ending}
 use Rattle.shadow_law.proofs.Misses.{keeps_birth}
 use Rattle.cloaked_side.specs.declared.memory.Memory.{Memory}
@@ -141,7 +141,7 @@ pub paid_is : (more due : ℕ) → paid more due ≡ more + due
 paid_is zero due = omega arith
 paid_is (suc more) due = let rest = paid_is more due in omega (arith, rest)
 
--- Behind a world's events and items, calls did as much as their events and items call for.
+-- After a world's events and items, calls did as much as their events and items call for.
 pub spends_on : (left more : ℕ) (space : Option SpaceId) (es fs : List Event) (is js : List Item) (a b c : Spent) →
     Spends left (paid more (reads_due (record { space = space; events = es; items = is; changed = [] }))) a b →
     Spends 0 (reads_due (record { space = space; events = fs; items = js; changed = [] })) b c →
@@ -158,7 +158,7 @@ spends_on left more space es fs is js a b c before after =
 
 -- Calls of the pager.
 
-pub touched_reads : (h : Held) (draw : Option (List ℕ × Random)) (old new : PagerState) (f : ℕ) → TouchTurns h draw old new f →
+pub touched_reads : (h : FrameRight) (draw : Option (List ℕ × Random)) (old new : PagerState) (f : ℕ) → TouchTurns h draw old new f →
     new.reads ≡ old.reads
 touched_reads (Outside r) draw old new f t = ap (λ (p : PagerState). p.reads) t
 touched_reads (Clean r) draw old new f t = t.2.reads_stay
@@ -166,7 +166,7 @@ touched_reads (Changed r) (Some draw) old new f t = t.reads_stay
 touched_reads (Changed r) None old new f t = t.reads_stay
 touched_reads Gone draw old new f t = absurd t
 
-offered_if : (h : Held) (shown : Option Meta) (write : Bool) (old new : PagerState) (q : PageId) (g : ℕ) →
+offered_if : (h : FrameRight) (shown : Option Meta) (write : Bool) (old new : PagerState) (q : PageId) (g : ℕ) →
     OfferTurns h shown write old new q g → new.reads ≡ old.reads
 offered_if (Outside r) (Some t) write old new q g o = o.2.reads_stay
 offered_if (Outside r) None write old new q g o = o.reads_stay
@@ -175,7 +175,7 @@ offered_if (Clean r) shown false old new q g o = ap (λ (p : PagerState). p.read
 offered_if (Changed r) shown write old new q g o = ap (λ (p : PagerState). p.reads) o
 offered_if Gone shown write old new q g o = absurd o
 
-pub offered_reads : (result : Offered) (h : Held) (shown : Option Meta) (write : Bool) (old new : PagerState) (q : PageId)
+pub offered_reads : (result : Offered) (h : FrameRight) (shown : Option Meta) (write : Bool) (old new : PagerState) (q : PageId)
     (g : ℕ) → OfferedTurns result h shown write old new q g → new.reads ≡ old.reads
 offered_reads Ready h shown write old new q g o = offered_if h shown write old new q g o
 offered_reads Mismatch h shown write old new q g o = ap (λ (p : PagerState). p.reads) o
@@ -220,15 +220,15 @@ pub maps_killed : (old new : Memory) (b : Bool) (f : Frame) → new.shadows ≡ 
 maps_killed old new b f same mapped are =
     subst (λ (t : Table). All (IsMapped mapped) t.live) (sym same) (killed_maps mapped b f old.shadows are)
 
-live_looked : (view : ShadowView) (page : ℕ) (kind : Kind) (t : Table) → (looked view page kind t).live ≡ t.live
+pub live_looked : (regime : Regime) (page : ℕ) (kind : Kind) (t : Table) → (looked regime page kind t).live ≡ t.live
 unfolding looked
-live_looked view page kind t = refl
+live_looked regime page kind t = refl
 
-pub maps_looked : (old new : Memory) (view : ShadowView) (page : ℕ) (kind : Kind) → new.shadows ≡ looked view page kind old.shadows →
+pub maps_looked : (old new : Memory) (regime : Regime) (page : ℕ) (kind : Kind) → new.shadows ≡ looked regime page kind old.shadows →
     MapsStill old new
-maps_looked old new view page kind same mapped are =
+maps_looked old new regime page kind same mapped are =
     subst (λ (t : Table). All (IsMapped mapped) t.live) (sym same)
-    (subst (λ (es : List Entry). All (IsMapped mapped) es) (sym (live_looked view page kind old.shadows)) are)
+    (subst (λ (es : List Entry). All (IsMapped mapped) es) (sym (live_looked regime page kind old.shadows)) are)
 
 pub maps_then : (a b c : Memory) → MapsStill a b → MapsStill b c → MapsStill a c
 maps_then a b c p q mapped are = q mapped (p mapped are)
@@ -282,7 +282,7 @@ since_then n (Space changed ∷ es) fs = since_then n es fs
 
 -- A touch showed nothing, or its frame.
 
-pub touch_shows_none : (old : Memory) (p : PagerState) (t : Table) (h : Held) (draw : Option (List ℕ × Random)) (f : ℕ) →
+pub touch_shows_none : (old : Memory) (p : PagerState) (t : Table) (h : FrameRight) (draw : Option (List ℕ × Random)) (f : ℕ) →
     TouchTurns h draw old.pager p f → t.counts.misses ≡ old.shadows.counts.misses →
     Spends 0 0 (spent_in old) (record { reads = p.reads; misses = t.counts.misses })
 touch_shows_none old p t h draw f state misses =
@@ -291,7 +291,7 @@ touch_shows_none old p t h draw f state misses =
       reads = λ few. omega (arith, reads, misses);
     }
 
-pub touch_shows_frame : (old new : Memory) (p : PagerState) (h : Held) (draw : Option (List ℕ × Random)) (f : ℕ) →
+pub touch_shows_frame : (old new : Memory) (p : PagerState) (h : FrameRight) (draw : Option (List ℕ × Random)) (f : ℕ) →
     TouchTurns h draw old.pager p f → IsReadOnce p new.pager → new.shadows.counts.misses ≡ old.shadows.counts.misses →
     Spends 0 1 (spent_in old) (spent_in new)
 touch_shows_frame old new p h draw f state once misses =
@@ -303,7 +303,7 @@ touch_shows_frame old new p h draw f state once misses =
     }
 
 -- an offer of the pager reads no frame that it shows
-pub offer_shows_none : (old room : Memory) (p : PagerState) (t : Table) (result : Offered) (h : Held) (shown : Option Meta) (write : Bool)
+pub offer_shows_none : (old room : Memory) (p : PagerState) (t : Table) (result : Offered) (h : FrameRight) (shown : Option Meta) (write : Bool)
     (q : PageId) (g due : ℕ) → OfferedTurns result h shown write room.pager p q g → t.counts.misses ≡ room.shadows.counts.misses →
     Spends 0 due (spent_in old) (spent_in room) → Spends 0 due (spent_in old) (record { reads = p.reads; misses = t.counts.misses })
 offer_shows_none old room p t result h shown write q g due state misses spends =

@@ -20,7 +20,7 @@ use Rattle.shadow_law.specs.Walks.{listed}
 use Rattle.shadow_law.proofs.Walks.{FirstNames, word_names, second_names, listed_one, listed_two}
 use Rattle.cloaked_side.proofs.Tracking.{emptied_at, touched_held}
 
--- this world has these events behind those of c
+-- this world has these events after those of c
 abbrev pub HasTouches : Cloak → Walked → World → Type 0
 HasTouches c w world = (c' : Cloak) × (world ≡ Cloaked c') × (c'.events ≡ c.events ++ touches (listed w.pt1 ++ listed w.pt0))
 
@@ -77,7 +77,7 @@ walked_touches satp a c w is = by (has_paging satp) is
               sym (append-nil c.events) ∙ ap (λ (v : Walked). c.events ++ touches (listed v.pt1 ++ listed v.pt0)) same,
             )
 
--- behind the touches of tables they hold nothing
+-- after the touches of tables they hold nothing
 
 once_none : (f k : ℕ) (held : ℕ → Option PageId) → held k ≡ None → emptied_at f held k ≡ None
 once_none f k held none = elim (eqb_tells k f) [

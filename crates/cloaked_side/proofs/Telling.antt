@@ -1,7 +1,7 @@
 -- What a side saw is told of its memory and its emitter.
 use Rattle.std.proofs.Common.{◌≡◌, arith, ℕ, Bool, false, List, [], Option, ap, sym, ◌∙◌, subst}
 use Rattle.std.proofs.lemmas.List.{append-nil}
-use Rattle.cloak_model.specs.declared.view.View.{View}
+use Rattle.cloak_model.specs.declared.regime.InsideRegime.{InsideRegime}
 use Rattle.cloak_model.specs.World.{World, Cloak, Flat, Cloaked, Alone, is_clashed, unnoted}
 use Rattle.cloak_model.specs.Asking.{Told, FollowsFrom}
 use Rattle.cloak_model.specs.Hart.{Hart}
@@ -28,14 +28,14 @@ use Rattle.cloaked_side.proofs.Emitting.{emits_none}
 
 -- a side as a step begins
 pub sees_first : {E : Type 0} (gave : E → E → List Piece → Type 0) (s : Side E) (c : Cloak) →
-    Holds s.memory.now c.memory → c.items ≡ [] → c.events ≡ [] → s.violation ≡ c.violation → s.view ≡ c.view →
+    Holds s.memory.now c.memory → c.items ≡ [] → c.events ≡ [] → s.violation ≡ c.violation → s.regime ≡ c.regime →
     Sees gave s s (Cloaked c)
-sees_first gave s c holds none quiet violation view = record {
+sees_first gave s c holds none quiet violation regime = record {
   holds = holds;
   emits = subst (λ is. Emits gave s.emitter.now s.emitter.now (item_pieces is)) (sym none)
       (emits_none gave s.emitter.now);
   violation = violation;
-  view = view;
+  regime = regime;
   tracks = subst (λ (es : List Event). TracksBy s.memory.now s.memory.now (after_events s.space es)) (sym quiet)
       (λ f keeps. subst (λ (u : Fold). Tracks s.memory.now u) (no_events s.space f) keeps);
   spends = spends_more 0 0 0 (reads_due (asked_by s.space c)) (spent_in s.memory.now) (spent_in s.memory.now) (omega arith)
@@ -85,9 +85,9 @@ tells_from gave first now after told memory e same_memory same_emitter follows =
   holds = subst (λ x. HoldsWorld x told.world) (sym same_memory) (holds_world gave first now told.world follows.stands);
 }
 
-pub view_is : (v : View) (satp : ℕ) (sum mxr : Bool) (domain : ℕ) → v.satp ≡ satp → v.sum ≡ sum → v.mxr ≡ mxr →
+pub regime_is : (v : InsideRegime) (satp : ℕ) (sum mxr : Bool) (domain : ℕ) → v.satp ≡ satp → v.sum ≡ sum → v.mxr ≡ mxr →
     v.domain ≡ domain → v ≡ record { satp = satp; sum = sum; mxr = mxr; domain = domain }
-view_is v satp sum mxr domain a b c d = λ i. record { satp = a i; sum = b i; mxr = c i; domain = d i }
+regime_is v satp sum mxr domain a b c d = λ i. record { satp = a i; sum = b i; mxr = c i; domain = d i }
 
 -- the events of what was told are not told
 
@@ -122,7 +122,7 @@ tells_ahead gave first now after h disk c memory e same_memory same_emitter uncl
     (subst (λ (t : Told SteppedKernel). TellsSide gave first.emitter.now e memory after t) (settles_ahead h disk c)
     (tells_quiet gave first.emitter.now e memory after step.answer step.world told))
 
--- What was so of a memory or an emitter behind a reference is so of the one that was given back.
+-- What was true of a memory or an emitter behind a reference is true of the one that was given back.
 pub size_back : (old back new : Memory) → back ≡ new → SameSize old new → SameSize old back
 size_back old back new same size = subst (λ (m : Memory). SameSize old m) (sym same) size
 

@@ -16,12 +16,12 @@ use Rattle.cloak_model.specs.Events.{Event, Look, Touch, Offer, Born, Read, Writ
 use Rattle.cloak_base.specs.declared.names.Kind.{Kind}
 use Rattle.cloak_model.specs.declared.access.Walked.{Walked}
 use Rattle.shadow_fold.specs.declared.entry.Entry.{Entry}
-use Rattle.shadow_fold.specs.declared.entry.ShadowView.{ShadowView}
-use Rattle.shadow_fold.specs.declared.entry.ShadowView.TheVariants.{Outside, Inside}
+use Rattle.shadow_fold.specs.declared.entry.Regime.{Regime}
+use Rattle.shadow_fold.specs.declared.entry.Regime.TheVariants.{Outside, Inside}
 use Rattle.shadow_fold.specs.Agreement.{satp_in, access_in}
 use Rattle.shadow_law.specs.Agreeing.{touches}
 use Rattle.shadow_law.specs.Walks.{listed}
-use Rattle.cloaked_side.specs.Leading.{IsViewIn}
+use Rattle.cloaked_side.specs.Leading.{IsRegimeIn}
 use Rattle.shadow_fold.specs.Entries.{is_table}
 use Rattle.shadow_fold.specs.Fold.{Fold, frame, entry_in, is_own_table, holds, part_holds, touched, touched_where, with_held, with_table, offered, granted, after_event, after_events}
 use Rattle.shadow_fold.specs.Following.{Follows, killed_if, killed_each, HasAll, AreBirthCalls, AreBirthCallsUnless, AreCallsFor}
@@ -30,8 +30,8 @@ use Rattle.shadow_fold.proofs.Follows.{follows_event, follows_kill, each_is_all}
 use Rattle.cloak_base.specs.Random.{Random}
 use Rattle.cloak_pager.specs.State.{PagerState, page_of, right_at, held_in}
 use Rattle.cloak_pager.specs.Turns.{touched_by, IsReadOnce, StaysBut}
-use Rattle.cloak_pager.specs.declared.held.Held.{Held}
-use Rattle.cloak_pager.specs.declared.held.Held.TheVariants as held
+use Rattle.cloak_pager.specs.declared.frame_right.FrameRight.{FrameRight}
+use Rattle.cloak_pager.specs.declared.frame_right.FrameRight.TheVariants as held
 use Rattle.cloak_pager.specs.declared.touching.Touched.TheVariants.{Quiet}
 use Rattle.cloaked_side.specs.declared.memory.Memory.{Memory}
 use Rattle.cloaked_side.proofs.Translating.{quiet_held}
@@ -51,7 +51,7 @@ pub one_event : (space : Option SpaceId) (e : Event) (s : Fold) → after_events
 unfolding after_events
 one_event space e s = refl
 
--- the calls of an event, and what frames hold behind it
+-- the calls of an event, and what frames hold after it
 pub goes_on : (space : Option SpaceId) (e : Event) (c : Bool) (t t' : Table) (held held' : ℕ → Option PageId) (s : Fold) → Keeps c t held s
     → (c ≡ true → AreCallsFor space e s t t') → ((f : ℕ) → held' f ≡ (after_event space e s).held f) → Keeps c t' held' (after_event space e s)
 goes_on space e c t t' held held' s keeps calls pages = record {
@@ -65,7 +65,7 @@ goes_on space e c t t' held held' s keeps calls pages = record {
 abbrev pub emptied_at : ℕ → (ℕ → Option PageId) → ℕ → Option PageId
 emptied_at f held k = cond (k == f) None (held k)
 
--- what the fold has held behind a touch
+-- what frames hold in the fold after a touch
 pub touched_held : (f : ℕ) (s : Fold) (o : Option PageId) → s.held f ≡ o → (k : ℕ) → (touched (frame f) s).held k ≡ emptied_at f s.held k
 unfolding touched
 touched_held f s None is k =
@@ -102,7 +102,7 @@ settle_tracks p p' c c' t t' f ends counts outside others s keeps =
     (goes_on_touch c t t' (held_in p) (held_in p') s f keeps ends outside others)
 
 -- what the end of a touch tells of the page that the frame held
-loud_holds : (h : Held) (draw : Option (List ℕ × Random)) → touched_by h draw ≢ Quiet → is_some (page_of h) ≡ true
+loud_holds : (h : FrameRight) (draw : Option (List ℕ × Random)) → touched_by h draw ≢ Quiet → is_some (page_of h) ≡ true
 loud_holds (held.Outside r) draw n = absurd (n refl)
 loud_holds (held.Clean r) draw n = refl
 loud_holds (held.Changed r) draw n = refl
@@ -347,16 +347,16 @@ touches_still space c t held (Some f) (Some g) first second s keeps =
 
 -- A translation is asked for.
 
-pub look_tracks : (space : Option SpaceId) (view : ShadowView) (va : ℕ) (kind : Kind) → IsViewIn space view → (c : Bool) (t t' : Table) (held : ℕ → Option PageId)
-    → (c ≡ true → t' ≡ looked view (va / 4096) kind t) → (s : Fold) → Keeps c t held s
-    → Keeps c t' held (after_events space (Look (satp_in view) (access_in view va kind) ∷ []) s)
+pub look_tracks : (space : Option SpaceId) (regime : Regime) (va : ℕ) (kind : Kind) → IsRegimeIn space regime → (c : Bool) (t t' : Table) (held : ℕ → Option PageId)
+    → (c ≡ true → t' ≡ looked regime (va / 4096) kind t) → (s : Fold) → Keeps c t held s
+    → Keeps c t' held (after_events space (Look (satp_in regime) (access_in regime va kind) ∷ []) s)
 unfolding after_events after_event
 look_tracks space (Outside satp mode sum mxr) va kind is c t t' held made s keeps =
     goes_on space (Look satp (access_in (Outside satp mode sum mxr) va kind)) c t t' held held s keeps
-    (λ counts. made counts ∙ ap (λ (v : ShadowView). looked v (va / 4096) kind t) (sym (is va kind))) keeps.pages
+    (λ counts. made counts ∙ ap (λ (v : Regime). looked v (va / 4096) kind t) (sym (is va kind))) keeps.pages
 look_tracks space (Inside satp sum mxr x) va kind is c t t' held made s keeps =
     goes_on space (Look satp (access_in (Inside satp sum mxr x) va kind)) c t t' held held s keeps
-    (λ counts. made counts ∙ ap (λ (v : ShadowView). looked v (va / 4096) kind t) (sym (is va kind))) keeps.pages
+    (λ counts. made counts ∙ ap (λ (v : Regime). looked v (va / 4096) kind t) (sym (is va kind))) keeps.pages
 
 -- A translation becomes known.
 
@@ -369,7 +369,7 @@ born_tracks space satp a walked cloaked c t t' held calls s keeps =
 
 -- one that is known already, or never becomes live
 
-pub birth_still : (e : Entry) (t : Table) → is_known e.view e.page e.kind t ≡ true → AreBirthCallsUnless (is_own_table e) e t t
+pub birth_still : (e : Entry) (t : Table) → is_known e.regime e.page e.kind t ≡ true → AreBirthCallsUnless (is_own_table e) e t t
 birth_still e t known = by (is_own_table e)
   where
     by : (b : Bool) → AreBirthCallsUnless b e t t
@@ -379,7 +379,7 @@ birth_still e t known = by (is_own_table e)
 pub birth_never : (e : Entry) (t : Table) → is_own_table e ≡ true → AreBirthCallsUnless (is_own_table e) e t t
 birth_never e t own = subst (λ (b : Bool). AreBirthCallsUnless b e t t) (sym own) refl
 
-pub birth_made : (e : Entry) (t t' : Table) → is_own_table e ≡ false → AreBirthCalls (is_known e.view e.page e.kind t) e t t' → AreBirthCallsUnless (is_own_table e) e t t'
+pub birth_made : (e : Entry) (t t' : Table) → is_own_table e ≡ false → AreBirthCalls (is_known e.regime e.page e.kind t) e t t' → AreBirthCallsUnless (is_own_table e) e t t'
 birth_made e t t' other made = subst (λ (b : Bool). AreBirthCallsUnless b e t t') (sym other) made
 
 -- The frames of a resource are emptied one after another.

@@ -8,8 +8,8 @@ use Rattle.cloak_model.specs.Cloaking.{CloakedMemory, AfterSettling, Ready, Mism
 use Rattle.cloak_pager.specs.State.{PagerState, page_of, owed_under, right_at, held_in}
 use Rattle.cloak_pager.specs.Relation.{StandsForMemory}
 use Rattle.cloak_pager.specs.Turns.{StaysBut, IsReadOnce, touched_by}
-use Rattle.cloak_pager.specs.declared.held.Held.{Held}
-use Rattle.cloak_pager.specs.declared.held.Held.TheVariants.{Outside, Clean, Changed, Spent}
+use Rattle.cloak_pager.specs.declared.frame_right.FrameRight.{FrameRight}
+use Rattle.cloak_pager.specs.declared.frame_right.FrameRight.TheVariants.{Outside, Clean, Changed, Spent}
 use Rattle.cloak_pager.specs.declared.touching.Touched.TheVariants.{Quiet, Resealed, Sealed, Wiped}
 use Rattle.cloak_pager.proofs.Pages.{same_or_not}
 use Rattle.cloak_pager.proofs.Stands.{owed_by_right}
@@ -30,7 +30,7 @@ use Rattle.cloaked_side.proofs.Presents.{pager_owes, pager_shows}
 -- frames hold what their rights say
 pub held_by_rights : (old new : PagerState) → new.rights ≡ old.rights → held_in new ≡ held_in old
 held_by_rights old new same =
-    let by_rights : List Held → ℕ → Option PageId = λ rights f. page_of (slice_index_or rights f Spent) in
+    let by_rights : List FrameRight → ℕ → Option PageId = λ rights f. page_of (slice_index_or rights f Spent) in
     ap by_rights same
 
 -- the same frames hold the same pages
@@ -68,7 +68,7 @@ held_all f old new stays here = λ i x. every x i
     ]
 
 -- a touch that did nothing found the frame outside
-pub quiet_held : (h : Held) (draw : Option (List ℕ × Random)) → Quiet ≡ touched_by h draw → (page_of h ≡ None) × (owed_under h ≡ None)
+pub quiet_held : (h : FrameRight) (draw : Option (List ℕ × Random)) → Quiet ≡ touched_by h draw → (page_of h ≡ None) × (owed_under h ≡ None)
 quiet_held (Outside r) draw is = (refl, refl)
 quiet_held (Clean r) draw is = absurd (let no : Quiet ≡ Resealed = is in cc)
 quiet_held (Changed r) (Some d) is = absurd (let no : Quiet ≡ Sealed = is in cc)

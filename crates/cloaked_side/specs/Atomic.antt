@@ -11,6 +11,6 @@ word_there satp a (Err cause) w = answered (Err cause) w
 word_there satp a (Ok pa) w =
     then_ask (ask_value satp a pa 4) (λ word. answered (Ok (record { pa = pa; word = word }))) w
 
--- the word where an access leads: each atomic access begins so
+-- the word to which an access leads: each atomic access begins so
 abbrev pub ask_led_word : ℕ → Access → Asking (Result LedWord ℕ)
 ask_led_word satp a w = then_ask (ask_led satp a) (word_there satp a) w

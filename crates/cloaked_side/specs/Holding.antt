@@ -11,7 +11,7 @@ use Rattle.shadow_fold.specs.Keeping.{Agrees}
 use Rattle.shadow_law.specs.Agreeing.{present}
 use Rattle.cloaked_side.specs.declared.memory.Memory.{Memory}
 
--- The memory stands for these frames, pages and this ledger. The newest bytes of a page are lost only where a draw was
+-- The memory stands for these frames, pages and this ledger. The newest bytes of a page are lost only if a draw was
 -- missing. Each live translation leads where a walk would lead now. The reservations are those of the harts.
 pub record Holds (memory : Memory) (m : CloakedMemory) : Type 0 where
   pub wiped : PageId → Bool

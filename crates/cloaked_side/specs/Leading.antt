@@ -15,7 +15,7 @@ use Rattle.cloak_model.specs.Exchange.{Piece}
 use Rattle.cloak_base.specs.Constants.{frame_of}
 use Rattle.cloak_model.specs.Memory.{is_in_ram}
 use Rattle.cloak_pager.specs.State.{held_in}
-use Rattle.shadow_fold.specs.Fold.{entry_in, view_in}
+use Rattle.shadow_fold.specs.Fold.{entry_in, regime_in}
 use Rattle.shadow_fold.specs.Table.{is_known}
 use Rattle.cloaked_side.specs.declared.memory.Memory.{Memory}
 use Rattle.cloak_model.specs.Walk.{walk, access_fault}
@@ -23,32 +23,32 @@ use Rattle.cloak_model.specs.World.{World, Flat, Cloaked, Alone, is_clashed, not
 use Rattle.shadow_fold.specs.Agreement.{EntryAgrees, satp_in, access_in}
 use Rattle.shadow_fold.specs.Entries.{IsWithin, is_table}
 use Rattle.shadow_fold.specs.declared.entry.Entry.{Entry}
-use Rattle.shadow_fold.specs.declared.entry.ShadowView.{ShadowView}
-use Rattle.shadow_fold.specs.declared.entry.ShadowView.TheVariants.{Inside}
+use Rattle.shadow_fold.specs.declared.entry.Regime.{Regime}
+use Rattle.shadow_fold.specs.declared.entry.Regime.TheVariants.{Inside}
 use Rattle.shadow_law.specs.Agreeing.{present, AreOutside}
 use Rattle.cloaked_side.specs.Seeing.{Sees, SeesWalking}
 use Rattle.cloaked_side.specs.declared.leading.Found.{Found}
 use Rattle.cloaked_side.specs.declared.leading.Found.TheVariants as found
 use Rattle.cloaked_side.specs.declared.leading.Led.{Led}
 use Rattle.cloaked_side.specs.declared.side.Side.{Side}
-use Rattle.cloak_model.specs.declared.view.View.{View}
+use Rattle.cloak_model.specs.declared.regime.InsideRegime.{InsideRegime}
 
--- the view is that of accesses of a side whose context has this space, or of one outside
-abbrev pub IsViewIn : Option SpaceId → ShadowView → Type 0
-IsViewIn space view = (va : ℕ) (kind : Kind) → view_in space (satp_in view) (access_in view va kind) ≡ view
+-- the regime is that of accesses of a side whose context has this space, or of one outside
+abbrev pub IsRegimeIn : Option SpaceId → Regime → Type 0
+IsRegimeIn space regime = (va : ℕ) (kind : Kind) → regime_in space (satp_in regime) (access_in regime va kind) ≡ regime
 
--- where an access of a view leads
-abbrev pub asked_led : ShadowView → ℕ → Kind → Asking (Result ℕ ℕ)
-asked_led view va kind = ask_led (satp_in view) (access_in view va kind)
+-- where an access of a regime leads
+abbrev pub asked_led : Regime → ℕ → Kind → Asking (Result ℕ ℕ)
+asked_led regime va kind = ask_led (satp_in regime) (access_in regime va kind)
 
--- An access that was led without a walk has its translation known, and its target holds this, where accesses are counted.
-abbrev pub IsLive : Memory → ShadowView → ℕ → Kind → Option PageId → Led → Type 0
-IsLive memory view va kind cloaked led = led.walked ≡ None → memory.counting ≡ true →
-    (is_known view (va / 4096) kind memory.shadows ≡ true) × (held_in memory.pager (frame_of led.pa) ≡ cloaked)
+-- If accesses are counted, an access that was led without a walk has its translation known, and its target holds this.
+abbrev pub IsLive : Memory → Regime → ℕ → Kind → Option PageId → Led → Type 0
+IsLive memory regime va kind cloaked led = led.walked ≡ None → memory.counting ≡ true →
+    (is_known regime (va / 4096) kind memory.shadows ≡ true) × (held_in memory.pager (frame_of led.pa) ≡ cloaked)
 
--- where the look of an access missed, no translation of it is known
-abbrev pub IsUnknownIfMissed : Memory → ShadowView → ℕ → Kind → Bool → Type 0
-IsUnknownIfMissed memory view va kind missed = missed ≡ true → is_known view (va / 4096) kind memory.shadows ≡ false
+-- if the look of an access missed, no translation of it is known
+abbrev pub IsUnknownIfMissed : Memory → Regime → ℕ → Kind → Bool → Type 0
+IsUnknownIfMissed memory regime va kind missed = missed ≡ true → is_known regime (va / 4096) kind memory.shadows ≡ false
 
 -- the address to which an access was led, or its fault
 abbrev pub place_in : Result Led ℕ → Result ℕ ℕ
@@ -56,30 +56,30 @@ place_in (Ok led) = Ok led.pa
 place_in (Err cause) = Err cause
 
 -- the walk of an access leads so, in the RAM that this world has
-abbrev pub IsWalkOf : World → ShadowView → ℕ → Kind → Walked → Type 0
-IsWalkOf (Flat ram) view va kind walked = ⊥
-IsWalkOf (Alone handed) view va kind walked = ⊥
-IsWalkOf (Cloaked c) view va kind walked =
-    (walk c.memory.ram (satp_in view) (access_in view va kind) ≡ Ok walked) × (is_in_ram c.memory.ram walked.pa ≡ true)
+abbrev pub IsWalkOf : World → Regime → ℕ → Kind → Walked → Type 0
+IsWalkOf (Flat ram) regime va kind walked = ⊥
+IsWalkOf (Alone handed) regime va kind walked = ⊥
+IsWalkOf (Cloaked c) regime va kind walked =
+    (walk c.memory.ram (satp_in regime) (access_in regime va kind) ≡ Ok walked) × (is_in_ram c.memory.ram walked.pa ≡ true)
 
--- the walk that led an access, where there was one, leads there
-abbrev pub IsLedBy : World → ShadowView → ℕ → Kind → Led → Type 0
-IsLedBy w view va kind led = IfSome led.walked (λ walked. IsWalkOf w view va kind walked × (walked.pa ≡ led.pa))
+-- the walk that led an access, if there was one, leads there
+abbrev pub IsLedBy : World → Regime → ℕ → Kind → Led → Type 0
+IsLedBy w regime va kind led = IfSome led.walked (λ walked. IsWalkOf w regime va kind walked × (walked.pa ≡ led.pa))
 
--- the tables of the walk that led an access, where there was one, are outside
+-- the tables of the walk that led an access, if there was one, are outside
 abbrev pub AreLedOutside : (ℕ → Option PageId) → Led → Type 0
 AreLedOutside held led = IfSome led.walked (AreOutside held)
 
--- the entry agrees with what this world's memory is, where frames hold these pages
+-- the entry agrees with what this world's memory is, if frames hold these pages
 abbrev pub IsEntryOf : World → (ℕ → Option PageId) → Entry → Type 0
 IsEntryOf (Flat ram) held e = ⊥
 IsEntryOf (Alone handed) held e = ⊥
 IsEntryOf (Cloaked c) held e = EntryAgrees (present held c.memory) e × IsWithin (length c.memory.ram) e
 
 -- the entry of a walk that led an access to this address
-abbrev pub entry_at : ShadowView → ℕ → Kind → ℕ → Walked → Option PageId → Entry
-entry_at view va kind pa walked cloaked = record {
-  view = view;
+abbrev pub entry_at : Regime → ℕ → Kind → ℕ → Walked → Option PageId → Entry
+entry_at regime va kind pa walked cloaked = record {
+  regime = regime;
   page = va / 4096;
   kind = kind;
   frame = record { 0 = frame_of pa };
@@ -88,38 +88,38 @@ entry_at view va kind pa walked cloaked = record {
   cloaked = cloaked;
 }
 
--- a side stands for what follows where a walk to memory that is not cloaked makes this entry
+-- a side stands for what follows when a walk to memory that is not cloaked makes this entry
 abbrev pub LearnsWalk : {E : Type 0} → (E → E → List Piece → Type 0) → Side E → Side E → Entry → Type 0
 LearnsWalk {E} gave old new e = (first : Side E) (w : World) (satp : ℕ) (a : Access) (walked : Walked) →
     Sees gave first old w → IsEntryOf w (held_in old.memory.now.pager) e → entry_in old.space satp a walked None ≡ e →
     Sees gave first new (noted (Born satp a walked None ∷ []) w)
 
--- Where an access was led, and what is so of the memory then: by the walk there was, through tables that are outside, or by
--- a translation that is known.
-pub record IsLedSo (memory : Memory) (w : World) (view : ShadowView) (va : ℕ) (kind : Kind) (cloaked : Option PageId) (led : Led) :
+-- Where an access was led, and what is true of the memory then: by the walk that there was, through tables that are
+-- outside, or by a translation that is known.
+pub record IsLedSo (memory : Memory) (w : World) (regime : Regime) (va : ℕ) (kind : Kind) (cloaked : Option PageId) (led : Led) :
     Type 0 where
-  pub by : IsLedBy w view va kind led
+  pub by : IsLedBy w regime va kind led
   pub outside : AreLedOutside (held_in memory.pager) led
-  pub live : IsLive memory view va kind cloaked led
+  pub live : IsLive memory regime va kind cloaked led
 
--- The walk that led an access to a cloaked page, where there was one, makes an entry that agrees, unless the page's frame
+-- The walk that led an access to a cloaked page, if there was one, makes an entry that agrees, unless the page's frame
 -- is one of its own tables.
-abbrev pub IsReachedBy : World → (ℕ → Option PageId) → ShadowView → ℕ → Kind → PageId → Led → Type 0
-IsReachedBy w held view va kind q led = IfSome led.walked (λ walked. let e = entry_at view va kind led.pa walked (Some q) in
+abbrev pub IsReachedBy : World → (ℕ → Option PageId) → Regime → ℕ → Kind → PageId → Led → Type 0
+IsReachedBy w held regime va kind q led = IfSome led.walked (λ walked. let e = entry_at regime va kind led.pa walked (Some q) in
     is_table e.frame e ≡ false → IsEntryOf w held e)
 
 -- An access to a cloaked page was led so, and its frame holds the page now.
-pub record IsReachedSo (memory : Memory) (w : World) (view : ShadowView) (va : ℕ) (kind : Kind) (q : PageId) (led : Led) :
+pub record IsReachedSo (memory : Memory) (w : World) (regime : Regime) (va : ℕ) (kind : Kind) (q : PageId) (led : Led) :
     Type 0 where
-  pub by : IsLedBy w view va kind led
-  pub reached : IsReachedBy w (held_in memory.pager) view va kind q led
-  pub live : IsLive memory view va kind (Some q) led
+  pub by : IsLedBy w regime va kind led
+  pub reached : IsReachedBy w (held_in memory.pager) regime va kind q led
+  pub live : IsLive memory regime va kind (Some q) led
 
 -- who translates for the questions of a cloaked program
-abbrev pub inside_view : View → SpaceId → ShadowView
-inside_view view space = Inside view.satp view.sum view.mxr space
+abbrev pub inside_regime : InsideRegime → SpaceId → Regime
+inside_regime regime space = Inside regime.satp regime.sum regime.mxr space
 
--- where an access leads of which this was found, or its fault; none where the look missed
+-- where an access leads for which this was found, or its fault; none if the look missed
 abbrev pub found_to : Kind → Found → Option (Result Led ℕ)
 found_to kind (found.Straight pa frame) = Some (Ok (record { pa = pa; walked = None; missed = false }))
 found_to kind (found.Other walked) = Some (Ok (record { pa = walked.pa; walked = Some walked; missed = false }))
@@ -133,21 +133,21 @@ IsPlaced (found.Other walked) = walked.pa < 2 ^ 32
 IsPlaced found.Fault = Unit {0}
 IsPlaced found.Missed = Unit {0}
 
--- Behind the look for an access a side stands so: the access was led there, or its walk begins.
-abbrev pub IsFoundSo : {E : Type 0} → (E → E → List Piece → Type 0) → Side E → Side E → World → ShadowView → ℕ → Kind →
+-- After the look for an access a side stands so: the access was led there, or its walk begins.
+abbrev pub IsFoundSo : {E : Type 0} → (E → E → List Piece → Type 0) → Side E → Side E → World → Regime → ℕ → Kind →
     Option PageId → Option (Result Led ℕ) → Type 0
-IsFoundSo gave first now w view va kind cloaked (Some to) =
-    FollowsFrom (Sees gave first) now (place_in to) (asked_led view va kind w)
-    × IfOk to (IsLedSo now.memory.now (asked_led view va kind w).world view va kind cloaked)
-IsFoundSo gave first now w view va kind cloaked None =
-    SeesWalking gave first now (noted (Look (satp_in view) (access_in view va kind) ∷ []) w)
+IsFoundSo gave first now w regime va kind cloaked (Some to) =
+    FollowsFrom (Sees gave first) now (place_in to) (asked_led regime va kind w)
+    × IfOk to (IsLedSo now.memory.now (asked_led regime va kind w).world regime va kind cloaked)
+IsFoundSo gave first now w regime va kind cloaked None =
+    SeesWalking gave first now (noted (Look (satp_in regime) (access_in regime va kind) ∷ []) w)
 
 -- On from a look that found this, the question for a page is answered as the definition tells.
-abbrev pub Reaches : {E : Type 0} → (E → E → List Piece → Type 0) → Side E → Side E → Answer → PageId → ShadowView →
+abbrev pub Reaches : {E : Type 0} → (E → E → List Piece → Type 0) → Side E → Side E → Answer → PageId → Regime →
     ℕ → Kind → Option (Result Led ℕ) → Type 0
-Reaches {E} gave old new given q view va kind to =
-    (first : Side E) (w : World) (s : SpaceId) → old.space ≡ Some s → view ≡ inside_view old.view s →
-    ask_inside_address va kind w ≡ asked_led view va kind w →
-    (is_clashed (asked_led view va kind w).world ≡ false → IsFoundSo gave first old w view va kind (Some q) to) →
+Reaches {E} gave old new given q regime va kind to =
+    (first : Side E) (w : World) (s : SpaceId) → old.space ≡ Some s → regime ≡ inside_regime old.regime s →
+    ask_inside_address va kind w ≡ asked_led regime va kind w →
+    (is_clashed (asked_led regime va kind w).world ≡ false → IsFoundSo gave first old w regime va kind (Some q) to) →
     is_clashed (reach_by_table q va kind w).world ≡ false →
     FollowsFrom (Sees gave first) new given (reach_by_table q va kind w)

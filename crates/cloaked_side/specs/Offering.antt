@@ -1,4 +1,4 @@
--- What making room for a page, and offering it, comes to.
+-- What making room for a page, and offering it, results in.
 use Rattle.std.specs.Prelude.{ℕ, ◌≡◌, Bool, true, false, List, [], ◌++◌}
 use Rattle.cloak_base.specs.declared.names.PageId.{PageId}
 use Rattle.cloak_model.specs.Cloaking.{CloakedMemory, AfterOffer, Offer, Ready, Mismatch, Missed, offer}
@@ -13,12 +13,12 @@ use Rattle.cloaked_side.specs.declared.memory.Offer.TheVariants as ended
 abbrev pub behind_ciphers : List (ℕ × List ℕ) → AfterOffer → AfterOffer
 behind_ciphers ciphers o = record { memory = o.memory; ciphers = ciphers ++ o.ciphers; answer = o.answer }
 
--- what remains of an offer once there is room; it has ended where a draw was missing
+-- what remains of an offer once there is room; it has ended if a draw was missing
 abbrev pub offer_left : Bool → PageId → ℕ → Bool → CloakedMemory → AfterOffer
 offer_left true q g write m = offer q g write m
 offer_left false q g write m = record { memory = m; ciphers = []; answer = Missed }
 
--- the memory behind it, what was shown on the way, and that the offer comes to what remains of it
+-- the memory after it, what was shown on the way, and that the offer results in what remains of it
 pub record Rooms {E : Type 0} (gave : E → E → List Piece → Type 0) (e e' : E) (new : Memory) (room : Bool)
     (q : PageId) (g : ℕ) (m : CloakedMemory) : Type 0 where
   pub memory : CloakedMemory

@@ -11,7 +11,7 @@ use Rattle.cloak_model.specs.Events.{Event, Look, Touch, Offer, Born, Read, Writ
 use Rattle.shadow_fold.specs.Fold.{after_events}
 use Rattle.shadow_fold.specs.Reads.{Asked, Spends, reads_due}
 use Rattle.shadow_fold.specs.Table.{Table, is_known}
-use Rattle.shadow_fold.specs.declared.entry.ShadowView.{ShadowView}
+use Rattle.shadow_fold.specs.declared.entry.Regime.{Regime}
 use Rattle.cloaked_side.specs.Tracking.{TracksBy, MapsBy, spent_in}
 use Rattle.cloaked_side.specs.Holding.{Holds, SameSize, HoldsNoMore, domains_in}
 use Rattle.cloaked_side.specs.declared.side.Side.{Side}
@@ -20,21 +20,21 @@ use Rattle.cloaked_side.specs.declared.side.Side.{Side}
 abbrev pub asked_by : Option SpaceId → Cloak → Asked
 asked_by space c = record { space = space; events = c.events; items = c.items; changed = [] }
 
--- so many more than are due
+-- this many more than are due
 abbrev pub paid : ℕ → ℕ → ℕ
 paid zero due = due
 paid (suc more) due = suc (paid more due)
 
--- From an earlier state of the side on, in which the emitter was as a step had begun, this is what memory and step have
--- come to. Which pages lie at the addresses of a space a side does not know. Of the reads of page tables that the misses
--- pay for so many are left, and so many more reads are paid for than are due.
+-- What memory and step have become since an earlier state of the side, in which the emitter was as when a step began. A
+-- side does not know which pages lie at the addresses of a space. Of the reads of page tables that the misses pay for,
+-- `left` are left, and `more` reads are paid for beyond those that are due.
 pub record SeesCounted {E : Type 0} (gave : E → E → List Piece → Type 0) (first now : Side E) (c : Cloak)
     (left more : ℕ) : Type 0 where
   pub holds : Holds now.memory.now c.memory
   pub emits : Emits gave first.emitter.now now.emitter.now (item_pieces c.items)
   pub violation : now.violation ≡ c.violation
-  pub view : now.view ≡ c.view
-  -- the memory has come to what the step's events come to
+  pub regime : now.regime ≡ c.regime
+  -- the memory has become what the step's events make of it
   pub tracks : TracksBy first.memory.now now.memory.now (after_events now.space c.events)
   pub spends : Spends left (paid more (reads_due (asked_by now.space c)))
       (spent_in first.memory.now) (spent_in now.memory.now)
@@ -48,10 +48,10 @@ Sees gave first now (Flat ram) = ⊥
 Sees gave first now (Alone handed) = ⊥
 Sees gave first now (Cloaked c) = SeesCloak gave first now c
 
--- In the middle of a walk, behind a look that missed: the two words of page tables that the miss pays for are left, and
--- one was read of each frame that was touched since.
+-- In the middle of a walk, after a look that missed: the two words of page tables that the miss pays for are left, and
+-- one word was read of each frame that was touched since.
 
--- the frames that were touched since the last look, behind so many
+-- how many frames were touched since the last look, counted on from n
 abbrev pub touched_since : ℕ → List Event → ℕ
 touched_since n [] = n
 touched_since n (Look satp a ∷ events) = touched_since 0 events
@@ -68,14 +68,14 @@ SeesWalking gave first now (Flat ram) = ⊥
 SeesWalking gave first now (Alone handed) = ⊥
 SeesWalking gave first now (Cloaked c) = SeesCounted gave first now c 2 (touched_since 0 c.events)
 
--- The same as is seen but for the fold: what memory and step have come to while the frames of a resource are emptied one
--- by one.
+-- The same as is seen, except for the fold: what memory and step have become while the frames of a resource are emptied
+-- one by one.
 
 pub record ShowsCloak {E : Type 0} (gave : E → E → List Piece → Type 0) (first now : Side E) (c : Cloak) : Type 0 where
   pub holds : Holds now.memory.now c.memory
   pub emits : Emits gave first.emitter.now now.emitter.now (item_pieces c.items)
   pub violation : now.violation ≡ c.violation
-  pub view : now.view ≡ c.view
+  pub regime : now.regime ≡ c.regime
   pub spends : Spends 0 (reads_due (asked_by now.space c)) (spent_in first.memory.now) (spent_in now.memory.now)
   pub maps : MapsBy first.memory.now now.memory.now now.space c.events
 
@@ -92,7 +92,7 @@ abbrev pub Becomes : {E : Type 0} → (E → E → List Piece → Type 0) → Si
 Becomes gave old new next = (first : _) (w : World) → Sees gave first old w → Sees gave first new (next w)
 
 -- From each world that it stood for, the answer is that of the definition, and the side stands for the world after it.
--- So it is of questions that compare no pages.
+-- So it is with questions that compare no pages.
 abbrev pub FollowsAlways :
     {E A : Type 0} → (E → E → List Piece → Type 0) → Side E → Side E → A → Asking A → Type 0
 FollowsAlways gave old new given ask =
@@ -118,30 +118,30 @@ pub record Stays {E : Type 0} (gave : E → E → List Piece → Type 0) (first 
   pub same_emitter : now.emitter.ghost_name ≡ first.emitter.ghost_name
   pub emits_some : EmitsSome gave first.emitter.now now.emitter.now
   pub size : SameSize first.memory.now now.memory.now
-  pub view : now.view ≡ first.view
+  pub regime : now.regime ≡ first.regime
   pub space : now.space ≡ first.space
   pub counting : now.memory.now.counting ≡ first.memory.now.counting
-  pub others : (k : ℕ) (q : PageId) → q.domain ≢ first.view.domain →
+  pub others : (k : ℕ) (q : PageId) → q.domain ≢ first.regime.domain →
       held_in now.memory.now.pager k ≡ Some q → held_in first.memory.now.pager k ≡ Some q
 
--- What stays of it where no page is offered: no frame holds a page at all that it did not hold.
+-- What stays of it if no page is offered: no frame holds any page that it did not hold.
 pub record StaysWithin {E : Type 0} (gave : E → E → List Piece → Type 0) (first now : Side E) : Type 0 where
   pub stays : Stays gave first now
   pub no_more : HoldsNoMore first.memory.now.pager now.memory.now.pager
 
 -- no translation is known that was not
 abbrev pub LosesOnly : Table → Table → Type 0
-LosesOnly old new = (view : ShadowView) (page : ℕ) (kind : Kind) →
-    is_known view page kind new ≡ true → is_known view page kind old ≡ true
+LosesOnly old new = (regime : Regime) (page : ℕ) (kind : Kind) →
+    is_known regime page kind new ≡ true → is_known regime page kind old ≡ true
 
 -- What stays of it in the middle of a walk: besides, no translation becomes known.
 pub record StaysWalking {E : Type 0} (gave : E → E → List Piece → Type 0) (first now : Side E) : Type 0 where
   pub within : StaysWithin gave first now
   pub loses : LosesOnly first.memory.now.shadows now.memory.now.shadows
 
--- The number of the domain that a side serves. Where the memory has no such domain, it is the number of none.
+-- The number of the domain that a side serves. If the memory has no such domain, it is the number of none.
 abbrev pub served : {E : Type 0} → Side E → ℕ
-served side = if nat_lt side.view.domain (domains_in side.memory.now) then side.view.domain else 2 ^ 32
+served side = if nat_lt side.regime.domain (domains_in side.memory.now) then side.regime.domain else 2 ^ 32
 
 -- The page can be read: the frame that was reached last holds it, and no draw is missing.
 pub record CanRead {E : Type 0} (side : Side E) (q : PageId) : Type 0 where
@@ -162,8 +162,8 @@ pub record CanWrite {E : Type 0} (side : Side E) (q : PageId) : Type 0 where
 -- There is resource r, and no frame is owed a page of it.
 pub record IsCleared {E : Type 0} (side : Side E) (r : ℕ) : Type 0 where
   pub resource : r < 16
-  pub none_owed : IsNoneOwed side.memory.now.pager side.view.domain r
+  pub none_owed : IsNoneOwed side.memory.now.pager side.regime.domain r
 
 -- no frame holds a page of resource n
 abbrev pub IsUnused : {E : Type 0} → Side E → ℕ → Type 0
-IsUnused side n = IsNoneHeld side.memory.now.pager side.view.domain n
+IsUnused side n = IsNoneHeld side.memory.now.pager side.regime.domain n

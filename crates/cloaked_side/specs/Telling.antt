@@ -12,7 +12,7 @@ HoldsWorld memory (Flat ram) = ⊥
 HoldsWorld memory (Alone handed) = ⊥
 HoldsWorld memory (Cloaked c) = Holds memory c.memory
 
--- What was told has come about: what it answers, the items, and the memory.
+-- What was told has come about: the answer, the items, and the memory.
 pub record TellsSide {E A : Type 0} (gave : E → E → List Piece → Type 0) (e e' : E) (memory : Memory) (given : A)
     (told : Told A) :
     Type 0 where

@@ -16,7 +16,7 @@ use Rattle.shadow_fold.specs.Reads.{Asked, Spent, Spends, events_in, reads_due}
 use Rattle.shadow_fold.specs.Table.{Table}
 use Rattle.cloaked_side.specs.declared.memory.Memory.{Memory}
 
--- Each frame holds the page that it holds in the fold. Where accesses are counted, the translations and the counts are
+-- Each frame holds the page that it holds in the fold. If accesses are counted, the translations and the counts are
 -- those of the fold too.
 pub record Keeps (counting : Bool) (table : Table) (held : ℕ → Option PageId) (s : Fold) : Type 0 where
   pub pages : (f : ℕ) → held f ≡ s.held f
@@ -38,7 +38,7 @@ room_made q g m s =
 abbrev pub touched_if : Bool → ℕ → Fold → Fold
 touched_if b f s = if b then touched (frame f) s else s
 
--- What calls on a memory did beside.
+-- What else calls on a memory did.
 
 -- how often its frames were read, and how many of its looks missed
 abbrev pub spent_in : Memory → Spent
@@ -48,12 +48,12 @@ spent_in memory = record { reads = memory.pager.reads; misses = memory.shadows.c
 abbrev pub AreMapped : (SpaceId → ℕ → Option PageId) → Memory → Type 0
 AreMapped mapped memory = All (IsMapped mapped) memory.shadows.live
 
--- Entries come about by events alone: they lie where their spaces have them, where those that events make do.
+-- Entries come about by events alone: they lie where their spaces have them, if those that events make do.
 abbrev pub MapsBy : Memory → Memory → Option SpaceId → List Event → Type 0
 MapsBy old new space events = (mapped : SpaceId → ℕ → Option PageId) →
     MakeAll (IsMapped mapped) space events → AreMapped mapped old → AreMapped mapped new
 
--- so where no entry comes about
+-- so if no entry comes about
 abbrev pub MapsStill : Memory → Memory → Type 0
 MapsStill old new = (mapped : SpaceId → ℕ → Option PageId) → AreMapped mapped old → AreMapped mapped new
 

@@ -4,7 +4,7 @@ ghost use Rattle.cloak_model.specs.Ask as ask;
 
 use crate::side::Side;
 use cloak_model::{Access, Emit};
-use multi_shadow::ShadowView;
+use multi_shadow::Regime;
 
 /// The word to which an access was led that is not cloaked.
 #[derive(Clone, Copy)]
@@ -33,7 +33,7 @@ impl<'m, 'e, E: Emit> Side<'m, 'e, E> {
     ghost use Rattle.cloaked_side.specs.Holding.{frames_of};
     ghost use Rattle.cloaked_side.specs.Seeing.{Sees, FollowsAlways, StaysWithin};
 
-    /// The word where an access of the kernel leads, or the cause of its fault. Its frame is settled then.
+    /// The word to which an access of the kernel leads, or the cause of its fault. Its frame is settled then.
     pub(crate) fn led_word(&mut self, satp: u32, access: Access) -> Result<LedWord, u32>
         requires aligned { access.va % 4 ≡ 0 }
         ensures follows { (first : _) (w : World) → Sees E.gave first self.old w → self.old.space ≡ None →
@@ -45,16 +45,16 @@ impl<'m, 'e, E: Emit> Side<'m, 'e, E> {
         ensures outside { IfOk result (λ led. held_in self.new.memory.now.pager (frame_of led.pa) ≡ None) }
         ensures aligned { IfOk result (λ led. led.pa % 4 ≡ 0) }
     {
-        let view = ShadowView::Outside {
+        let regime = Regime::Outside {
             satp,
             mode: access.mode,
             sum: access.sum,
             mxr: access.mxr,
         };
-        match self.led(&view, access.va, access.kind, None) {
+        match self.led(&regime, access.va, access.kind, None) {
             Err(cause) => Err(cause),
             Ok(led) => {
-                self.settle_led(&view, access.va, access.kind, &led);
+                self.settle_led(&regime, access.va, access.kind, &led);
                 let word = self.read_settled(led.pa, 4);
                 Ok(LedWord { pa: led.pa, word })
             }

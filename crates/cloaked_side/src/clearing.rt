@@ -46,7 +46,7 @@ impl<'m, 'e, E: Emit> Side<'m, 'e, E> {
     ghost use Rattle.cloaked_side.specs.Tracking.{Tracks, TracksBy, touched_if};
     ghost use Rattle.shadow_fold.specs.Fold.{Fold, touched_where};
 
-    /// Settles a frame where it is owed a page of one of the marked resources.
+    /// Settles a frame if it is owed a page of one of the marked resources.
     pub(crate) fn clear_frame(&mut self, domain: u32, resources: &[bool; 16], f: Frame)
         requires { f.0 < frames_of self.old.memory.now }
         ensures sees { Becomes E.gave self.old self.new (settled_if_marked domain resources.now f.0) }
@@ -77,7 +77,7 @@ impl<'m, 'e, E: Emit> Side<'m, 'e, E> {
         self.answer(Answer::Ok)
     }
 
-    /// Brings a frame outside where it holds a page of a resource of which none is owed. The frame shows what was last
+    /// Brings a frame outside if it holds a page of a resource of which none is owed. The frame shows what was last
     /// shown of the page, without a draw and without an item.
     fn empty_frame(&mut self, domain: u32, resource: u32, f: Frame)
         requires inside { f.0 < frames_of self.old.memory.now }

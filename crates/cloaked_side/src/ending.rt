@@ -15,13 +15,13 @@ use crate::kept_items::KeptItems;
 use crate::memory::Memory;
 use crate::side::Side;
 use cloak_base::Frame;
-use cloak_model::{Emit, View};
+use cloak_model::{Emit, InsideRegime};
 
 impl<'m, 'e, E: Emit> Side<'m, 'e, E> {
     ghost use Rattle.cloak_model.specs.Asking.{Keeps};
     ghost use Rattle.cloaked_side.specs.Seeing.{Becomes, FollowsAlways, StaysWithin};
 
-    /// Settles the frames that are owed pages of a domain, by rising number, also after a missing draw.
+    /// Settles the frames that are owed pages of a domain, by rising number, even after a missing draw.
     fn settle_owed(&mut self, domain: u32)
         ensures sees { Becomes E.gave self.old self.new (settled_for domain 0 (frames_of self.old.memory.now)) }
         ensures keeps { Keeps (StaysWithin E.gave) self.old self.new }
@@ -61,7 +61,7 @@ impl<'m, 'e, E: Emit> Side<'m, 'e, E> {
     }
 }
 
-/// Ends a domain's pages: frames that are owed one of them are settled by rising number, also after a missing draw;
+/// Ends a domain's pages: frames that are owed one of them are settled by rising number, even after a missing draw;
 /// then the pages of each resource are dropped, and the frames that held one show what was last shown.
 pub fn end_pages<E: Emit>(memory: &mut Memory, items: &mut KeptItems, domain: u8, e: &mut E)
     requires there { domain < domains_in memory.old }
@@ -77,7 +77,7 @@ pub fn end_pages<E: Emit>(memory: &mut Memory, items: &mut KeptItems, domain: u8
         GoesBy memory.old memory.new
         (record { space = None; events = events_of w; items = items_of w; changed = [] }) }
 {
-    let view = View {
+    let regime = InsideRegime {
         satp: 0,
         sum: false,
         mxr: false,
@@ -88,7 +88,7 @@ pub fn end_pages<E: Emit>(memory: &mut Memory, items: &mut KeptItems, domain: u8
         emitter: e,
         items,
         violation: None,
-        view,
+        regime,
         space: None,
         reached: Frame(0),
     };

@@ -3,8 +3,9 @@ ghost use Rattle.std.specs.Prelude.{◌≡◌};
 
 use cloak_model::Item;
 
-/// An item that is written again and again, always of one kind. It is kept, since an item has room for a page, and to build
-/// one clears it. `Ok` and `Word` are not kept: what writes them is inlined where they are made, so they are never built.
+/// An item that is written again and again, always of one kind. It is kept, since an item has room for a page, and
+/// building one clears it. `Ok` and `Word` are not kept: what writes them is inlined where they are made, so they are
+/// never built.
 #[derive(Drop)]
 pub struct KeptItems {
     pub(crate) put: Item,

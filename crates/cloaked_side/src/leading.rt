@@ -5,7 +5,7 @@ ghost use Rattle.shadow_fold.specs.Agreement.{satp_in, access_in};
 use crate::side::Side;
 use cloak_base::{Frame, Kind, Mode, PageId, RAM_START, SpaceId, frame_of};
 use cloak_model::{Access, Emit, Walked, access_fault, has_bit};
-use multi_shadow::{Entry, ShadowView, is_table};
+use multi_shadow::{Entry, Regime, is_table};
 use sv32_walk::walk;
 
 /// Where an access leads.
@@ -13,8 +13,8 @@ use sv32_walk::walk;
 pub(crate) struct Led {
     /// The address in RAM.
     pub pa: u32,
-    /// The walk that led there through outside tables, where this access is to make its translation known: none was known and
-    /// paging is on, or the one that was known is of another page.
+    /// The walk that led there through outside tables, if this access must make its translation known: none was known
+    /// and paging is on, or the one that was known is of another page.
     pub walked: Option<Walked>,
     /// The look missed, so that no translation is known.
     pub missed: bool,
@@ -23,10 +23,10 @@ pub(crate) struct Led {
 /// What a look for an access finds.
 #[derive(Clone, Copy)]
 pub(crate) enum Found {
-    /// The address in RAM to which it leads, with its frame: by a translation of its page, or of none where it is not
+    /// The address in RAM to which it leads, with its frame: by a translation of its page, or of none if it is not
     /// cloaked, or without paging.
     Straight { pa: u32, frame: Frame },
-    /// The walk of a translation of another page, or of none where it is cloaked, which leads to an address in RAM.
+    /// The walk of a translation of another page, or of none if it is cloaked, which leads to an address in RAM.
     Other(Walked),
     /// It leads to no address in RAM.
     Fault,
@@ -34,27 +34,27 @@ pub(crate) enum Found {
     Missed,
 }
 
-fn satp_of(view: &ShadowView) -> u32
-    ensures { result ≡ satp_in view.now }
+fn satp_of(regime: &Regime) -> u32
+    ensures { result ≡ satp_in regime.now }
 {
-    match *view {
-        ShadowView::Outside { satp, .. } => satp,
-        ShadowView::Inside { satp, .. } => satp,
+    match *regime {
+        Regime::Outside { satp, .. } => satp,
+        Regime::Inside { satp, .. } => satp,
     }
 }
 
-fn access_of(view: &ShadowView, va: u32, kind: Kind) -> Access
-    ensures { result ≡ access_in view.now va kind }
+fn access_of(regime: &Regime, va: u32, kind: Kind) -> Access
+    ensures { result ≡ access_in regime.now va kind }
 {
-    match *view {
-        ShadowView::Outside { mode, sum, mxr, .. } => Access {
+    match *regime {
+        Regime::Outside { mode, sum, mxr, .. } => Access {
             mode,
             sum,
             mxr,
             va,
             kind,
         },
-        ShadowView::Inside { sum, mxr, .. } => Access {
+        Regime::Inside { sum, mxr, .. } => Access {
             mode: Mode::U,
             sum,
             mxr,
@@ -66,7 +66,7 @@ fn access_of(view: &ShadowView, va: u32, kind: Kind) -> Access
 
 /// The entry of a walk.
 fn entry_of(
-    view: &ShadowView,
+    regime: &Regime,
     va: u32,
     kind: Kind,
     frame: Frame,
@@ -74,7 +74,7 @@ fn entry_of(
     cloaked: Option<PageId>,
 ) -> Entry
     ensures { result ≡ record {
-      view = view.now;
+      regime = regime.now;
       page = va / 4096;
       kind = kind;
       frame = frame;
@@ -84,7 +84,7 @@ fn entry_of(
     } }
 {
     Entry {
-        view: *view,
+        regime: *regime,
         page: va / 4096,
         kind,
         frame,
@@ -94,7 +94,8 @@ fn entry_of(
     }
 }
 
-/// Where an entry of another page leads, with its walk. Apart, so that no walk is made room for where there is none.
+/// Where an entry of another page leads, with its walk. Kept out of line, so that no room is made for a walk when there
+/// is none.
 #[cold]
 #[inline(never)]
 pub(crate) fn handed_on(pa: u64, pt1: Option<Frame>, pt0: Option<Frame>) -> Led
@@ -122,28 +123,28 @@ impl<'m, 'e, E: Emit> Side<'m, 'e, E> {
     ghost use Rattle.cloak_pager.specs.State.{held_in};
     ghost use Rattle.cloaked_side.specs.Holding.{frames_of};
     ghost use Rattle.cloaked_side.specs.Leading.{place_in, found_to, IsFoundSo, IsPlaced, IsLedSo, IsEntryOf};
-    ghost use Rattle.cloaked_side.specs.Leading.{IsReachedSo, IsUnknownIfMissed, IsViewIn, LearnsWalk, asked_led};
+    ghost use Rattle.cloaked_side.specs.Leading.{IsReachedSo, IsUnknownIfMissed, IsRegimeIn, LearnsWalk, asked_led};
     ghost use Rattle.cloaked_side.specs.Seeing.{Sees, SeesWalking, StaysWithin};
     ghost use Rattle.shadow_fold.specs.Fold.{entry_in, is_own_table};
     ghost use Rattle.shadow_fold.specs.Table.{is_known};
 
     /// No translation is looked for: without paging an access leads to its own address, unless accesses are counted.
     #[inline(always)]
-    fn is_bare(&self, view: &ShadowView) -> bool
-        ensures bare { IsTrue result → has_paging (satp_in view.now) ≡ false }
+    fn is_bare(&self, regime: &Regime) -> bool
+        ensures bare { IsTrue result → has_paging (satp_in regime.now) ≡ false }
         ensures uncounted { IsTrue result → self.now.memory.now.counting ≡ false }
     {
-        !self.memory.counting && !has_bit(satp_of(view), 31)
+        !self.memory.counting && !has_bit(satp_of(regime), 31)
     }
 
-    /// What is found of an access without paging, where accesses are not counted.
+    /// What is found for an access without paging, if accesses are not counted.
     #[inline(always)]
-    fn look_bare(&mut self, view: &ShadowView, va: u32, kind: Kind) -> Found
-        requires bare { has_paging (satp_in view.now) ≡ false }
+    fn look_bare(&mut self, regime: &Regime, va: u32, kind: Kind) -> Found
+        requires bare { has_paging (satp_in regime.now) ≡ false }
         requires uncounted { self.old.memory.now.counting ≡ false }
         ensures found { (first : _) (w : World) (cloaked : Option AnyPage) → Sees E.gave first self.old w →
-            IsViewIn self.old.space view.now →
-            IsFoundSo E.gave first self.new w view.now va kind cloaked (found_to kind result) }
+            IsRegimeIn self.old.space regime.now →
+            IsFoundSo E.gave first self.new w regime.now va kind cloaked (found_to kind result) }
         ensures same { self.new ≡ self.old }
         ensures known { result ≢ Found.Missed }
         ensures placed { IsPlaced result }
@@ -163,11 +164,11 @@ impl<'m, 'e, E: Emit> Side<'m, 'e, E> {
 
     /// What is found of an access that is of this page, or not cloaked, among the translations that are known.
     #[inline(always)]
-    fn look_up(&mut self, view: &ShadowView, va: u32, kind: Kind, cloaked: Option<PageId>) -> Found
-        ensures found { (first : _) (w : World) → Sees E.gave first self.old w → IsViewIn self.old.space view.now →
-            IsFoundSo E.gave first self.new w view.now va kind cloaked (found_to kind result) }
+    fn look_up(&mut self, regime: &Regime, va: u32, kind: Kind, cloaked: Option<PageId>) -> Found
+        ensures found { (first : _) (w : World) → Sees E.gave first self.old w → IsRegimeIn self.old.space regime.now →
+            IsFoundSo E.gave first self.new w regime.now va kind cloaked (found_to kind result) }
         ensures unknown { result ≡ Found.Missed →
-            is_known view.now (va / 4096) kind self.new.memory.now.shadows ≡ false }
+            is_known regime.now (va / 4096) kind self.new.memory.now.shadows ≡ false }
         ensures placed { IsPlaced result }
         ensures keeps { Keeps (StaysWithin E.gave) self.old self.new }
         ensures inside { IfSome (found_to kind result) (λ to. IfOk to (λ led.
@@ -175,7 +176,7 @@ impl<'m, 'e, E: Emit> Side<'m, 'e, E> {
         ensures offset { IfSome (found_to kind result) (λ to. IfOk to (λ led. led.pa % 4096 ≡ va % 4096)) }
         ensures same_count { frames_of self.new.memory.now ≡ frames_of self.old.memory.now }
     {
-        let Some(e) = self.memory.shadows.find(view, va / 4096, kind) else {
+        let Some(e) = self.memory.shadows.find(regime, va / 4096, kind) else {
             return Found::Missed;
         };
         let pa = RAM_START as u64 + 4096 * e.frame.0 as u64 + (va % 4096) as u64;
@@ -199,15 +200,15 @@ impl<'m, 'e, E: Emit> Side<'m, 'e, E> {
     #[inline(always)]
     pub(crate) fn look(
         &mut self,
-        view: &ShadowView,
+        regime: &Regime,
         va: u32,
         kind: Kind,
         cloaked: Option<PageId>,
     ) -> Found
-        ensures found { (first : _) (w : World) → Sees E.gave first self.old w → IsViewIn self.old.space view.now →
-            IsFoundSo E.gave first self.new w view.now va kind cloaked (found_to kind result) }
+        ensures found { (first : _) (w : World) → Sees E.gave first self.old w → IsRegimeIn self.old.space regime.now →
+            IsFoundSo E.gave first self.new w regime.now va kind cloaked (found_to kind result) }
         ensures unknown { result ≡ Found.Missed →
-            is_known view.now (va / 4096) kind self.new.memory.now.shadows ≡ false }
+            is_known regime.now (va / 4096) kind self.new.memory.now.shadows ≡ false }
         ensures placed { IsPlaced result }
         ensures keeps { Keeps (StaysWithin E.gave) self.old self.new }
         ensures inside { IfSome (found_to kind result) (λ to. IfOk to (λ led.
@@ -215,34 +216,34 @@ impl<'m, 'e, E: Emit> Side<'m, 'e, E> {
         ensures offset { IfSome (found_to kind result) (λ to. IfOk to (λ led. led.pa % 4096 ≡ va % 4096)) }
         ensures same_count { frames_of self.new.memory.now ≡ frames_of self.old.memory.now }
     {
-        if self.is_bare(view) {
-            return self.look_bare(view, va, kind);
+        if self.is_bare(regime) {
+            return self.look_bare(regime, va, kind);
         }
-        self.look_up(view, va, kind, cloaked)
+        self.look_up(regime, va, kind, cloaked)
     }
 
-    /// Where an access leads by a walk, or the cause of its fault, behind a look that missed. The walk reads at most the two
-    /// words of page tables that the miss pays for.
+    /// Where an access leads by a walk, or the cause of its fault, after a look that missed. The walk reads at most the
+    /// two words of page tables that the miss pays for.
     #[inline(never)]
     #[tactic(auto, using(cloak_model::proofs::Later::laters), unfolding(cloak_model::specs::Ask::ask_translate, cloak_model::specs::Ask::ask_inside))]
-    pub(crate) fn led_by_walk(&mut self, view: &ShadowView, va: u32, kind: Kind) -> Result<Led, u32>
-        requires unknown { is_known view.now (va / 4096) kind self.old.memory.now.shadows ≡ false }
+    pub(crate) fn led_by_walk(&mut self, regime: &Regime, va: u32, kind: Kind) -> Result<Led, u32>
+        requires unknown { is_known regime.now (va / 4096) kind self.old.memory.now.shadows ≡ false }
         ensures follows { (first : _) (w : World) →
-            SeesWalking E.gave first self.old (noted (Look (satp_in view.now) (access_in view.now va kind) ∷ []) w) →
-            is_clashed (asked_led view.now va kind w).world ≡ false →
-            FollowsFrom (Sees E.gave first) self.new (place_in result) (asked_led view.now va kind w) }
+            SeesWalking E.gave first self.old (noted (Look (satp_in regime.now) (access_in regime.now va kind) ∷ []) w) →
+            is_clashed (asked_led regime.now va kind w).world ≡ false →
+            FollowsFrom (Sees E.gave first) self.new (place_in result) (asked_led regime.now va kind w) }
         ensures keeps { Keeps (StaysWithin E.gave) self.old self.new }
         ensures inside { IfOk result (λ led. IsTrue (is_in_frames (frames_of self.old.memory.now) led.pa)) }
         ensures offset { IfOk result (λ led. led.pa % 4096 ≡ va % 4096) }
         ensures same_count { frames_of self.new.memory.now ≡ frames_of self.old.memory.now }
-        ensures unknown { is_known view.now (va / 4096) kind self.new.memory.now.shadows ≡ false }
+        ensures unknown { is_known regime.now (va / 4096) kind self.new.memory.now.shadows ≡ false }
         ensures leads { IfOk result (λ led. (first : _) (w : World) (cloaked : Option AnyPage) →
-            SeesWalking E.gave first self.old (noted (Look (satp_in view.now) (access_in view.now va kind) ∷ []) w) →
-            let told = asked_led view.now va kind w in is_clashed told.world ≡ false →
-            IsLedSo self.new.memory.now told.world view.now va kind cloaked led) }
+            SeesWalking E.gave first self.old (noted (Look (satp_in regime.now) (access_in regime.now va kind) ∷ []) w) →
+            let told = asked_led regime.now va kind w in is_clashed told.world ≡ false →
+            IsLedSo self.new.memory.now told.world regime.now va kind cloaked led) }
     {
-        let a = access_of(view, va, kind);
-        let walked = walk(satp_of(view), a.mode, a.sum, a.mxr, a.va, a.kind, self)?;
+        let a = access_of(regime, va, kind);
+        let walked = walk(satp_of(regime), a.mode, a.sum, a.mxr, a.va, a.kind, self)?;
         if !self.memory.is_inside(walked.pa) {
             return Err(access_fault(kind));
         }
@@ -253,28 +254,28 @@ impl<'m, 'e, E: Emit> Side<'m, 'e, E> {
         })
     }
 
-    /// Where an access leads of which this was found, or the cause of its fault.
+    /// Where an access leads for which this was found, or the cause of its fault.
     #[inline(always)]
-    fn led_from(&mut self, view: &ShadowView, va: u32, kind: Kind, found: Found) -> Result<Led, u32>
+    fn led_from(&mut self, regime: &Regime, va: u32, kind: Kind, found: Found) -> Result<Led, u32>
         requires unknown { found ≡ Found.Missed →
-            is_known view.now (va / 4096) kind self.old.memory.now.shadows ≡ false }
+            is_known regime.now (va / 4096) kind self.old.memory.now.shadows ≡ false }
         requires placed { IsPlaced found }
         requires inside { IfSome (found_to kind found) (λ to. IfOk to (λ led.
             IsTrue (is_in_frames (frames_of self.old.memory.now) led.pa))) }
         requires offset { IfSome (found_to kind found) (λ to. IfOk to (λ led. led.pa % 4096 ≡ va % 4096)) }
         ensures follows { (first : _) (w : World) (cloaked : Option AnyPage) →
-            IsFoundSo E.gave first self.old w view.now va kind cloaked (found_to kind found) →
-            is_clashed (asked_led view.now va kind w).world ≡ false →
-            FollowsFrom (Sees E.gave first) self.new (place_in result) (asked_led view.now va kind w) }
+            IsFoundSo E.gave first self.old w regime.now va kind cloaked (found_to kind found) →
+            is_clashed (asked_led regime.now va kind w).world ≡ false →
+            FollowsFrom (Sees E.gave first) self.new (place_in result) (asked_led regime.now va kind w) }
         ensures keeps { Keeps (StaysWithin E.gave) self.old self.new }
         ensures inside { IfOk result (λ led. IsTrue (is_in_frames (frames_of self.old.memory.now) led.pa)) }
         ensures offset { IfOk result (λ led. led.pa % 4096 ≡ va % 4096) }
         ensures same_count { frames_of self.new.memory.now ≡ frames_of self.old.memory.now }
-        ensures missed { IfOk result (λ led. IsUnknownIfMissed self.new.memory.now view.now va kind led.missed) }
+        ensures missed { IfOk result (λ led. IsUnknownIfMissed self.new.memory.now regime.now va kind led.missed) }
         ensures leads { IfOk result (λ led. (first : _) (w : World) (cloaked : Option AnyPage) →
-            IsFoundSo E.gave first self.old w view.now va kind cloaked (found_to kind found) →
-            let told = asked_led view.now va kind w in is_clashed told.world ≡ false →
-            IsLedSo self.new.memory.now told.world view.now va kind cloaked led) }
+            IsFoundSo E.gave first self.old w regime.now va kind cloaked (found_to kind found) →
+            let told = asked_led regime.now va kind w in is_clashed told.world ≡ false →
+            IsLedSo self.new.memory.now told.world regime.now va kind cloaked led) }
     {
         match found {
             Found::Straight { pa, .. } => Ok(Led {
@@ -284,38 +285,38 @@ impl<'m, 'e, E: Emit> Side<'m, 'e, E> {
             }),
             Found::Other(walked) => Ok(handed_on(walked.pa, walked.pt1, walked.pt0)),
             Found::Fault => Err(access_fault(kind)),
-            Found::Missed => self.led_by_walk(view, va, kind),
+            Found::Missed => self.led_by_walk(regime, va, kind),
         }
     }
 
-    /// Where an access leads that is of this page, or not cloaked, or the cause of its fault. There is a way with paging and
-    /// one without, in place of one behind a `look`, so that each stays short.
+    /// Where an access that is of this page, or not cloaked, leads, or the cause of its fault. There is a way with
+    /// paging and one without, instead of one after a `look`, so that each stays short.
     #[inline(always)]
     pub(crate) fn led(
         &mut self,
-        view: &ShadowView,
+        regime: &Regime,
         va: u32,
         kind: Kind,
         cloaked: Option<PageId>,
     ) -> Result<Led, u32>
-        ensures follows { (first : _) (w : World) → Sees E.gave first self.old w → IsViewIn self.old.space view.now →
-            is_clashed (asked_led view.now va kind w).world ≡ false →
-            FollowsFrom (Sees E.gave first) self.new (place_in result) (asked_led view.now va kind w) }
+        ensures follows { (first : _) (w : World) → Sees E.gave first self.old w → IsRegimeIn self.old.space regime.now →
+            is_clashed (asked_led regime.now va kind w).world ≡ false →
+            FollowsFrom (Sees E.gave first) self.new (place_in result) (asked_led regime.now va kind w) }
         ensures keeps { Keeps (StaysWithin E.gave) self.old self.new }
         ensures inside { IfOk result (λ led. IsTrue (is_in_frames (frames_of self.old.memory.now) led.pa)) }
         ensures offset { IfOk result (λ led. led.pa % 4096 ≡ va % 4096) }
         ensures same_count { frames_of self.new.memory.now ≡ frames_of self.old.memory.now }
-        ensures missed { IfOk result (λ led. IsUnknownIfMissed self.new.memory.now view.now va kind led.missed) }
+        ensures missed { IfOk result (λ led. IsUnknownIfMissed self.new.memory.now regime.now va kind led.missed) }
         ensures leads { IfOk result (λ led. (first : _) (w : World) → Sees E.gave first self.old w →
-            IsViewIn self.old.space view.now → let told = asked_led view.now va kind w in is_clashed told.world ≡ false →
-            IsLedSo self.new.memory.now told.world view.now va kind cloaked led) }
+            IsRegimeIn self.old.space regime.now → let told = asked_led regime.now va kind w in is_clashed told.world ≡ false →
+            IsLedSo self.new.memory.now told.world regime.now va kind cloaked led) }
     {
-        if self.is_bare(view) {
-            let found = self.look_bare(view, va, kind);
-            return self.led_from(view, va, kind, found);
+        if self.is_bare(regime) {
+            let found = self.look_bare(regime, va, kind);
+            return self.led_from(regime, va, kind, found);
         }
-        let found = self.look_up(view, va, kind, cloaked);
-        self.led_from(view, va, kind, found)
+        let found = self.look_up(regime, va, kind, cloaked);
+        self.led_from(regime, va, kind, found)
     }
 
     /// Makes a translation known.
@@ -332,10 +333,10 @@ impl<'m, 'e, E: Emit> Side<'m, 'e, E> {
         self.memory.shadows.learn(e);
     }
 
-    /// Makes a translation known of which a look has missed.
+    /// Makes known a translation that a look has missed.
     #[inline(always)]
     fn learn_missed(&mut self, e: Entry)
-        requires unknown { is_known e.view e.page e.kind self.old.memory.now.shadows ≡ false }
+        requires unknown { is_known e.regime e.page e.kind self.old.memory.now.shadows ≡ false }
         ensures sees { (first : _) (w : World) (satp : ℕ) (a : AnyAccess) (walked : AnyWalk) (cloaked : Option AnyPage) →
             Sees E.gave first self.old w → IsEntryOf w (held_in self.old.memory.now.pager) e →
             entry_in self.old.space satp a walked cloaked ≡ e → is_own_table e ≡ false →
@@ -349,12 +350,12 @@ impl<'m, 'e, E: Emit> Side<'m, 'e, E> {
 
     /// Settles the frame to which an access was led that is not cloaked. Its translation is known then.
     #[inline(always)]
-    pub(crate) fn settle_led(&mut self, view: &ShadowView, va: u32, kind: Kind, led: &Led)
+    pub(crate) fn settle_led(&mut self, regime: &Regime, va: u32, kind: Kind, led: &Led)
         requires inside { IsTrue (is_in_frames (frames_of self.old.memory.now) led.now.pa) }
-        requires missed { IsUnknownIfMissed self.old.memory.now view.now va kind led.now.missed }
-        ensures sees { (first : _) (w : World) → Sees E.gave first self.old w → IsViewIn self.old.space view.now →
-            IsLedSo self.old.memory.now w view.now va kind None led.now →
-            Sees E.gave first self.new (opened (satp_in view.now) (access_in view.now va kind) led.now.pa w) }
+        requires missed { IsUnknownIfMissed self.old.memory.now regime.now va kind led.now.missed }
+        ensures sees { (first : _) (w : World) → Sees E.gave first self.old w → IsRegimeIn self.old.space regime.now →
+            IsLedSo self.old.memory.now w regime.now va kind None led.now →
+            Sees E.gave first self.new (opened (satp_in regime.now) (access_in regime.now va kind) led.now.pa w) }
         ensures keeps { Keeps (StaysWithin E.gave) self.old self.new }
         ensures same_count { frames_of self.new.memory.now ≡ frames_of self.old.memory.now }
         ensures outside { held_in self.new.memory.now.pager (frame_of led.now.pa) ≡ None }
@@ -362,16 +363,16 @@ impl<'m, 'e, E: Emit> Side<'m, 'e, E> {
         let f = frame_of(led.pa);
         self.settle(f);
         if let Some(walked) = led.walked {
-            self.learn_walk(view, va, kind, f, walked.pt1, walked.pt0, led.missed);
+            self.learn_walk(regime, va, kind, f, walked.pt1, walked.pt0, led.missed);
         }
     }
 
-    /// Makes known the translation of a walk to a frame that is not cloaked. Where accesses are not counted, the table need not
-    /// follow the fold: nothing is learnt of what would be ended before it is found.
+    /// Makes known the translation of a walk to a frame that is not cloaked. If accesses are not counted, the table
+    /// need not follow the fold: nothing is learnt of what would be ended before it is found.
     #[inline(always)]
     fn learn_walk(
         &mut self,
-        view: &ShadowView,
+        regime: &Regime,
         va: u32,
         kind: Kind,
         f: Frame,
@@ -379,9 +380,9 @@ impl<'m, 'e, E: Emit> Side<'m, 'e, E> {
         pt0: Option<Frame>,
         missed: bool,
     )
-        requires unknown { IsUnknownIfMissed self.old.memory.now view.now va kind missed }
+        requires unknown { IsUnknownIfMissed self.old.memory.now regime.now va kind missed }
         ensures sees { LearnsWalk E.gave self.old self.new (record {
-          view = view.now;
+          regime = regime.now;
           page = va / 4096;
           kind = kind;
           frame = f;
@@ -396,14 +397,14 @@ impl<'m, 'e, E: Emit> Side<'m, 'e, E> {
         if missed && !self.memory.counting && !self.memory.shadows.is_worth_learning() {
             return;
         }
-        self.keep_walk(view, va, kind, f, pt1, pt0, missed);
+        self.keep_walk(regime, va, kind, f, pt1, pt0, missed);
     }
 
-    /// The same, whether it is worth it or not. Apart, as `learn_walked_page` is.
+    /// The same, whether it is worth it or not. Kept out of line, as `learn_walked_page` is.
     #[inline(never)]
     fn keep_walk(
         &mut self,
-        view: &ShadowView,
+        regime: &Regime,
         va: u32,
         kind: Kind,
         f: Frame,
@@ -411,9 +412,9 @@ impl<'m, 'e, E: Emit> Side<'m, 'e, E> {
         pt0: Option<Frame>,
         missed: bool,
     )
-        requires unknown { IsUnknownIfMissed self.old.memory.now view.now va kind missed }
+        requires unknown { IsUnknownIfMissed self.old.memory.now regime.now va kind missed }
         ensures sees { LearnsWalk E.gave self.old self.new (record {
-          view = view.now;
+          regime = regime.now;
           page = va / 4096;
           kind = kind;
           frame = f;
@@ -426,7 +427,7 @@ impl<'m, 'e, E: Emit> Side<'m, 'e, E> {
         ensures same_missed { self.new.memory.now.missed ≡ self.old.memory.now.missed }
     {
         let e = Entry {
-            view: *view,
+            regime: *regime,
             page: va / 4096,
             kind,
             frame: f,
@@ -444,18 +445,11 @@ impl<'m, 'e, E: Emit> Side<'m, 'e, E> {
     /// Makes known the translation that led to a cloaked page, which its frame holds now. One through its own frame is
     /// not kept.
     #[inline(always)]
-    pub(crate) fn learn_page(
-        &mut self,
-        q: PageId,
-        view: &ShadowView,
-        va: u32,
-        kind: Kind,
-        led: &Led,
-    )
+    pub(crate) fn learn_page(&mut self, q: PageId, regime: &Regime, va: u32, kind: Kind, led: &Led)
         requires inside { IsTrue (is_in_frames (frames_of self.old.memory.now) led.now.pa) }
-        ensures sees { (first : _) (w : World) → Sees E.gave first self.old w → IsViewIn self.old.space view.now →
-            IsReachedSo self.old.memory.now w view.now va kind q led.now →
-            Sees E.gave first self.new (known (satp_in view.now) (access_in view.now va kind) (Some q) w) }
+        ensures sees { (first : _) (w : World) → Sees E.gave first self.old w → IsRegimeIn self.old.space regime.now →
+            IsReachedSo self.old.memory.now w regime.now va kind q led.now →
+            Sees E.gave first self.new (known (satp_in regime.now) (access_in regime.now va kind) (Some q) w) }
         ensures keeps { Keeps (StaysWithin E.gave) self.old self.new }
         ensures same_pager { self.new.memory.now.pager ≡ self.old.memory.now.pager }
         ensures same_missed { self.new.memory.now.missed ≡ self.old.memory.now.missed }
@@ -463,26 +457,26 @@ impl<'m, 'e, E: Emit> Side<'m, 'e, E> {
         match led.walked {
             Some(_) => {
                 let led = *led;
-                self.learn_walked_page(q, view, va, kind, &led);
+                self.learn_walked_page(q, regime, va, kind, &led);
             }
             None => {}
         }
     }
 
-    /// The same. Apart, so that a hit makes no room for an entry.
+    /// The same. Kept out of line, so that a hit makes no room for an entry.
     #[inline(never)]
-    fn learn_walked_page(&mut self, q: PageId, view: &ShadowView, va: u32, kind: Kind, led: &Led)
+    fn learn_walked_page(&mut self, q: PageId, regime: &Regime, va: u32, kind: Kind, led: &Led)
         requires inside { IsTrue (is_in_frames (frames_of self.old.memory.now) led.now.pa) }
-        ensures sees { (first : _) (w : World) → Sees E.gave first self.old w → IsViewIn self.old.space view.now →
-            IsReachedSo self.old.memory.now w view.now va kind q led.now →
-            Sees E.gave first self.new (known (satp_in view.now) (access_in view.now va kind) (Some q) w) }
+        ensures sees { (first : _) (w : World) → Sees E.gave first self.old w → IsRegimeIn self.old.space regime.now →
+            IsReachedSo self.old.memory.now w regime.now va kind q led.now →
+            Sees E.gave first self.new (known (satp_in regime.now) (access_in regime.now va kind) (Some q) w) }
         ensures keeps { Keeps (StaysWithin E.gave) self.old self.new }
         ensures same_pager { self.new.memory.now.pager ≡ self.old.memory.now.pager }
         ensures same_missed { self.new.memory.now.missed ≡ self.old.memory.now.missed }
     {
         let f = frame_of(led.pa);
         if let Some(walked) = &led.walked {
-            let e = entry_of(view, va, kind, f, walked, Some(q));
+            let e = entry_of(regime, va, kind, f, walked, Some(q));
             if !is_table(f, &e) {
                 self.learn(e);
             }

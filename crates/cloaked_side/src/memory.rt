@@ -8,8 +8,8 @@ use cloak_base::{Frame, PageId, SpaceId, is_in_frames};
 use cloak_model::Emit;
 use cloak_pager::{Offered, Pager, Touched};
 use host_calls::Reservations;
+use io_traits::Stream;
 use multi_shadow::Shadows;
-use outside_io::Stream;
 
 /// How an offer ended.
 #[derive(Clone, Copy)]
@@ -36,11 +36,12 @@ pub struct Memory {
     pub reservations: Reservations,
     /// The translations that are known.
     pub shadows: Shadows,
-    /// Accesses without paging go through them too, as is due where they are counted.
+    /// Accesses without paging go through them too, as is due if accesses are counted.
     pub counting: bool,
 }
 
-/// Ends the translations that lead to a frame or through it. Apart, since few frames that are settled held a page.
+/// Ends the translations that lead to a frame or through it. Kept out of line, since few frames that are settled held a
+/// page.
 #[cold]
 #[inline(never)]
 fn end_entries(shadows: &mut Shadows, f: Frame)
@@ -121,8 +122,8 @@ impl Memory {
         }
     }
 
-    /// Settles what is to be before this page comes into this frame, which does not hold it: the frame, and the frame that
-    /// holds the page. Whether no draw was missing.
+    /// Settles what must be settled before this page comes into this frame, which does not hold it: the frame, and the
+    /// frame that holds the page. Returns whether no draw was missing.
     #[inline(never)]
     fn make_room<E: Emit>(&mut self, q: PageId, g: Frame, e: &mut E) -> bool
         requires inside { g.0 < frames_of self.old }
@@ -190,7 +191,7 @@ impl Memory {
         self.offer_anew(q, g, write, e)
     }
 
-    /// The same, whatever the frame holds. Apart, since a page that is hit is ready.
+    /// The same, whatever the frame holds. Kept out of line, since a page that is hit is ready.
     #[cold]
     #[inline(never)]
     fn offer_anew<E: Emit>(&mut self, q: PageId, g: Frame, write: bool, e: &mut E) -> Offer

@@ -15,17 +15,17 @@ use crate::kept_items::KeptItems;
 use crate::memory::Memory;
 use crate::side::Side;
 use cloak_base::Frame;
-use cloak_model::{Emit, View};
+use cloak_model::{Emit, InsideRegime};
 use host_calls::{Disk, Hart, Kernel, kernel_step};
 
 /// How a hart that runs a context of this domain sees memory.
-pub fn view_of(h: &Hart, domain: u8) -> View
+pub fn regime_of(h: &Hart, domain: u8) -> InsideRegime
     ensures satp { result.satp ≡ spec.satp_of h.now.csrs }
     ensures sum { result.sum ≡ spec.sum_of h.now.csrs }
     ensures mxr { result.mxr ≡ spec.mxr_of h.now.csrs }
     ensures domain { result.domain ≡ domain }
 {
-    View {
+    InsideRegime {
         satp: h.csrs.satp(),
         sum: h.csrs.sum(),
         mxr: h.csrs.mxr(),
@@ -33,8 +33,8 @@ pub fn view_of(h: &Hart, domain: u8) -> View
     }
 }
 
-/// Makes the plain step of a hart outside. Each frame that it reaches is settled at the access, which comes to the same
-/// as settling all that it touches ahead of the step.
+/// Makes the plain step of a hart outside. Each frame that it reaches is settled at the access, which has the same
+/// result as settling all that it touches ahead of the step.
 pub fn outside_step<E: Emit>(
     h: &mut Hart,
     d: &mut Disk,
@@ -53,13 +53,13 @@ pub fn outside_step<E: Emit>(
         let told = plain.kernel_step h.old d.old (Cloaked (cloak_outside m h.old)) in GoesBy memory.old memory.new
         (record { space = None; events = events_of told.world; items = items_of told.world; changed = [] }) }
 {
-    let view = view_of(h, 0);
+    let regime = regime_of(h, 0);
     let mut side = Side {
         memory,
         emitter: e,
         items,
         violation: None,
-        view,
+        regime,
         space: None,
         reached: Frame(0),
     };

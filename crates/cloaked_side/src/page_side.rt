@@ -9,10 +9,10 @@ impl<'m, 'e, E: Emit> Side<'m, 'e, E> {
     ghost use Rattle.cloaked_side.specs.Holding.{domains_in};
     ghost use Rattle.cloaked_side.specs.Seeing.{served};
 
-    /// What is so of a domain that is served. It does nothing.
+    /// What is true of a domain that is served. It does nothing.
     fn served_domain(&self, domain: u32)
         requires { domain ≡ served self.now }
-        ensures own { domain ≡ self.now.view.domain }
+        ensures own { domain ≡ self.now.regime.domain }
         ensures there { domain < domains_in self.now.memory.now }
     {}
 }

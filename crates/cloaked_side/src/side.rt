@@ -4,11 +4,11 @@ use crate::atomic::is_reserved;
 use crate::kept_items::KeptItems;
 use crate::memory::Memory;
 use cloak_base::{Frame, SpaceId, Violation, frame_of, place_of};
-use cloak_model::{Access, Emit, View, value_in};
+use cloak_model::{Access, Emit, InsideRegime, value_in};
 use host_calls::Ram;
-use multi_shadow::ShadowView;
+use multi_shadow::Regime;
 use rv_atomic::{AtomicOp, combine};
-use sv32_walk::Words;
+use sv32_walk::WordMemory;
 
 /// What the step of a hart reaches: memory, and the emitter of what it writes.
 #[derive(Drop)]
@@ -20,7 +20,7 @@ pub struct Side<'m, 'e, E: Emit> {
     /// What the kernel presented in place of what is recorded.
     pub violation: Option<Violation>,
     /// For the questions of a cloaked program.
-    pub view: View,
+    pub regime: InsideRegime,
     /// The space of the context that asks; none outside.
     pub space: Option<SpaceId>,
     /// The frame that was reached last for a page of the context.
@@ -59,7 +59,7 @@ impl<'m, 'e, E: Emit> Side<'m, 'e, E> {
         ensures settles { (m : CloakedMemory) → Holds self.old.memory.now m →
             Settles E.gave self.old.emitter.now self.new.emitter.now self.new.memory.now (settle f.0 m) }
         ensures violation { self.new.violation ≡ self.old.violation }
-        ensures view { self.new.view ≡ self.old.view }
+        ensures regime { self.new.regime ≡ self.old.regime }
     {
         self.memory.settle(f, self.emitter);
     }
@@ -90,7 +90,7 @@ impl<'m, 'e, E: Emit> Side<'m, 'e, E> {
         requires aligned { pa % width ≡ 0 }
         ensures told { FollowsAlways E.gave self.old self.new tt (stored_value pa width v) }
         ensures keeps { Keeps (StaysWithin E.gave) self.old self.new }
-        ensures view { self.new.view ≡ self.old.view }
+        ensures regime { self.new.regime ≡ self.old.regime }
         ensures same_count { frames_of self.new.memory.now ≡ frames_of self.old.memory.now }
     {
         let f = frame_of(pa);
@@ -102,7 +102,7 @@ impl<'m, 'e, E: Emit> Side<'m, 'e, E> {
     }
 }
 
-impl<'m, 'e, E: Emit> Words for Side<'m, 'e, E> {
+impl<'m, 'e, E: Emit> WordMemory for Side<'m, 'e, E> {
     ghost use Rattle.cloaked_side.specs.Seeing.{SeesWalking, StaysWalking};
 
     ghost stands_for = { λ first side w. SeesWalking E.gave first side w };
@@ -132,32 +132,32 @@ impl<'m, 'e, E: Emit> Ram for Side<'m, 'e, E> {
     ghost count = { λ side. frames_of side.memory.now };
 
     fn load(&mut self, satp: u32, access: Access, width: u32) -> Result<u32, u32> {
-        let view = ShadowView::Outside {
+        let regime = Regime::Outside {
             satp,
             mode: access.mode,
             sum: access.sum,
             mxr: access.mxr,
         };
-        match self.led(&view, access.va, access.kind, None) {
+        match self.led(&regime, access.va, access.kind, None) {
             Err(cause) => Err(cause),
             Ok(led) => {
-                self.settle_led(&view, access.va, access.kind, &led);
+                self.settle_led(&regime, access.va, access.kind, &led);
                 Ok(self.read_settled(led.pa, width))
             }
         }
     }
 
     fn store(&mut self, satp: u32, access: Access, width: u32, v: u32) -> Result<(), u32> {
-        let view = ShadowView::Outside {
+        let regime = Regime::Outside {
             satp,
             mode: access.mode,
             sum: access.sum,
             mxr: access.mxr,
         };
-        match self.led(&view, access.va, access.kind, None) {
+        match self.led(&regime, access.va, access.kind, None) {
             Err(cause) => Err(cause),
             Ok(led) => {
-                self.settle_led(&view, access.va, access.kind, &led);
+                self.settle_led(&regime, access.va, access.kind, &led);
                 self.write_settled(led.pa, width, v);
                 Ok(())
             }

@@ -7,7 +7,7 @@ use crate::code::code_of;
 use alone_views::DomainAlone;
 use cloak_base::{NoMemory, Start};
 use cloak_model::{Item, KernelImage, Program, Sequence};
-use outside_io::MemorySink;
+use io_traits::MemorySink;
 use std::alloc::Global;
 use std::test::*;
 

@@ -6,7 +6,7 @@ use crate::demo_text::DEMO_TEXT;
 use crate::kernel_text::KERNEL_TEXT;
 use guest_bundle::write;
 use guest_kernel::{demo_words, generate, kernel_words, put_summary};
-use outside_io::MemorySink;
+use io_traits::MemorySink;
 use std::alloc::Global;
 use std::test::*;
 

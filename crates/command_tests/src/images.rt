@@ -1,13 +1,13 @@
 //! Images of numbers, written and run.
 
 use crate::checks::same;
+use command_parts::Status;
 use image_commands::{demo_command, gen_command};
-use outside_io::{MemoryShelf, MemorySink, Shelf};
-use program_parts::Status;
+use io_traits::{MemoryShelf, MemorySink, Shelf};
 use std::alloc::Global;
 use std::test::*;
 
-/// The lines of `demo 9`. What its run comes to was computed by a program from elsewhere.
+/// The lines of `demo 9`. What its run results in was computed by a program from elsewhere.
 const LINES_OF_NINE: &str = "gen 9 harts 2 programs 3 frames 256 bytes 275292
 stop halt 0
 steps 19687
@@ -17,8 +17,8 @@ domain 1 state 66687aadf862bd776c8fc18b8e9f8e20089714856ee233b3902a591d0d5f2925 
 domain 2 state 66687aadf862bd776c8fc18b8e9f8e20089714856ee233b3902a591d0d5f2925 loads 231 17bc4d4bfc4de5da65b70528b9163522e3430e25f5dbfe2c513817469df6841c
 ";
 
-/// What `gen` answers where the shelf's and the output's calls of these numbers fail, the length of its file, and
-/// whether this line was shown.
+/// What `gen` returns if the shelf's and the output's calls of these numbers fail, the length of its file, and whether
+/// this line was shown.
 fn generated(
     alloc: Global,
     number: u64,

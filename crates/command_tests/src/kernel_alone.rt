@@ -7,7 +7,7 @@ use crate::code::code_of;
 use alone_views::{KernelAlone, Unfit};
 use cloak_base::NoMemory;
 use cloak_model::{Emit, Item, KernelImage, Segment, Sequence};
-use outside_io::MemorySink;
+use io_traits::MemorySink;
 use std::alloc::Global;
 use std::test::Fail;
 

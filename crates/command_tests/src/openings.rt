@@ -5,8 +5,8 @@ ghost use Rattle.cloak_model.specs.Bundle.{IsInGrammar, IsProgramIn};
 use crate::checks::{holds, same};
 use cloak_base::{NoMemory, Start};
 use cloak_model::{Bundle, Emit, Item, KernelImage, Program, Sequence};
+use io_traits::Stream;
 use joint_machine::{Joint, placings_of};
-use outside_io::Stream;
 use std::alloc::Global;
 use std::test::Fail;
 

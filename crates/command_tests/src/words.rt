@@ -274,7 +274,7 @@ static LINES: [(&[&str], &str); 57] = [
     (&["run", "--help"], "words"),
     (&["run", "--version"], "words"),
     (&["view", "a.b", "a.r", "--steps=10"], "words"),
-    // Randomness comes behind words and before numbers.
+    // Randomness comes after words and before numbers.
     (
         &[
             "run",

@@ -1,7 +1,7 @@
 -- The words of a command line, and what they ask for. The first word is the command's name, and the words are read
 -- by the simple command of `clap` that the command is.
 use Rattle.std.specs.Prelude.{ℕ, ◌+◌, ◌-◌, ◌*◌, nat_le, Bool, ◌&&◌, ◌||◌, List, [], ◌∷◌, length, fold, codes}
-use Rattle.std.specs.Prelude.{Option, Some, None, unwrap_or, Result, Ok, Err, if◌then◌else◌}
+use Rattle.std.specs.Prelude.{Option, Some, None, IsSome, unwrap_or, Result, Ok, Err, if◌then◌else◌}
 use Rattle.clap.specs.Words.{App, Kinds, Row, fault_of, first_of, matches_of}
 use Rattle.cloak_model.specs.Run.{most_steps}
 use Rattle.command_words.specs.declared.usage_fault.UsageFault.{UsageFault}
@@ -58,9 +58,9 @@ pub data Asked : Type 0 where
   Faulty : UsageFault → Asked
   -- the joint run of a bundle, with the name of its record, its budget of steps, and its randomness
   Run : (bundle record_name : List ℕ) → (steps : ℕ) → Randomness → Asked
-  -- what the kernel of a bundle makes of a record by itself
+  -- what the kernel of a bundle, alone, makes of a record
   View : (bundle record_name : List ℕ) → Asked
-  -- what a program of a bundle, by its number, makes of a record by itself
+  -- what a program of a bundle, by its number and alone, makes of a record
   Solo : (domain : ℕ) → (bundle record_name : List ℕ) → Asked
   -- the generated bundle of a number, written to a file
   Gen : (number : ℕ) → (bundle_name : List ℕ) → Asked
@@ -73,7 +73,7 @@ pub data Asked : Type 0 where
   -- the joint run of a bundle over the cloaked files that a store file with this counter tells of, with its budget of steps
   -- and its randomness
   Store : StoreNames → (counter steps : ℕ) → Randomness → Asked
-  -- so many steps of the joint run of a bundle, with its randomness; then its state is frozen
+  -- this many steps of the joint run of a bundle, with its randomness; then its state is frozen
   Freeze : FreezeNames → (steps : ℕ) → Randomness → Asked
   -- the rest of a run from its frozen state, with a budget of steps, and the randomness of the whole run
   Thaw : ThawNames → (steps : ℕ) → Randomness → Asked
@@ -96,7 +96,7 @@ number_up_to limit w =
 abbrev pub last_stream : ℕ
 last_stream = 18446744073709551615
 
--- the run of a bundle: with its record, where that has a name, and else for its counts
+-- the run of a bundle: with its record, if that has a name, and otherwise for its counts
 abbrev pub asked_run : (bundle : List ℕ) → (record_name : Option (List ℕ)) → (steps : ℕ) → Randomness → Asked
 asked_run bundle (Some record_name) steps randomness = Run bundle record_name steps randomness
 asked_run bundle None steps randomness = Stats bundle steps randomness
@@ -236,7 +236,7 @@ command_named w =
     if is (codes "freeze") w then Some name.Freeze else
     if is (codes "thaw") w then Some name.Thaw else None
 
--- the texts that a command finds in the words, where it refuses nothing
+-- the texts that a command finds in the words, if it refuses nothing
 abbrev pub unless_refused : Kinds → List Row → Option (List Row)
 unless_refused [] rows = Some rows
 unless_refused (kind ∷ kinds) rows = None
@@ -256,3 +256,8 @@ asked_of_command (Some command) words = asked_by command (found_in (form_of comm
 unfoldable pub words_of : List (List ℕ) → Asked
 words_of [] = Faulty NoCommand
 words_of (command ∷ words) = asked_of_command (command_named command) (command ∷ words)
+
+-- The first of the words is the name of a command. Only what a command takes is read with memory.
+abbrev pub NamesCommand : List (List ℕ) → Type 0
+NamesCommand [] = ⊥
+NamesCommand (first ∷ words) = IsSome (command_named first)

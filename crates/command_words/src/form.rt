@@ -1,4 +1,4 @@
-//! The commands as commands of `clap`, which read the words behind their names.
+//! The commands as commands of `clap`, which read the words after their names.
 ghost use Rattle.std.specs.Prelude.{◌≡◌, IfOk, codes, false};
 ghost use Rattle.clap.specs.Words.{app_of, rule_of};
 ghost use Rattle.command_words.specs.Forms as spec;

@@ -7,7 +7,7 @@ use clap::error::ErrorKind;
 use clap::{ArgMatches, Command};
 use cloak_base::NoMemory;
 
-/// What a command finds in the words, or nothing where it refuses them.
+/// What a command finds in the words, or nothing if it refuses them.
 pub fn found_in<'a>(
     command: Command<'a>,
     words: &'a [String],
@@ -27,7 +27,7 @@ pub fn found_in<'a>(
     }
 }
 
-/// The text of an option, where it was given.
+/// The text of an option, if it was given.
 pub fn given_text<'a>(matches: &ArgMatches<'a>, name: &str) -> Option<&'a str>
     ensures { option_copied result ≡ first_of name.now (rows_of (found_of matches.now)) }
 {

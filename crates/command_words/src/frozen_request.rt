@@ -15,7 +15,7 @@ pub struct FreezeFiles<'a> {
     pub vectors_name: &'a str,
 }
 
-/// A run that is frozen after so many steps. The two names that are written are different words.
+/// A run that is frozen after this many steps. The two names that are written are different words.
 #[derive(Drop)]
 pub struct FreezeRequest<'a> {
     pub files: FreezeFiles<'a>,
@@ -35,7 +35,7 @@ pub struct ThawFiles<'a> {
     pub state_name: &'a str,
 }
 
-/// A run that goes on from its frozen state for up to so many steps, with the randomness of the whole run.
+/// A run that goes on from its frozen state for up to this many steps, with the randomness of the whole run.
 #[derive(Drop)]
 pub struct ThawRequest<'a> {
     pub files: ThawFiles<'a>,

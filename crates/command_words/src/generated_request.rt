@@ -2,7 +2,7 @@
 ghost use Rattle.std.specs.Prelude.{◌≤◌};
 ghost use Rattle.cloak_model.specs.Run.{most_steps};
 
-/// A generated guest image that is to be written.
+/// A generated guest image to write.
 #[derive(Drop)]
 pub struct GenRequest<'a> {
     pub number: u64,

@@ -1,7 +1,7 @@
 //! The words of a command line: what they ask for, or the first thing that is wrong with them.
 //!
 //! `specs/Command` is this project's own rule (`docs/MACHINE.md`, "Words"), over what `clap` says of a simple command. The
-//! layer above may rely on this: `read_words` gives exactly what the words ask for, or has no memory to read them.
+//! layer above may rely on this: `read_words` returns exactly what the words ask for, or has no memory to read them.
 #![tactic(auto)]
 
 mod command_name;

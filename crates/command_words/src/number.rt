@@ -2,7 +2,7 @@
 ghost use Rattle.std.specs.Prelude.{◌≡◌};
 ghost use Rattle.command_words.specs.Command as spec;
 
-/// The value of 1 to 20 decimal digits, where it is at most `limit`.
+/// The value of 1 to 20 decimal digits, if it is at most `limit`.
 pub fn number_up_to(word: &str, limit: u64) -> Option<u64>
     ensures { result ≡ spec.number_up_to limit word.now }
 {

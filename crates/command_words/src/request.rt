@@ -1,5 +1,5 @@
 //! What the words of a command line ask for.
-ghost use Rattle.std.specs.Prelude.{◌≡◌, ◌≤◌, IfOk, map, string_bytes, option_copied};
+ghost use Rattle.std.specs.Prelude.{◌≡◌, ◌≤◌, IfOk, OnErr, map, string_bytes, option_copied};
 ghost use Rattle.std.specs.Result.{result_map_both};
 ghost use Rattle.cloak_model.specs.Run.{most_steps};
 ghost use Rattle.clap.specs.Words.{found_of, rows_of};
@@ -72,7 +72,7 @@ fn asked_run<'a>(
     }
 }
 
-/// Where a run takes its randomness. Exactly one of the two options is to be given.
+/// Where a run takes its randomness. Exactly one of the two options must be given.
 #[tactic(auto, unfolding(crate::specs::Command::given_randomness))]
 fn given_randomness<'a>(
     stream: Option<&'a str>,
@@ -207,7 +207,7 @@ fn thaw_of_texts<'a>(
     }
 }
 
-/// What the program of this number makes of a record, where it is one.
+/// What the program of this number makes of a record, if it is one.
 fn solo_of_number<'a>(domain: &str, files: RecordRequest<'a>) -> Request<'a>
     ensures { asked_of result ≡ spec.solo_of_number (spec.number_up_to spec.last_domain domain.now)
         files.entry.bundle.now files.entry.record_name.now }
@@ -221,7 +221,7 @@ fn solo_of_number<'a>(domain: &str, files: RecordRequest<'a>) -> Request<'a>
     }
 }
 
-/// The generated bundle of this number, where it is one.
+/// The generated bundle of this number, if it is one.
 fn gen_of_number<'a>(number: &str, bundle: &'a str) -> Request<'a>
     ensures { asked_of result ≡ spec.gen_of_number (spec.number_up_to spec.last_stream number.now) bundle.now }
 {
@@ -231,7 +231,7 @@ fn gen_of_number<'a>(number: &str, bundle: &'a str) -> Request<'a>
     }
 }
 
-/// The run of a generated bundle with these numbers, where they are.
+/// The run of a generated bundle with these numbers, if they are numbers.
 fn demo_of_numbers<'a>(number: &str, steps: &str) -> Request<'a>
     ensures { asked_of result ≡ spec.demo_of_numbers (spec.number_up_to spec.last_stream number.now)
         (spec.number_up_to most_steps steps.now) }
@@ -372,10 +372,11 @@ fn read_command<'a>(
     }
 }
 
-/// Reads the words.
+/// Reads the words. That can lack memory only if they name a command.
 #[tactic(auto, unfolding(crate::specs::Command::words_of))]
 pub fn read_words<'a>(alloc: Global, words: &'a [String]) -> Result<Request<'a>, NoMemory>
-    ensures { IfOk result (λ request. asked_of request ≡ spec.words_of (map string_bytes words.now)) }
+    ensures asked { IfOk result (λ request. asked_of request ≡ spec.words_of (map string_bytes words.now)) }
+    ensures memory { OnErr result (spec.NamesCommand (map string_bytes words.now)) }
 {
     let [first, ..] = words else {
         return Ok(Request::Faulty(UsageFault::NoCommand));

@@ -1,5 +1,5 @@
 //! What is asked of a guest image that is written again.
-/// A guest image that is to be written in version 2. Both names may be of one file.
+/// A guest image to write in version 2. Both names may be of one file.
 #[derive(Drop)]
 pub struct UpgradeRequest<'a> {
     pub old_name: &'a str,

@@ -1,5 +1,5 @@
 //! What is wrong with words.
-/// What is wrong with the words of a command line. Where several hold, the first of this order is meant.
+/// What is wrong with the words of a command line. If several hold, the first in this order is meant.
 #[derive(Clone, Copy, Debug, PartialEq, Eq)]
 pub enum UsageFault {
     NoCommand,

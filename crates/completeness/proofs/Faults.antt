@@ -11,9 +11,9 @@ use Rattle.cloak_model.specs.Exchange.{Piece, recorded, shown}
 use Rattle.guest_bundle.proofs.Only.{one_bundle, bundle_again}
 use Rattle.guest_bundle.proofs.Faulty.{bundle_tells}
 use Rattle.guest_bundle.proofs.Tells.{Tells}
-use Rattle.outside_io.specs.Told.{Rose}
-use Rattle.program_parts.specs.Bundles.{IsInFile}
-use Rattle.program_parts.specs.Outside.{Outside, NothingRose, Raised}
+use Rattle.io_traits.specs.Told.{Rose}
+use Rattle.command_parts.specs.Bundles.{IsInFile}
+use Rattle.command_parts.specs.Outside.{Outside, NothingRose, Raised}
 use Rattle.run_command.specs.Outlet.{FailedAt}
 
 pub never_rose : (before now : ℕ) → now ≡ before → Raised before now → ⊥

@@ -1,5 +1,5 @@
--- Of the causes of what `freeze` answers, those of faults do not come if no count rose, and what the files tell is one run
--- with its vectors.
+-- Of the causes of what `freeze` returns, those of faults do not occur if no count rose and what the files tell is one
+-- run with its vectors.
 use Rattle.std.proofs.Common.{◌≡◌, ◌⊎◌, ℕ, List, Option, Some, None, Result, Ok, Err, refl, sym, subst, inl, inr}
 use Rattle.std.specs.Prelude.{IfSome}
 use Rattle.std.specs.Result.{result_map_both}
@@ -8,19 +8,19 @@ use Rattle.cloak_model.specs.Opening.{Lack, NoKey, NoPageDraw, Opened, opening}
 use Rattle.cloak_model.specs.Run.{Run, joint_run, run_of}
 use Rattle.command_words.specs.Command as spec
 use Rattle.frozen_commands.specs.FreezeAnswering.{Freezes, FreezingBrokeOff, HasEnded, HasStopped, IfNoneClashed, IsSaved, LacksVectors}
-use Rattle.program_parts.specs.declared.refusal.Refusal.{Refusal}
-use Rattle.program_parts.specs.declared.refusal.Refusal.TheVariants as refusal
-use Rattle.program_parts.specs.declared.status.Status.{Status}
-use Rattle.program_parts.specs.declared.status.Status.TheVariants as status
-use Rattle.program_parts.specs.Freezing.{AsksFrozen, FreezeSources, IsFreezeLack}
-use Rattle.program_parts.specs.NoRun.{HasCause, IsRefused, LineFailed}
-use Rattle.program_parts.specs.Outside.{NothingRose, Outside}
-use Rattle.program_parts.specs.Refusal.{refusal_line, status_of_refusal}
+use Rattle.command_parts.specs.declared.refusal.Refusal.{Refusal}
+use Rattle.command_parts.specs.declared.refusal.Refusal.TheVariants as refusal
+use Rattle.command_parts.specs.declared.status.Status.{Status}
+use Rattle.command_parts.specs.declared.status.Status.TheVariants as status
+use Rattle.command_parts.specs.Freezing.{AsksFrozen, FreezeSources, IsFreezeLack}
+use Rattle.command_parts.specs.NoRun.{HasCause, IsRefused, LineFailed}
+use Rattle.command_parts.specs.Outside.{NothingRose, Outside}
+use Rattle.command_parts.specs.Refusal.{refusal_line, status_of_refusal}
 use Rattle.completeness.specs.Asked.{OnlyLine, WantsMemory}
 use Rattle.completeness.specs.Freezes.{AreToldFrozen, ComesToFrozen, EndsFrozen, FreezesAreComplete}
 use Rattle.completeness.specs.Runs.{Lacks}
 use Rattle.completeness.proofs.Faults.{never_failed, never_rose, no_fault}
-use Rattle.completeness.proofs.Openings.{same_stream}
+use Rattle.command_parts.proofs.StreamFacts.{same_stream}
 use Rattle.completeness.proofs.Sources.{one_image}
 
 -- The words.

@@ -1,8 +1,8 @@
--- Of the causes of what `gen` and `demo` answer, those of faults do not come where no count rose.
+-- Of the causes of what `gen` and `demo` return, those of faults do not occur if no count rose.
 use Rattle.std.proofs.Common.{◌⊎◌, ℕ, refl, ap, inl, inr}
-use Rattle.program_parts.specs.declared.status.Status.{Status}
-use Rattle.program_parts.specs.declared.status.Status.TheVariants as status
-use Rattle.program_parts.specs.Outside.{FilesOutside, Output}
+use Rattle.command_parts.specs.declared.status.Status.{Status}
+use Rattle.command_parts.specs.declared.status.Status.TheVariants as status
+use Rattle.command_parts.specs.Outside.{FilesOutside, Output}
 use Rattle.image_commands.specs.Demonstrating.{HasDemonstrated}
 use Rattle.completeness.specs.Images.{DemosAreComplete, Demonstrated, GensAreComplete, LacksMemory}
 use Rattle.completeness.proofs.Faults.{never_rose}

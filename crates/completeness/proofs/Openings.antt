@@ -1,36 +1,29 @@
--- What the words of a run ask for, with or without its record, and what is left of the reasons to refuse it where no
--- count rose.
-use Rattle.std.proofs.Common.{◌≡◌, ◌∙◌, ◌⊎◌, ℕ, List, take, Option, Some, None, Err, refl, sym, ap, subst, inl, inr}
+-- What the words of a run ask for, with or without its record, and which reasons to refuse it are left if no count
+-- rose.
+use Rattle.std.proofs.Common.{◌≡◌, ◌∙◌, ◌⊎◌, ℕ, List, Option, Some, None, Err, refl, sym, ap, subst, inl, inr}
 use Rattle.std.specs.Prelude.{IfSome}
-use Rattle.cloak_base.specs.Random.{Random, handed}
+use Rattle.cloak_base.specs.Random.{Random}
 use Rattle.cloak_model.specs.declared.image.Bundle.{Bundle}
 use Rattle.cloak_model.specs.BundleFault.{bundle_fault}
 use Rattle.cloak_model.specs.Opening.{Lack, NoKey, NoPageDraw, opening}
 use Rattle.command_words.specs.declared.usage_fault.UsageFault.{UsageFault}
 use Rattle.command_words.specs.Command as spec
-use Rattle.program_parts.specs.declared.refusal.Refusal.{Refusal}
-use Rattle.program_parts.specs.declared.refusal.Refusal.TheVariants as refusal
-use Rattle.program_parts.specs.declared.status.Status.{Status}
-use Rattle.program_parts.specs.Bundles.{IsInFile}
-use Rattle.program_parts.specs.NoRun.{AsksBundle, HasCause, IsLack, IsRefused}
-use Rattle.program_parts.specs.Streams.{IsStream}
-use Rattle.program_parts.specs.Outside.{Outside, NothingRose}
-use Rattle.program_parts.specs.Refusal.{status_of_refusal, refusal_line}
+use Rattle.command_parts.specs.declared.refusal.Refusal.{Refusal}
+use Rattle.command_parts.specs.declared.refusal.Refusal.TheVariants as refusal
+use Rattle.command_parts.specs.declared.status.Status.{Status}
+use Rattle.command_parts.specs.Bundles.{IsInFile}
+use Rattle.command_parts.specs.NoRun.{AsksBundle, HasCause, IsLack, IsRefused}
+use Rattle.command_parts.specs.Streams.{IsStream}
+use Rattle.command_parts.specs.Outside.{Outside, NothingRose}
+use Rattle.command_parts.specs.Refusal.{status_of_refusal, refusal_line}
 use Rattle.run_command.proofs.PrepareFacts.{run_named}
 use Rattle.completeness.specs.Asked.{IsBundleFile, OnlyLine, WantsMemory}
 use Rattle.completeness.specs.Runs.{Lacks}
-use Rattle.program_parts.specs.Streams.{IsToldStream}
+use Rattle.command_parts.specs.Streams.{IsToldStream}
 use Rattle.completeness.proofs.Faults.{never_rose, no_fault, same_bundle}
+use Rattle.command_parts.proofs.StreamFacts.{same_stream}
 
 -- What is asked for.
-
-pub same_stream : (held : List ℕ → Option (List ℕ)) (from : spec.Randomness) (s stream : Random) →
-    IsToldStream held from s → IsStream held from stream → stream ≡ s
-same_stream held (spec.Numbered number) s stream told is = is ∙ sym told
-same_stream held (spec.FromFile name) s stream told is =
-    let bytes : is.bytes ≡ take spec.longest_stream told.0 =
-    subst (λ (t : Option (List ℕ)). IfSome t (λ file. is.bytes ≡ take spec.longest_stream file)) told.1 is.front in
-    is.handed_in ∙ (ap handed bytes ∙ sym told.2)
 
 -- what is asked for is told: one bundle, one stream, and the words' own record and budget
 pub record IsAsked (record_name : Option (List ℕ)) (steps : ℕ) (b : Bundle) (s : Random) (name' : Option (List ℕ))

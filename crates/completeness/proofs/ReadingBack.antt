@@ -8,8 +8,8 @@ use Rattle.cloak_model.specs.Record.{IsRecord}
 use Rattle.cloak_model.specs.Run.{Run, exchange, record_bytes}
 use Rattle.cloak_model.specs.DomainAlone.{domain_alone, domain_alone_from}
 use Rattle.domain_isolation.specs.Isolation.{HasDomain}
-use Rattle.program_parts.specs.declared.status.Status.{Status}
-use Rattle.program_parts.specs.Outside.{Outside}
+use Rattle.command_parts.specs.declared.status.Status.{Status}
+use Rattle.command_parts.specs.Outside.{Outside}
 use Rattle.read_back.specs.declared.ending.Ending.TheVariants as ending
 use Rattle.read_back.specs.Text.{solo_text, view_text}
 use Rattle.completeness.specs.Asked.{WantsMemory}

@@ -1,21 +1,21 @@
--- Of the causes of what `run` answers, those of faults do not come where no count rose.
+-- Of the causes of what `run` returns, those of faults do not occur if no count rose.
 use Rattle.std.proofs.Common.{◌≡◌, ◌⊎◌, ℕ, List, Some, Result, Ok, sym, subst, inl, inr}
 use Rattle.std.specs.Result.{result_map_both}
-use Rattle.outside_io.specs.Told.{OtherFiles}
+use Rattle.io_traits.specs.Told.{OtherFiles}
 use Rattle.cloak_base.specs.Random.{Random}
 use Rattle.cloak_model.specs.declared.image.Bundle.{Bundle}
 use Rattle.cloak_model.specs.Opening.{Lack, Opened}
 use Rattle.cloak_model.specs.Run.{Run, joint_run, run_of}
 use Rattle.command_words.specs.Command as spec
-use Rattle.program_parts.specs.declared.status.Status.{Status}
-use Rattle.program_parts.specs.declared.status.Status.TheVariants as status
-use Rattle.program_parts.specs.NoRun.{IsRefused}
-use Rattle.program_parts.specs.Outside.{Outside, NothingRose}
+use Rattle.command_parts.specs.declared.status.Status.{Status}
+use Rattle.command_parts.specs.declared.status.Status.TheVariants as status
+use Rattle.command_parts.specs.NoRun.{IsRefused}
+use Rattle.command_parts.specs.Outside.{Outside, NothingRose}
 use Rattle.run_command.specs.Answering.{HasRun, IsWriteFault}
 use Rattle.run_command.specs.Recording.{IsWritten}
 use Rattle.completeness.specs.Asked.{IsBundleFile, WantsMemory}
 use Rattle.completeness.specs.Runs.{ComesTo, RunsAreComplete}
-use Rattle.program_parts.specs.Streams.{IsToldStream}
+use Rattle.command_parts.specs.Streams.{IsToldStream}
 use Rattle.completeness.proofs.Faults.{never_failed, never_rose}
 use Rattle.completeness.proofs.Openings.{OpensNot, asked_is, run_refused}
 

@@ -6,7 +6,7 @@ use Rattle.std.proofs.lemmas.Bool.{eqb-true}
 use Rattle.cloak_model.specs.declared.image.Bundle.{Bundle}
 use Rattle.cloak_model.specs.Bundle.{IsBundleIn, bundle_bytes, is_version}
 use Rattle.guest_bundle.proofs.Only.{one_bundle}
-use Rattle.program_parts.specs.Bundles.{IsInFileAs}
+use Rattle.command_parts.specs.Bundles.{IsInFileAs}
 
 version_at : (version : ℕ) (b : Bundle) → get_or (bundle_bytes version b) 8 0 ≡ version % 256
 unfolding bundle_bytes

@@ -1,16 +1,16 @@
--- Of the causes of what `stats` answers, those of faults do not come where no count rose.
+-- Of the causes of what `stats` returns, those of faults do not occur if no count rose.
 use Rattle.std.proofs.Common.{◌≡◌, ◌⊎◌, ℕ, List, None, Result, Ok, sym, subst, inl, inr}
 use Rattle.cloak_base.specs.Random.{Random}
 use Rattle.cloak_model.specs.declared.image.Bundle.{Bundle}
 use Rattle.cloak_model.specs.Opening.{Lack, Opened, opening}
 use Rattle.command_words.specs.Command as spec
-use Rattle.program_parts.specs.declared.status.Status.{Status}
-use Rattle.program_parts.specs.declared.status.Status.TheVariants as status
-use Rattle.program_parts.specs.NoRun.{IsRefused}
-use Rattle.program_parts.specs.Outside.{Outside, NothingRose}
+use Rattle.command_parts.specs.declared.status.Status.{Status}
+use Rattle.command_parts.specs.declared.status.Status.TheVariants as status
+use Rattle.command_parts.specs.NoRun.{IsRefused}
+use Rattle.command_parts.specs.Outside.{Outside, NothingRose}
 use Rattle.stats_command.specs.Answering.{HasStats}
 use Rattle.completeness.specs.Asked.{IsBundleFile, WantsMemory}
-use Rattle.program_parts.specs.Streams.{IsToldStream}
+use Rattle.command_parts.specs.Streams.{IsToldStream}
 use Rattle.completeness.specs.Stats.{ComesToCounts, ShowsCounts, StatsAreComplete}
 use Rattle.completeness.proofs.Faults.{never_rose}
 use Rattle.completeness.proofs.Openings.{OpensNot, asked_is, run_refused}

@@ -1,4 +1,4 @@
--- Of the causes of what `store` answers, those of faults do not come if no count rose, and what the files tell is one
+-- Of the causes of what `store` returns, those of faults do not occur if no count rose and what the files tell is one
 -- run over each contents.
 use native.Mathlib.Omega.{arith}
 use Rattle.std.proofs.Common.{◌≡◌, ◌∙◌, ◌⊎◌, ◌<◌, ℕ, List, [], length, take, Option, Some, None, Result, Err, sym, ap, subst, inl, inr}
@@ -12,15 +12,15 @@ use Rattle.cloak_model.specs.Run.{Run, run_from, run_of}
 use Rattle.cloak_model.specs.StoredFiles.{FileContents, IsStore, StoredFile}
 use Rattle.cloak_model.specs.StoreFault.{store_fault}
 use Rattle.command_words.specs.Command as spec
-use Rattle.program_parts.specs.declared.refusal.Refusal.{Refusal}
-use Rattle.program_parts.specs.declared.refusal.Refusal.TheVariants as refusal
-use Rattle.program_parts.specs.declared.status.Status.{Status}
-use Rattle.program_parts.specs.declared.status.Status.TheVariants as status
-use Rattle.program_parts.specs.NoRun.{HasCause, IsRefused, LineFailed}
-use Rattle.program_parts.specs.Outside.{NothingRose, Outside}
-use Rattle.program_parts.specs.Refusal.{refusal_line, status_of_refusal}
-use Rattle.program_parts.specs.Storing as given
-use Rattle.program_parts.specs.Storing.{AreFiles, AsksStored, IsOld, IsSecret, IsStoredLack, StoreSources, secret_length, secret_of}
+use Rattle.command_parts.specs.declared.refusal.Refusal.{Refusal}
+use Rattle.command_parts.specs.declared.refusal.Refusal.TheVariants as refusal
+use Rattle.command_parts.specs.declared.status.Status.{Status}
+use Rattle.command_parts.specs.declared.status.Status.TheVariants as status
+use Rattle.command_parts.specs.NoRun.{HasCause, IsRefused, LineFailed}
+use Rattle.command_parts.specs.Outside.{NothingRose, Outside}
+use Rattle.command_parts.specs.Refusal.{refusal_line, status_of_refusal}
+use Rattle.command_parts.specs.Storing as given
+use Rattle.command_parts.specs.Storing.{AreFiles, AsksStored, IsOld, IsSecret, IsStoredLack, StoreSources, secret_length, secret_of}
 use Rattle.sealed_store.proofs.FaultOrTable.{has_fault_or_table}
 use Rattle.sealed_store.proofs.SpellsOne.{spells_one}
 use Rattle.store_command.specs.Answering.{HasStored, StoringBrokeOff}
@@ -29,7 +29,7 @@ use Rattle.completeness.specs.Asked.{OnlyLine, WantsMemory}
 use Rattle.completeness.specs.Runs.{Lacks}
 use Rattle.completeness.specs.Stores.{AreTold, ComesToStored, StoresAreComplete}
 use Rattle.completeness.proofs.Faults.{never_failed, never_rose, no_fault}
-use Rattle.completeness.proofs.Openings.{same_stream}
+use Rattle.command_parts.proofs.StreamFacts.{same_stream}
 use Rattle.completeness.proofs.Sources.{one_image}
 
 -- The words.

@@ -1,5 +1,5 @@
--- Of the causes of what `thaw` answers, those of faults do not come if no count rose, and what the files tell is one state
--- of one image. A file that spells it has no fault.
+-- Of the causes of what `thaw` returns, those of faults do not occur if no count rose and what the files tell is one
+-- state of one image. A file that spells it has no fault.
 use Rattle.std.proofs.Common.{◌≡◌, ◌∙◌, ◌⊎◌, ◌+◌, ◌<◌, ◌≤◌, ℕ, Bool, cond, List, length, Option, Some, None, sym, ap, subst, inl, inr}
 use Rattle.std.specs.Prelude.{IfSome}
 use Rattle.std.proofs.lemmas.Bool.{le-ltb}
@@ -17,20 +17,20 @@ use Rattle.frozen_state.specs.declared.fault.FrozenFault.{FrozenFault}
 use Rattle.frozen_state.specs.declared.fault.FrozenFault.TheVariants.{Form}
 use Rattle.frozen_state.specs.declared.frozen.Frozen.{Frozen}
 use Rattle.frozen_state.specs.FrozenFault.{frozen_fault}
-use Rattle.outside_io.specs.Told.{OtherFiles}
-use Rattle.program_parts.specs.declared.refusal.Refusal.{Refusal}
-use Rattle.program_parts.specs.declared.refusal.Refusal.TheVariants as refusal
-use Rattle.program_parts.specs.declared.status.Status.{Status}
-use Rattle.program_parts.specs.declared.status.Status.TheVariants as status
-use Rattle.program_parts.specs.Bundles.{IsInFileAs}
-use Rattle.program_parts.specs.NoRun.{HasCause, IsRefused, LineFailed}
-use Rattle.program_parts.specs.Outside.{FilesOutside, NothingRose, Outside}
-use Rattle.program_parts.specs.Refusal.{refusal_line, status_of_refusal}
-use Rattle.program_parts.specs.Thawing.{AsksThawed, IsBadState, IsTooLong, IsUnthawed, SpellsState, ThawSources, largest_state, state_fault}
+use Rattle.io_traits.specs.Told.{OtherFiles}
+use Rattle.command_parts.specs.declared.refusal.Refusal.{Refusal}
+use Rattle.command_parts.specs.declared.refusal.Refusal.TheVariants as refusal
+use Rattle.command_parts.specs.declared.status.Status.{Status}
+use Rattle.command_parts.specs.declared.status.Status.TheVariants as status
+use Rattle.command_parts.specs.Bundles.{IsInFileAs}
+use Rattle.command_parts.specs.NoRun.{HasCause, IsRefused, LineFailed}
+use Rattle.command_parts.specs.Outside.{FilesOutside, NothingRose, Outside}
+use Rattle.command_parts.specs.Refusal.{refusal_line, status_of_refusal}
+use Rattle.command_parts.specs.Thawing.{AsksThawed, IsBadState, IsTooLong, IsUnthawed, SpellsState, ThawSources, largest_state, state_fault}
 use Rattle.completeness.specs.Asked.{OnlyLine, WantsMemory}
 use Rattle.completeness.specs.Thaws.{AreToldThawed, ComesToThawed, IsUnfit, Thawed, ThawsAreComplete, TooLong, Unfit}
 use Rattle.completeness.proofs.Faults.{never_failed, never_rose, no_fault}
-use Rattle.completeness.proofs.Openings.{same_stream}
+use Rattle.command_parts.proofs.StreamFacts.{same_stream}
 use Rattle.completeness.proofs.Sources.{one_image}
 
 -- The words.

@@ -1,12 +1,12 @@
--- Of the causes of what `upgrade` answers, those of faults do not come if no count rose.
+-- Of the causes of what `upgrade` returns, those of faults do not occur if no count rose.
 use Rattle.std.proofs.Common.{◌≡◌, ◌⊎◌, ℕ, List, Option, Some, None, refl, subst, inl, inr}
 use Rattle.cloak_model.specs.declared.image.Bundle.{Bundle}
 use Rattle.command_words.specs.Command as spec
-use Rattle.program_parts.specs.declared.status.Status.{Status}
-use Rattle.program_parts.specs.declared.status.Status.TheVariants as status
-use Rattle.program_parts.specs.Bundles.{IsInFile}
-use Rattle.program_parts.specs.NoRun.{IsRefused}
-use Rattle.program_parts.specs.Outside.{Outside, NothingRose}
+use Rattle.command_parts.specs.declared.status.Status.{Status}
+use Rattle.command_parts.specs.declared.status.Status.TheVariants as status
+use Rattle.command_parts.specs.Bundles.{IsInFile}
+use Rattle.command_parts.specs.NoRun.{IsRefused}
+use Rattle.command_parts.specs.Outside.{Outside, NothingRose}
 use Rattle.image_commands.specs.Showing.{IsShown}
 use Rattle.image_commands.specs.Upgrading.{HasUpgraded, IsTooLarge}
 use Rattle.completeness.specs.Asked.{IsBundleFile, WantsMemory}

@@ -1,5 +1,5 @@
--- Of the causes of what `view` and `solo` answer, those of faults do not come where no count rose, and those of a damaged
--- record or of an unfit item not where the file is a record that fits.
+-- Of the causes of what `view` and `solo` return, those of faults do not occur if no count rose, nor do those of a
+-- damaged record or of an unfit item if the file is a record that fits.
 use native.Mathlib.Omega.{arith}
 use Rattle.std.proofs.Common.{◌≡◌, ◌∙◌, ◌<◌, ◌≤◌, ◌-◌, ◌^◌, ℕ, List, [], ◌∷◌, ◌++◌, append_assoc, length, drop, Option, Some, None, refl, sym, ap, subst, inl, inr}
 use Rattle.std.proofs.Math.Nat.{lt_irrefl}
@@ -23,17 +23,17 @@ use Rattle.record_law.proofs.Spelling.{fields_of, item_bytes-parts, tag_at}
 use Rattle.record_law.proofs.Judged.{not_both, one_record, same_item}
 use Rattle.domain_isolation.proofs.Ignoring.{taken_append}
 use Rattle.record_reader.specs.Ahead.{readable}
-use Rattle.outside_io.specs.Told.{Grows, SameFiles}
+use Rattle.io_traits.specs.Told.{Grows, SameFiles}
 use Rattle.command_words.specs.declared.usage_fault.UsageFault.{UsageFault}
 use Rattle.command_words.specs.Command as spec
-use Rattle.program_parts.specs.declared.refusal.Refusal.{Refusal}
-use Rattle.program_parts.specs.declared.refusal.Refusal.TheVariants as refusal
-use Rattle.program_parts.specs.declared.status.Status.{Status}
-use Rattle.program_parts.specs.declared.status.Status.TheVariants as status
-use Rattle.program_parts.specs.Bundles.{IsInFile}
-use Rattle.program_parts.specs.NoRun.{bundle_named, HasCause, IsLack, IsNoSuchDomain, IsRefused}
-use Rattle.program_parts.specs.Outside.{FilesOutside, Outside, NothingRose}
-use Rattle.program_parts.specs.Refusal.{refusal_line, status_of_refusal}
+use Rattle.command_parts.specs.declared.refusal.Refusal.{Refusal}
+use Rattle.command_parts.specs.declared.refusal.Refusal.TheVariants as refusal
+use Rattle.command_parts.specs.declared.status.Status.{Status}
+use Rattle.command_parts.specs.declared.status.Status.TheVariants as status
+use Rattle.command_parts.specs.Bundles.{IsInFile}
+use Rattle.command_parts.specs.NoRun.{bundle_named, HasCause, IsLack, IsNoSuchDomain, IsRefused}
+use Rattle.command_parts.specs.Outside.{FilesOutside, Outside, NothingRose}
+use Rattle.command_parts.specs.Refusal.{refusal_line, status_of_refusal}
 use Rattle.read_back.specs.declared.ending.Ending.{Ending}
 use Rattle.read_back.specs.declared.ending.Ending.TheVariants as ending
 use Rattle.read_back.specs.Answering.{HasSolo, HasView, viewed_unfit, viewed_text, program_unfit, program_text}
@@ -41,10 +41,11 @@ use Rattle.read_back.specs.Reading.{BeginsWith, FileIs, FitsAs, ReadsAs, ReadsBa
 use Rattle.completeness.specs.Asked.{IsBundleFile, OnlyLine, WantsMemory}
 use Rattle.completeness.specs.Views.{IsRecordFile, ShowsAll, SolosAreComplete, ViewsAreComplete}
 use Rattle.completeness.proofs.Faults.{never_counted, never_rose, no_fault, same_bundle}
+use Rattle.kernel_isolation.proofs.Ignoring.{kernel_append}
 
 -- A front of a record.
 
--- the bytes of an item and of others behind it
+-- the bytes of an item and of others after it
 front_bytes : (i : Item) (items : List Item) (rest : List ℕ) →
     flat_map item_bytes (i ∷ items) ++ rest ≡ item_bytes i ++ (flat_map item_bytes items ++ rest)
 front_bytes i items rest =
@@ -88,12 +89,6 @@ kernel_same : (schedule : List ℕ) (s : KernelAlone) (items : List Item) (step 
 unfolding kernel_taken take_kernel_item
 kernel_same schedule s [] step is = is
 kernel_same schedule s (i ∷ items) step is = kernel_same schedule (take_kernel_item schedule s i) items step (rw is refl)
-
-kernel_append : (schedule : List ℕ) (s : KernelAlone) (a b : List Item) →
-    kernel_taken schedule s (a ++ b) ≡ kernel_taken schedule (kernel_taken schedule s a) b
-unfolding kernel_taken
-kernel_append schedule s [] b = refl
-kernel_append schedule s (i ∷ a) b = kernel_append schedule (take_kernel_item schedule s i) a b
 
 kernel_stays : (k : KernelImage) → Stays (viewed_unfit k)
 kernel_stays k front more step is =

@@ -1,13 +1,13 @@
--- What words may ask for, and what is common to all commands where no call on files or output fails.
+-- What words may ask for, and what is common to all commands if no call on files or output fails.
 use Rattle.std.specs.Prelude.{ℕ, ◌≡◌, List, Option, Some}
 use Rattle.cloak_model.specs.declared.image.Bundle.{Bundle}
 use Rattle.cloak_model.specs.Bundle.{IsBundle}
-use Rattle.outside_io.specs.Told.{Grows, SameFiles}
-use Rattle.program_parts.specs.declared.refusal.Refusal.TheVariants as refusal
-use Rattle.program_parts.specs.declared.status.Status.{Status}
-use Rattle.program_parts.specs.declared.status.Status.TheVariants as status
-use Rattle.program_parts.specs.Outside.{Outside}
-use Rattle.program_parts.specs.Refusal.{refusal_line}
+use Rattle.io_traits.specs.Told.{Grows, SameFiles}
+use Rattle.command_parts.specs.declared.refusal.Refusal.TheVariants as refusal
+use Rattle.command_parts.specs.declared.status.Status.{Status}
+use Rattle.command_parts.specs.declared.status.Status.TheVariants as status
+use Rattle.command_parts.specs.Outside.{Outside}
+use Rattle.command_parts.specs.Refusal.{refusal_line}
 
 -- The file of this name is this bundle.
 pub record IsBundleFile (held : List ℕ → Option (List ℕ)) (name : List ℕ) (bundle : Bundle) : Type 0 where

@@ -1,8 +1,8 @@
--- What each command comes to where no call on files or output fails.
+-- What each command results in if no call on files or output fails.
 use Rattle.command_words.specs.Command as spec
-use Rattle.program_parts.specs.declared.status.Status.{Status}
-use Rattle.program_parts.specs.NoRun.{IsRefused}
-use Rattle.program_parts.specs.Outside.{Outside, NothingRose}
+use Rattle.command_parts.specs.declared.status.Status.{Status}
+use Rattle.command_parts.specs.NoRun.{IsRefused}
+use Rattle.command_parts.specs.Outside.{Outside, NothingRose}
 use Rattle.completeness.specs.Freezes.{CompletesFreeze}
 use Rattle.completeness.specs.Images.{CompletesDemo, CompletesGen}
 use Rattle.completeness.specs.Runs.{CompletesRun}

@@ -1,15 +1,15 @@
--- What `freeze` comes to if no call on files or output fails.
+-- What `freeze` results in if no call on files or output fails.
 use Rattle.std.specs.Prelude.{ℕ, ◌≡◌, ◌⊎◌, List, Option, Some, Result, Ok, Err}
 use Rattle.cloak_model.specs.Bundle.{IsBundleIn}
 use Rattle.cloak_model.specs.Opening.{Lack}
 use Rattle.cloak_model.specs.Run.{Run, joint_run}
 use Rattle.command_words.specs.Command as spec
 use Rattle.frozen_commands.specs.FreezeAnswering.{FreezeAnswers, HasStopped, IfNoneClashed, IsSaved, LacksVectors}
-use Rattle.program_parts.specs.declared.status.Status.{Status}
-use Rattle.program_parts.specs.declared.status.Status.TheVariants as status
-use Rattle.program_parts.specs.Freezing.{FreezeSources}
-use Rattle.program_parts.specs.Outside.{Outside, NothingRose}
-use Rattle.program_parts.specs.Streams.{IsToldStream}
+use Rattle.command_parts.specs.declared.status.Status.{Status}
+use Rattle.command_parts.specs.declared.status.Status.TheVariants as status
+use Rattle.command_parts.specs.Freezing.{FreezeSources}
+use Rattle.command_parts.specs.Outside.{Outside, NothingRose}
+use Rattle.command_parts.specs.Streams.{IsToldStream}
 use Rattle.completeness.specs.Asked.{WantsMemory}
 use Rattle.completeness.specs.Runs.{Lacks}
 
@@ -29,7 +29,7 @@ EndsFrozen names steps s r answer before after =
     ⊎ (HasStopped names r answer before after
     ⊎ ((answer ≡ status.NoRandom) × LacksVectors names steps s r before after))
 
--- what the run comes to, or why there is none
+-- what the run results in, or why there is none
 abbrev pub ComesToFrozen : {S O : Type 0} → spec.FreezeNames → ℕ → FreezeSources → Result Run Lack → Status →
     Outside S O → Outside S O → Type 0
 ComesToFrozen names steps s (Err lack) answer before after = Lacks lack answer before after

@@ -1,10 +1,10 @@
--- What `gen` and `demo` come to where no call on files or output fails.
+-- What `gen` and `demo` result in if no call on files or output fails.
 use Rattle.std.specs.Prelude.{ℕ, ◌≡◌, ◌⊎◌, List}
 use Rattle.cloak_model.specs.Run.{Run}
-use Rattle.outside_io.specs.Told.{Grows}
-use Rattle.program_parts.specs.declared.status.Status.{Status}
-use Rattle.program_parts.specs.declared.status.Status.TheVariants as status
-use Rattle.program_parts.specs.Outside.{Outside, Output, NothingRose}
+use Rattle.io_traits.specs.Told.{Grows}
+use Rattle.command_parts.specs.declared.status.Status.{Status}
+use Rattle.command_parts.specs.declared.status.Status.TheVariants as status
+use Rattle.command_parts.specs.Outside.{Outside, Output, NothingRose}
 use Rattle.run_command.specs.Running.{NoClash, run_status}
 use Rattle.image_commands.specs.Demonstrating.{DemoAnswers, IsDemoRun, demo_lines}
 use Rattle.image_commands.specs.Generating.{GenAnswers, HasGenerated}
@@ -16,7 +16,7 @@ pub record Generates {S O : Type 0} (n : ℕ) (name : List ℕ) (answer : Status
   pub status : answer ≡ status.Done
   pub has : HasGenerated n name before after
 
--- Where no call fails, the image of this number was written to this file, or there was no memory to begin with.
+-- If no call fails, the image of this number was written to this file, or there was no memory to begin with.
 abbrev pub CompletesGen : {S O : Type 0} → ℕ → List ℕ → Status → Outside S O → Outside S O → Type 0
 CompletesGen n name answer before after =
     NothingRose before after → WantsMemory answer before after ⊎ Generates n name answer before after
@@ -26,7 +26,7 @@ GensAreComplete S O =
     (n : ℕ) (name : List ℕ) (answer : Status) (before after : Outside S O) →
     GenAnswers n name before after answer → CompletesGen n name answer before after
 
--- the run was made, and where no pages clashed in it, the answer is its status and its lines were shown
+-- the run was made, and if no pages clashed in it, the answer is its status and its lines were shown
 pub record Demonstrated {O : Type 0} (n steps : ℕ) (answer : Status) (before after : Output O) : Type 0 where
   pub made : Run
   pub is_run : IsDemoRun n steps made
@@ -38,7 +38,7 @@ pub record LacksMemory {O : Type 0} (answer : Status) (before after : Output O) 
   pub status : answer ≡ status.NoMemory
   pub line : Grows before.taken after.taken no_memory_line
 
--- Where no call fails, the run of the image of this number was made and shown, or there was no memory to begin with.
+-- If no call fails, the run of the image of this number was made and shown, or there was no memory to begin with.
 abbrev pub CompletesDemo : {O : Type 0} → ℕ → ℕ → Status → Output O → Output O → Type 0
 CompletesDemo n steps answer before after =
     after.faults ≡ before.faults → LacksMemory answer before after ⊎ Demonstrated n steps answer before after

@@ -9,3 +9,4 @@ pub mod Freezes
 pub mod Thaws
 pub mod Complete
 pub mod ReadingBack
+pub mod NeverFailing

@@ -1,4 +1,4 @@
--- The record of a run, read back where no call on files or output fails.
+-- The record of a run, read back if no call on files or output fails.
 use Rattle.std.specs.Prelude.{ℕ, ◌≡◌, ◌⊎◌, ◌<◌, ◌-◌, ◌^◌, List, length, slice_get, Option, Some}
 use Rattle.cloak_model.specs.declared.image.Bundle.{Bundle}
 use Rattle.cloak_model.specs.declared.image.Program.{Program}
@@ -7,8 +7,8 @@ use Rattle.cloak_model.specs.DomainAlone.{part_from, started_part}
 use Rattle.cloak_model.specs.Parts.{DomainPart, domain_part, kernel_part}
 use Rattle.cloak_model.specs.Run.{Run, record_bytes}
 use Rattle.command_words.specs.Command as spec
-use Rattle.program_parts.specs.declared.status.Status.{Status}
-use Rattle.program_parts.specs.Outside.{Outside, NothingRose}
+use Rattle.command_parts.specs.declared.status.Status.{Status}
+use Rattle.command_parts.specs.Outside.{Outside, NothingRose}
 use Rattle.read_back.specs.declared.ending.Ending.TheVariants as ending
 use Rattle.read_back.specs.Answering.{SoloAnswers, ViewAnswers}
 use Rattle.read_back.specs.Text.{solo_text, view_text}

@@ -1,17 +1,17 @@
--- What `run` comes to where no call on files or output fails.
+-- What `run` results in if no call on files or output fails.
 use Rattle.std.specs.Prelude.{ℕ, ◌≡◌, ◌⊎◌, List, Result, Ok, Err}
 use Rattle.cloak_base.specs.Random.{Random}
 use Rattle.cloak_model.specs.declared.image.Bundle.{Bundle}
 use Rattle.cloak_model.specs.Opening.{Lack, NoKey, NoPageDraw, NoRoom}
 use Rattle.cloak_model.specs.Run.{Run, joint_run}
-use Rattle.outside_io.specs.Told.{OtherFiles}
+use Rattle.io_traits.specs.Told.{OtherFiles}
 use Rattle.command_words.specs.Command as spec
-use Rattle.program_parts.specs.declared.refusal.Refusal.{Refusal}
-use Rattle.program_parts.specs.declared.refusal.Refusal.TheVariants as refusal
-use Rattle.program_parts.specs.declared.status.Status.{Status}
-use Rattle.program_parts.specs.Outside.{Outside, NothingRose}
-use Rattle.program_parts.specs.Refusal.{refusal_line, status_of_refusal}
-use Rattle.program_parts.specs.Streams.{IsToldStream}
+use Rattle.command_parts.specs.declared.refusal.Refusal.{Refusal}
+use Rattle.command_parts.specs.declared.refusal.Refusal.TheVariants as refusal
+use Rattle.command_parts.specs.declared.status.Status.{Status}
+use Rattle.command_parts.specs.Outside.{Outside, NothingRose}
+use Rattle.command_parts.specs.Refusal.{refusal_line, status_of_refusal}
+use Rattle.command_parts.specs.Streams.{IsToldStream}
 use Rattle.run_command.specs.Answering.{RunAnswers}
 use Rattle.run_command.specs.Recording.{IsWritten}
 use Rattle.run_command.specs.Running.{NoClash}
@@ -27,14 +27,14 @@ pub record Lacks {S O : Type 0} (lack : Lack) (answer : Status) (before after : 
   pub status : answer ≡ status_of_refusal (refusal_of_lack lack)
   pub line : OnlyLine (refusal_line (refusal_of_lack lack)) before after
 
--- what the run comes to, or why there is none
+-- what the run results in, or why there is none
 abbrev pub ComesTo : {S O : Type 0} → List ℕ → Result Run Lack → Status → Outside S O → Outside S O → Type 0
 ComesTo record_name (Err lack) answer before after = Lacks lack answer before after
 ComesTo record_name (Ok r) answer before after =
     OtherFiles record_name before.files.held after.files.held × (NoClash r → IsWritten r record_name answer before after)
 
--- Where these words ask for the run of this bundle under this stream, and no call fails, it was made and written whole,
--- or there was no memory to begin with.
+-- If these words ask for the run of this bundle under this stream, and no call fails, it was made and written whole, or
+-- there was no memory to begin with.
 abbrev pub CompletesRun : {S O : Type 0} → (bundle_name record_name : List ℕ) → ℕ → spec.Randomness → Status →
     Outside S O → Outside S O → Type 0
 CompletesRun bundle_name record_name steps randomness answer before after =

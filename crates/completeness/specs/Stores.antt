@@ -1,4 +1,4 @@
--- What `store` comes to where no call on files or output fails.
+-- What `store` results in if no call on files or output fails.
 use Rattle.std.specs.Prelude.{ℕ, ◌≡◌, ◌≢◌, ◌≤◌, ◌⊎◌, List, [], length, take, Option, Some, Result, Ok, Err}
 use Rattle.cloak_model.specs.Beginning.{Stored}
 use Rattle.cloak_model.specs.Bundle.{IsBundleIn}
@@ -6,15 +6,15 @@ use Rattle.cloak_model.specs.Opening.{Lack}
 use Rattle.cloak_model.specs.Run.{Run, run_from}
 use Rattle.cloak_model.specs.StoredFiles.{FileContents, IsStore, IsTable}
 use Rattle.command_words.specs.Command as spec
-use Rattle.program_parts.specs.declared.status.Status.{Status}
-use Rattle.program_parts.specs.Outside.{Outside, NothingRose}
-use Rattle.program_parts.specs.Storing.{AreFiles, StoreSources, secret_length, secret_of}
+use Rattle.command_parts.specs.declared.status.Status.{Status}
+use Rattle.command_parts.specs.Outside.{Outside, NothingRose}
+use Rattle.command_parts.specs.Storing.{AreFiles, StoreSources, secret_length, secret_of}
 use Rattle.run_command.specs.Running.{NoClash}
 use Rattle.store_command.specs.Answering.{StoreAnswers}
 use Rattle.store_command.specs.Leaving.{LeavesAll, OtherThanStored}
 use Rattle.completeness.specs.Asked.{WantsMemory}
 use Rattle.completeness.specs.Runs.{Lacks}
-use Rattle.program_parts.specs.Streams.{IsToldStream}
+use Rattle.command_parts.specs.Streams.{IsToldStream}
 
 -- The files tell these bytes, and all of them are right: a bundle, a long enough secret, and, unless the counter is 0, a
 -- store file of this counter.
@@ -32,7 +32,7 @@ pub record AreTold (names : spec.StoreNames) (counter : ℕ) (randomness : spec.
   pub spelled : counter ≢ 0 → IsStore s.secret.mac counter old_file s.table
   pub stream : IsToldStream held randomness s.stream
 
--- what the run over files comes to, or why there is none
+-- what the run over files results in, or why there is none
 abbrev pub ComesToStored : {S O : Type 0} → spec.StoreNames → ℕ → StoreSources → Result Run Lack → Status →
     Outside S O → Outside S O → Type 0
 ComesToStored names counter s (Err lack) answer before after = Lacks lack answer before after

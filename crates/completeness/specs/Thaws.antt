@@ -1,7 +1,7 @@
--- What `thaw` comes to if no call on files or output fails.
+-- What `thaw` results in if no call on files or output fails.
 use Rattle.std.specs.Prelude.{ℕ, ◌≡◌, ◌≤◌, ◌<◌, ◌+◌, ◌⊎◌, List, length, Option, Some}
 use Rattle.sha2.specs.Sha256.{sha256}
-use Rattle.outside_io.specs.Told.{OtherFiles}
+use Rattle.io_traits.specs.Told.{OtherFiles}
 use Rattle.cloak_model.specs.Bundle.{IsBundleIn}
 use Rattle.cloak_model.specs.Run.{most_steps}
 use Rattle.command_words.specs.declared.usage_fault.UsageFault.TheVariants.{WrongNumber}
@@ -11,14 +11,14 @@ use Rattle.frozen_run.specs.Shapes.{HasShape}
 use Rattle.frozen_state.specs.declared.fault.FrozenFault.TheVariants as state
 use Rattle.frozen_state.specs.Ranges.{IsFrozen}
 use Rattle.frozen_state.specs.Refusing.{HasChangedDomain, HasChangedFrame, HasWrongPage, LacksDraws, LacksKeys}
-use Rattle.program_parts.specs.declared.refusal.Refusal.{Refusal}
-use Rattle.program_parts.specs.declared.refusal.Refusal.TheVariants as refusal
-use Rattle.program_parts.specs.declared.status.Status.{Status}
-use Rattle.program_parts.specs.declared.status.Status.TheVariants as status
-use Rattle.program_parts.specs.Outside.{Outside, NothingRose}
-use Rattle.program_parts.specs.Refusal.{refusal_line, status_of_refusal}
-use Rattle.program_parts.specs.Streams.{IsToldStream}
-use Rattle.program_parts.specs.Thawing.{ThawSources, largest_state}
+use Rattle.command_parts.specs.declared.refusal.Refusal.{Refusal}
+use Rattle.command_parts.specs.declared.refusal.Refusal.TheVariants as refusal
+use Rattle.command_parts.specs.declared.status.Status.{Status}
+use Rattle.command_parts.specs.declared.status.Status.TheVariants as status
+use Rattle.command_parts.specs.Outside.{Outside, NothingRose}
+use Rattle.command_parts.specs.Refusal.{refusal_line, status_of_refusal}
+use Rattle.command_parts.specs.Streams.{IsToldStream}
+use Rattle.command_parts.specs.Thawing.{ThawSources, largest_state}
 use Rattle.completeness.specs.Asked.{OnlyLine, WantsMemory}
 
 -- The files tell these bytes, and all of them are right: a bundle, the file of a state of it, and the stream.
@@ -54,8 +54,8 @@ pub data ComesToThawed {S O : Type 0} (names : spec.ThawNames) (steps : ℕ) (s 
       OfEachRest s steps (λ r. IsWrittenAfter s.state.steps r names.record_name answer before after) →
       OtherFiles names.record_name before.files.held after.files.held → ComesToThawed names steps s answer before after
 
--- If these words ask for the rest of a run from what the files tell, and no call fails, it comes to that; or there was no
--- memory to begin with.
+-- If these words ask for the rest of a run from what the files tell, and no call fails, that is the result; or there
+-- was no memory to begin with.
 abbrev pub CompletesThaw : {S O : Type 0} → spec.ThawNames → (steps : ℕ) → spec.Randomness → Status → Outside S O →
     Outside S O → Type 0
 CompletesThaw names steps randomness answer before after =

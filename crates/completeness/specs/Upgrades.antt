@@ -1,10 +1,10 @@
--- What `upgrade` comes to if no call on files or output fails.
+-- What `upgrade` results in if no call on files or output fails.
 use Rattle.std.specs.Prelude.{ℕ, ◌≡◌, ◌≤◌, ◌<◌, ◌⊎◌, List, length}
 use Rattle.cloak_base.specs.Constants.{largest_bundle}
 use Rattle.cloak_model.specs.declared.image.Bundle.{Bundle}
-use Rattle.program_parts.specs.declared.status.Status.{Status}
-use Rattle.program_parts.specs.declared.status.Status.TheVariants as status
-use Rattle.program_parts.specs.Outside.{Outside, NothingRose}
+use Rattle.command_parts.specs.declared.status.Status.{Status}
+use Rattle.command_parts.specs.declared.status.Status.TheVariants as status
+use Rattle.command_parts.specs.Outside.{Outside, NothingRose}
 use Rattle.image_commands.specs.Upgrading.{UpgradeAnswers, too_large_line, upgraded_line, version_2}
 use Rattle.image_commands.specs.Writing.{HasWritten}
 use Rattle.completeness.specs.Asked.{IsBundleFile, OnlyLine, WantsMemory}

@@ -1,4 +1,4 @@
--- What `view` and `solo` come to where no call on files or output fails and the record fits.
+-- What `view` and `solo` result in if no call on files or output fails and the record fits.
 use Rattle.std.specs.Prelude.{ℕ, ◌≡◌, ◌⊎◌, ◌<◌, ◌-◌, ◌^◌, List, slice_get, Option, Some, None}
 use Rattle.cloak_model.specs.declared.image.Bundle.{Bundle}
 use Rattle.cloak_model.specs.declared.image.Program.{Program}
@@ -6,9 +6,9 @@ use Rattle.cloak_model.specs.declared.item.Item.{Item}
 use Rattle.cloak_model.specs.Record.{IsRecord}
 use Rattle.record_reader.specs.Ahead.{readable}
 use Rattle.command_words.specs.Command as spec
-use Rattle.program_parts.specs.declared.status.Status.{Status}
-use Rattle.program_parts.specs.declared.status.Status.TheVariants as status
-use Rattle.program_parts.specs.Outside.{Outside, NothingRose}
+use Rattle.command_parts.specs.declared.status.Status.{Status}
+use Rattle.command_parts.specs.declared.status.Status.TheVariants as status
+use Rattle.command_parts.specs.Outside.{Outside, NothingRose}
 use Rattle.read_back.specs.declared.ending.Ending.TheVariants as ending
 use Rattle.read_back.specs.Answering.{ViewAnswers, SoloAnswers, viewed_unfit, viewed_text, program_unfit, program_text}
 use Rattle.completeness.specs.Asked.{IsBundleFile, OnlyLine, WantsMemory}
@@ -24,7 +24,7 @@ pub record ShowsAll {S O : Type 0} (text : List ℕ) (answer : Status) (before a
   pub status : answer ≡ status.Done
   pub line : OnlyLine text before after
 
--- Where these words ask for what the kernel of this bundle makes of this record, each item of it fits, and no call fails,
+-- If these words ask for what the kernel of this bundle makes of this record, each item of it fits, and no call fails,
 -- the kernel's console and lines were shown, or there was no memory to begin with.
 abbrev pub CompletesView : {S O : Type 0} → (bundle_name record_name : List ℕ) → Status → Outside S O → Outside S O → Type 0
 CompletesView bundle_name record_name answer before after =

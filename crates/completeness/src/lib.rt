@@ -1,13 +1,20 @@
-//! Completeness: what a command comes to where no call on files or output fails. The causes that each command's table of
-//! answers gives (`run_command`, `store_command`, `frozen_commands`, `stats_command`, `read_back`, `image_commands`) leave one
-//! answer then, or want of memory before anything is begun: so no body can answer a fault that did not come.
+//! Completeness: what a command ends with if no call on files or output fails, and the files that it reads are told and
+//! good. These are a bundle, a random stream and vectors; for `store` a secret of 80 bytes or more and, unless the counter
+//! is 0, a store file of this counter; for `thaw` a state of the bundle; for `view` and `solo` a record whose items all
+//! fit, and for `solo` a program that the bundle has. Each command's table of answers (`run_command`, `store_command`,
+//! `frozen_commands`, `stats_command`, `read_back`, `image_commands`) then leaves what its law says, or want of memory
+//! before anything is begun: so no body can return a fault that did not come. Of a run in which pages clash the laws say
+//! at most that other files stay. Of files that are not good they say nothing: there the tables alone give each status
+//! its cause.
 //!
-//! No body turns a law, so there is no wrong body to refuse here; `cloak_commands` has edits for its clause. These changed
-//! definitions were tried on a copy, and with none of them did the proof of its law go through. Of runs: the line for a
-//! key that is missing is that for the draw of a page. Of views: `solo` shows a record as one that was not read to its
-//! end. Of images: `gen` never lacks memory. Of reading back: `view` shows the parts that the run began with. Of freezes: a
-//! run whose vectors are too few has the status of one that was frozen. Of thaws: a stream without the keys is named as one
-//! with too few draws.
+//! On a `NeverShelf` and a `NeverSink` (`never_fails`) no call fails, so over them the laws hold without that premise.
+//!
+//! No body changes a law, so there is no wrong body to refuse here; `cloak_commands` has edits for its clause. These
+//! changed definitions were tried on a copy, and with none of them did the proof of its law go through. Of runs: the
+//! line for a key that is missing is that for the draw of a page. Of views: `solo` shows a record as one that was not
+//! read to its end. Of images: `gen` never lacks memory. Of reading back: `view` shows the parts that the run began
+//! with. Of freezes: a run whose vectors are too few has the status of one that was frozen. Of thaws: a stream without
+//! the keys is named as one with too few draws.
 #![tactic(auto)]
 
 ghost use Rattle.completeness.specs.Runs.{RunsAreComplete};
@@ -19,46 +26,49 @@ ghost use Rattle.completeness.specs.Stores.{StoresAreComplete};
 ghost use Rattle.completeness.specs.Freezes.{FreezesAreComplete};
 ghost use Rattle.completeness.specs.Thaws.{ThawsAreComplete};
 ghost use Rattle.completeness.specs.Upgrades.{UpgradesAreComplete};
+ghost use Rattle.completeness.specs.NeverFailing.{NothingEverRises, RunsNeverFail};
 
-use outside_io::{Shelf, Sink};
+use io_traits::{Shelf, Sink};
+use never_fails::{NeverShelf, NeverSink};
 
-/// Where no call fails, `run` comes to what the opening and the joint run say. It does nothing: its contract is the law.
+/// If no call fails, `run` results in what the opening and the joint run say. It does nothing: its contract is the law.
 pub fn law_of_complete_runs<S: Shelf, O: Sink>()
     ensures { RunsAreComplete S O }
 {}
 
-/// Where no call fails, `store` comes to what the opening and the joint run say over all contents that the store file stands
-/// for. It does nothing: its contract is the law.
+/// If no call fails, `store` results in what the opening and the joint run say over all contents that the store file
+/// stands for. It does nothing: its contract is the law.
 pub fn law_of_complete_stores<S: Shelf, O: Sink>()
     ensures { StoresAreComplete S O }
 {}
 
-/// If no call fails, `freeze` comes to what the opening and the joint run say, with these vectors. It does nothing: its
-/// contract is the law.
+/// If no call fails, `freeze` results in what the opening and the joint run say, with these vectors. It does nothing:
+/// its contract is the law.
 pub fn law_of_complete_freezes<S: Shelf, O: Sink>()
     ensures { FreezesAreComplete S O }
 {}
 
-/// If no call fails, `thaw` comes to what the tests of the state say, and the rest of each run that can go on from it. It does
-/// nothing: its contract is the law.
+/// If no call fails, `thaw` results in what the tests of the state say, and the rest of each run that can go on from
+/// it. It does nothing: its contract is the law.
 pub fn law_of_complete_thaws<S: Shelf, O: Sink>()
     ensures { ThawsAreComplete S O }
 {}
 
-/// Where no call fails, `stats` comes to what the opening, the joint run and its counts say. It does nothing: its
+/// If no call fails, `stats` results in what the opening, the joint run and its counts say. It does nothing: its
 /// contract is the law.
 pub fn law_of_complete_stats<S: Shelf, O: Sink>()
     ensures { StatsAreComplete S O }
 {}
 
-/// Where no call fails and the record fits, `view` and `solo` read it to its end. It does nothing: its contract is the law.
+/// If no call fails and the record fits, `view` and `solo` read it to its end. It does nothing: its contract is the
+/// law.
 pub fn law_of_complete_views<S: Shelf, O: Sink>()
     ensures views { ViewsAreComplete S O }
     ensures solos { SolosAreComplete S O }
 {}
 
-/// Where no call fails, `gen` writes its image, `demo` comes to what the joint run of its image says, and `upgrade` writes
-/// version 2 of its bundle, or that is too large. It does nothing: its contract is the law.
+/// If no call fails, `gen` writes its image, `demo` results in what the joint run of its image says, and `upgrade`
+/// writes version 2 of its bundle, or that is too large. It does nothing: its contract is the law.
 pub fn law_of_complete_images<S: Shelf, O: Sink>()
     ensures gens { GensAreComplete S O }
     ensures demos { DemosAreComplete O }
@@ -70,4 +80,11 @@ pub fn law_of_complete_images<S: Shelf, O: Sink>()
 pub fn law_of_reading_back<S: Shelf, O: Sink>()
     ensures views { RunsAreViewed S O }
     ensures solos { RunsAreSoloed S O }
+{}
+
+/// On a `NeverShelf` and a `NeverSink` no count of faults rises. So `run` of a bundle ends with what the opening and the
+/// joint run say, or for want of memory. It does nothing: its contract is the law.
+pub fn law_of_runs_that_never_fail()
+    ensures nothing { NothingEverRises ⟦<NeverShelf as Shelf>⟧ ⟦<NeverSink as Sink>⟧ }
+    ensures runs { RunsNeverFail ⟦<NeverShelf as Shelf>⟧ ⟦<NeverSink as Sink>⟧ }
 {}

@@ -1,4 +1,4 @@
--- A byte that is copied for a call: its context keeps its reservation, and the byte is stored in the word alone that
+-- A byte that is copied for a call: its context keeps its reservation, and the byte is stored only in the word that
 -- was written in.
 use Rattle.std.proofs.Common.{◌≡◌, inl, ℕ, ◌%◌, Bool, true, false, List, [], ◌∷◌, Option, Some, None, refl}
 use Rattle.cloak_base.specs.declared.names.Kind.TheVariants.{Load, Store}

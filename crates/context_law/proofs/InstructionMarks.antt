@@ -1,4 +1,4 @@
--- What an instruction makes of its context's reservation, and that it stores in the word alone that it wrote in.
+-- What an instruction makes of its context's reservation, and that it stores only in the word that it wrote in.
 use Rattle.std.proofs.Common.{◌≡◌, ◌∙◌, ◌⊎◌, inl, inr, ℕ, ◌%◌, Bool, true, false, cond, List, [], ◌∷◌, Option, Some, None, refl, sym, ap, subst}
 use Rattle.std.specs.Prelude.{◌==◌, option_map}
 use Rattle.std.proofs.lemmas.Bool.{eqb-true}
@@ -23,7 +23,7 @@ use Rattle.cloak_model.specs.declared.item.Item.TheVariants as item
 use Rattle.cloak_model.specs.declared.outcome.Effect.{Effect}
 use Rattle.cloak_model.specs.declared.outcome.Effect.TheVariants as does
 use Rattle.cloak_model.specs.Asking.{Told}
-use Rattle.cloak_model.specs.AskPages.{answer_item, ask_read, ask_write}
+use Rattle.cloak_model.specs.AskPages.{ask_read, ask_write}
 use Rattle.cloak_model.specs.Contexts.{Context, word_of_page, same_word, is_reserved}
 use Rattle.cloak_model.specs.DomainState.{Control}
 use Rattle.cloak_model.specs.Effect.{effect}
@@ -46,6 +46,7 @@ use Rattle.context_law.specs.Inside as law
 use Rattle.context_law.specs.Inside.{Reached, reserved_by}
 use Rattle.context_law.proofs.Stores.{or_none, IsOnWord, misses_word, StoresOnWord, effect_stores}
 use Rattle.context_law.proofs.Others.{Misses, misses_if, ecall_misses}
+use Rattle.latest_store.proofs.InstructionDeeds.{first_answer, second_answer}
 
 -- the word was written in
 abbrev pub writes_word : WordPlace → Option WordPlace → Bool
@@ -91,12 +92,6 @@ unfolding ask_write
 written_told n plain answers q at width value w heard =
     let new = with_page (plain_of w) q (with_value_in (plain_of w q) at width value) in
     ap (inward_half n) (with_plain_rewrites q.domain new w heard.form).items ∙ heard.told
-
-abbrev first_answer : ℕ → Answer → List Item
-first_answer n a = answer_item n a ∷ []
-
-abbrev second_answer : ℕ → Answer → List Item
-second_answer n a = item.Ok n ∷ answer_item n a ∷ []
 
 module _ (n : ℕ) (plain : PageId → List ℕ) (c : Context) (reached : Option Reached) where
   load_reached_deed : (q : PageId) (rd va width : ℕ) (signed : Bool) (a : Answer) (w : World) →

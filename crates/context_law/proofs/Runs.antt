@@ -1,5 +1,5 @@
 -- A run from its opening on, and the laws.
-use Rattle.std.proofs.Common.{◌≡◌, ◌∙◌, inl, inr, ℕ, zero, suc, ◌+◌, ◌/◌, ◌%◌, ◌<◌, ◌≤◌, Bool, true, false, cond, List, [], ◌∷◌, length, take, slice_get, slice_index, Option, Some, None, IfSome, Ok, refl, sym, ap, subst, arith}
+use Rattle.std.proofs.Common.{◌≡◌, ◌∙◌, inl, inr, ℕ, zero, suc, ◌+◌, ◌/◌, ◌%◌, ◌<◌, ◌≤◌, Bool, true, false, cond, List, [], ◌∷◌, length, slice_get, slice_index, Option, Some, None, IfSome, Ok, refl, sym, ap, subst, arith}
 use Rattle.std.specs.Prelude.{nat_eq, ◌&&◌, replicate}
 use Rattle.std.proofs.lemmas.Bool.{and_parts, eqb-true, cases_lt}
 use Rattle.cloak_base.specs.Registers.{register}
@@ -27,20 +27,19 @@ use Rattle.cloak_model.specs.Run.{Run, turns_from, run_from, joint_after, first_
 use Rattle.cloak_model.specs.StoredFiles.{FileContents}
 use Rattle.kernel_isolation.specs.Isolation.{joint_until}
 use Rattle.kernel_isolation.proofs.FilesAdded.{IsGiven, KeepsDomainIf, given_keeps}
-use Rattle.kernel_isolation.proofs.Isolated.{until_read}
+use Rattle.kernel_isolation.proofs.Isolated.{until_read, of_opened}
 use Rattle.resource_map.proofs.Lists.{get_or-replicate_none}
 use Rattle.frozen_state.specs.Limits.{IsWordPlace, IsContext, KeepsLimits}
 use Rattle.limit_law.proofs.Runs.{runs_keep_limits}
 use Rattle.limit_law.proofs.Openings.{begins}
-use Rattle.store_law.specs.Ciphers.{items_of_turn}
-use Rattle.store_law.specs.OwnPages.{context_of_step}
-use Rattle.store_law.proofs.Ciphers.{of_opened}
-use Rattle.store_law.proofs.OwnPages.{moment_behind, step_is}
+use Rattle.page_law.specs.Ciphers.{items_of_turn}
+use Rattle.page_law.specs.OwnPages.{context_of_step}
+use Rattle.page_law.proofs.OwnPages.{moment_behind, step_is}
 use Rattle.latest_store.specs.Moves.{Move, latest_value}
 use Rattle.latest_store.specs.Deeds.{both_granted, page_for, step_moves}
 use Rattle.latest_store.specs.LatestStore.{history_until}
 use Rattle.latest_store.proofs.Moved.{Agrees}
-use Rattle.latest_store.proofs.Histories.{runs_give_latest}
+use Rattle.latest_store.proofs.Histories.{runs_give_latest, has_step, after_step}
 use Rattle.context_law.specs.Inside.{Reached, atomic_reached, fetched_reached, phase_reached, context_reached, program_reached, step_reached, moves_of_step, reserved_by, stored_with, stored_by, WasReservedInside, ContextsKeepReservations, ContextsStoreReserved}
 use Rattle.context_law.proofs.Marks.{mark_of, mark_at}
 use Rattle.context_law.proofs.Others.{Misses}
@@ -86,27 +85,6 @@ none_given f j j' given none d k word is =
     (sym (mark_stays (slice_get j.domains d) (slice_get j'.domains d) k ((given_keeps f j j' given).domains d)) ∙ is)
 
 -- The steps.
-
-same_some : {A : Type 0} (x y : A) → Some x ≡ Some y → x ≡ y
-same_some x y is = cc
-
-record HasStep (turns : List Turn) (n : ℕ) : Type 0 where
-  pub turn : Turn
-  pub is : slice_get turns n ≡ Some turn
-
-has_step : (turns : List Turn) (n : ℕ) → n < length turns → HasStep turns n
-has_step [] n less = absurd (omega (arith, less))
-has_step (t ∷ turns) zero less = record { turn = t; is = refl }
-has_step (t ∷ turns) (suc n) less =
-    let rest = has_step turns n (omega (arith, less)) in record { turn = rest.turn; is = rest.is }
-
-after_step : (j : Joint) (turns : List Turn) (n : ℕ) (t : Turn) → slice_get turns n ≡ Some t →
-    joint_after j (take (suc n) turns) ≡ t.joint
-unfolding joint_after
-after_step j [] zero t is = absurd cc
-after_step j [] (suc n) t is = absurd cc
-after_step j (x ∷ turns) zero t is = ap (λ (y : Turn). y.joint) (same_some x t is)
-after_step j (x ∷ turns) (suc n) t is = after_step x.joint turns n t is
 
 -- what is known of the step after n steps
 abbrev StepMarks : Bundle → Beginning → Run → ℕ → Type 0

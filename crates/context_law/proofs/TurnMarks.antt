@@ -1,12 +1,10 @@
 -- The reservations of every program's contexts over a step of the joint machine.
-use Rattle.std.proofs.Common.{◌≡◌, ◌≢◌, ◌∙◌, ◌⊎◌, inl, inr, ℕ, zero, suc, ◌%◌, Bool, true, false, cond, List, [], ◌∷◌, ◌++◌, slice_get, slice_set, Option, Some, None, Result, Ok, Err, refl, sym, ap, subst, arith, append-nil, eq-eqb}
+use Rattle.std.proofs.Common.{◌≡◌, ◌≢◌, ◌∙◌, ◌⊎◌, inl, inr, ℕ, zero, suc, ◌%◌, Bool, true, false, List, [], ◌∷◌, ◌++◌, slice_get, slice_set, Option, Some, None, Result, Ok, Err, refl, sym, ap, subst, arith, append-nil}
 use Rattle.std.specs.Prelude.{replicate}
 use Rattle.std.specs.List.{list_any}
 use Rattle.std.proofs.lemmas.List.Elements.{filter-append}
 use Rattle.cloak_base.specs.declared.causes.Shown.{Shown}
 use Rattle.cloak_base.specs.declared.causes.Violation.{Violation}
-use Rattle.cloak_model.specs.declared.context.Phase.{Phase}
-use Rattle.cloak_model.specs.declared.context.Phase.TheVariants.{Plain, CopyIn, Waiting, CopyOut}
 use Rattle.cloak_model.specs.declared.context.ResumeFault.{ResumeFault}
 use Rattle.cloak_model.specs.declared.context.WordPlace.{WordPlace}
 use Rattle.cloak_model.specs.declared.inside.Went.{Went}
@@ -32,13 +30,14 @@ use Rattle.cloak_model.specs.World.{World, Cloak, Cloaked, items_of}
 use Rattle.kernel_isolation.proofs.Numbers.{AreFrom, number_at}
 use Rattle.resource_map.proofs.Lists.{get_or-replicate_none}
 use Rattle.latest_store.specs.Moves.{Move}
-use Rattle.latest_store.specs.Deeds.{phase_moves, context_moves, program_moves, step_moves}
+use Rattle.latest_store.specs.Deeds.{context_moves, program_moves, step_moves}
 use Rattle.latest_store.proofs.Moved.{Agrees}
 use Rattle.latest_store.proofs.Heard.{Heard}
 use Rattle.context_law.specs.Inside.{Reached, reserved_by, stores_in, context_reached, program_reached, step_reached}
 use Rattle.context_law.proofs.Marks.{mark_of, mark_at, NoMore}
 use Rattle.context_law.proofs.Others.{Misses, context_misses}
 use Rattle.context_law.proofs.StepMarks.{Origin, Stepping, step_stepping, interrupt_none, resume_none}
+use Rattle.latest_store.proofs.Turned.{timer_phase, silent_phase, timer_told}
 
 -- Programs.
 
@@ -229,28 +228,13 @@ interrupt_ended_so e j number h items (went.Remapped space) = record { told = re
 interrupt_ended_so e j number h items (went.Leave s) = record { told = leave_told e items s; domains = refl }
 interrupt_ended_so e j number h items (went.SpaceGone space s) = record { told = refl; domains = refl }
 
--- where nothing or the timer is told of, nothing is done
-
-timer_phase : (p : Phase) (history : List Move) (d : Control) (c : Context) (e : ℕ) →
-    phase_moves p history d c (item.Timer e ∷ []) ≡ []
-unfolding phase_moves
-timer_phase Plain history d c e = refl
-timer_phase (CopyIn done) history d c e = refl
-timer_phase Waiting history d c e = refl
-timer_phase (CopyOut done total) history d c e = refl
+-- if nothing or the timer is told of, nothing is done
 
 timer_nothing : (o : Option Context) (history : List Move) (d : Control) (e : ℕ) →
     context_moves o history d (item.Timer e ∷ []) ≡ []
 unfolding context_moves
 timer_nothing None history d e = refl
 timer_nothing (Some c) history d e = timer_phase c.phase history d c e
-
-silent_phase : (p : Phase) (history : List Move) (d : Control) (c : Context) → phase_moves p history d c [] ≡ []
-unfolding phase_moves
-silent_phase Plain history d c = refl
-silent_phase (CopyIn done) history d c = refl
-silent_phase Waiting history d c = refl
-silent_phase (CopyOut done total) history d c = refl
 
 silent_context : (o : Option Context) (history : List Move) (d : Control) → context_moves o history d [] ≡ []
 unfolding context_moves
@@ -261,9 +245,6 @@ silent_program : (o : Option Domain) (history : List Move) (slot : ℕ) → prog
 unfolding program_moves
 silent_program None history slot = refl
 silent_program (Some d) history slot = silent_context (context_at d.control.contexts slot) history d.control
-
-timer_told : (e : ℕ) → inward_half e (item.Timer e ∷ []) ≡ item.Timer e ∷ []
-timer_told e = ap (λ (b : Bool). cond b (item.Timer e ∷ []) []) (eq-eqb e e refl)
 
 -- a step of its context
 stepped_marks : (history : List Move) (j : Joint) (number : ℕ) (h : Hart) (ctx : ℕ) (found : Domain)
@@ -310,7 +291,7 @@ due_marks false history j number h ctx found there own agrees =
     let slot = slot_of ctx in
     let c : Cloak = cloak_of j.memory h e (pages_for found (context_at found.control.contexts slot)) in
     let heard : Heard found.control.number j.memory.plain [] (Cloaked c) =
-    record { form = refl; view = sym own; pages = refl; told = refl } in
+    record { form = refl; regime = sym own; pages = refl; told = refl } in
     stepped_marks history j number h ctx found (domain_step slot found (Cloaked c)) there own
     (step_stepping slot found history j.memory.plain (Cloaked c) agrees heard)
 

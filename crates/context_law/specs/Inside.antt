@@ -1,6 +1,6 @@
--- Reservations of contexts of programs: SC stores only where no byte of its word was stored since the context's LR. As in the
--- law of the latest store, what a step does is told by the contexts and regions of its program, by what the program was
--- answered in the step, and by the history before it.
+-- Reservations of contexts of programs: SC stores only if no byte of its word was stored since the context's LR. As in
+-- the law of the latest store, what a step does is told by the contexts and regions of its program, by what the program
+-- was answered in the step, and by the history before it.
 use Rattle.std.specs.Prelude.{ℕ, suc, ◌≡◌, ◌≤◌, ◌+◌, ◌%◌, nat_eq, nat_lt, Bool, false, ◌&&◌, List, length, slice_get, Option, Some, None, option_map, Ok, if◌then◌else◌}
 use Rattle.std.specs.List.{list_any}
 use Rattle.cloak_base.specs.Registers.{register}
@@ -21,8 +21,8 @@ use Rattle.cloak_model.specs.DomainState.{Control, Domain}
 use Rattle.cloak_model.specs.Halves.{inward_half}
 use Rattle.cloak_model.specs.Run.{Run, run_from}
 use Rattle.kernel_isolation.specs.Isolation.{joint_until}
-use Rattle.store_law.specs.Ciphers.{items_of_turn}
-use Rattle.store_law.specs.OwnPages.{context_of_step}
+use Rattle.page_law.specs.Ciphers.{items_of_turn}
+use Rattle.page_law.specs.OwnPages.{context_of_step}
 use Rattle.latest_store.specs.Moves.{Move, Stores, Combines, latest_value}
 use Rattle.latest_store.specs.Deeds.{both_granted, page_for, step_moves}
 use Rattle.latest_store.specs.LatestStore.{history_until}
@@ -96,7 +96,7 @@ abbrev pub stored_by : Option Reached → Option WordPlace
 stored_by None = None
 stored_by (Some it) = stored_with it.op it.place it.mark
 
--- So many bytes of a page, from a place on, have one of this word of a domain.
+-- This many bytes of a page, from a place on, include one of this word of a domain.
 abbrev pub meets_place : ℕ → WordPlace → PageId → ℕ → ℕ → Bool
 meets_place d word q from count =
     (nat_eq q.domain d && (nat_eq q.resource word.resource && nat_eq q.page word.page)) && (nat_lt from (word.at + 4) && nat_lt word.at (from + count))

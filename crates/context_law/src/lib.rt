@@ -3,7 +3,7 @@
 //! store, no operation and no SC of any context, and no byte that READ copied in. So SC stores only such a word. What a
 //! step does is told as in `latest_store`, `specs/Deeds`: by the contexts and regions of its program, what the program
 //! was answered in the step, and the history before it. Both hold of the run of every image in the grammar, from
-//! whatever beginning: as a run begins, no context has a reservation, also if files were added.
+//! whatever beginning: as a run begins, no context has a reservation, even if files were added.
 #![tactic(auto)]
 
 ghost use Rattle.context_law.specs.Inside.{ContextsKeepReservations, ContextsStoreReserved};

@@ -3,7 +3,7 @@
 //! block, and a bundle with the disk of the end is a bundle again. The law holds of the run of every bundle, also of one
 //! that no file spells, and from whatever beginning.
 //!
-//! No body turns a law, so there is no wrong body to refuse here.
+//! No body changes a law, so there is no wrong body to refuse here.
 #![tactic(auto)]
 
 ghost use Rattle.disk_law.specs.Disks.{DisksStay};

@@ -37,7 +37,7 @@ pub record RestsAt (s : DomainAlone) (p : DomainPart) (stops : Bool) : Type 0 wh
   pub is : s ≡ alone_at p steps place
   pub between : stops ≡ false → place ≡ Between
 
--- It may take the end of the domain: in a step of another hart, or behind what stopped its own.
+-- It may take the end of the domain: in a step of another hart, or after what stopped its own.
 pub record OtherAt (s : DomainAlone) (p : DomainPart) : Type 0 where
   pub steps : ℕ
   pub hart : ℕ
@@ -213,7 +213,7 @@ or_later : (a b : Bool) → b ≡ true → (a || b) ≡ true
 or_later true b is = refl
 or_later false b is = is
 
--- behind the last answer, which stops
+-- after the last answer, which stops
 pub answers_open : (schedule : List ℕ) (k slot : ℕ) (d : Domain) (w : World) → IsServing d.control.number w →
     (before after : List Answer) → before ++ after ≡ answers_of (step_scripted slot d).script w →
     last_stopped after ≡ true →

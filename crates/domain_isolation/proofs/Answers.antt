@@ -14,7 +14,7 @@ use Rattle.cloak_model.specs.Cloaking.{Offer, Ready, Mismatch, Missed}
 use Rattle.cloak_model.specs.Memory.{with_value_in}
 use Rattle.cloak_model.specs.PageMoves.{copy_pages, drop_pages}
 use Rattle.cloak_model.specs.Parts.{domain_pages}
-use Rattle.cloak_model.specs.World.{World, Flat, Cloaked, Alone, Handed, plain_of, view_of, items_of, violation_of, is_missed}
+use Rattle.cloak_model.specs.World.{World, Flat, Cloaked, Alone, Handed, plain_of, regime_of, items_of, violation_of, is_missed}
 use Rattle.cloak_model.specs.Asking.{Told, Asking}
 use Rattle.cloak_model.specs.AskPages.{inside_access, replies, if_drawn, ask_inside_address, offered_by, ask_offer, reached, reach_by_table, get_at, got, get_by_table, put_at, stored_inside, put_by_table, clear_from, is_for_access, is_for_value, is_for_clearing, of_width, next_answer, ask_reach, ask_read, ask_write, ask_get, ask_put, ask_clear, ask_copy, ask_forget}
 use Rattle.cloak_model.specs.Ask.{opened}
@@ -28,7 +28,7 @@ alone_with d plain answers = Alone (record { plain = domain_pages d plain; answe
 -- the joint machine's memory in a step of this domain
 pub record IsServing (d : ℕ) (w : World) : Type 0 where
   pub form : is_cloaked w ≡ true
-  pub view : (view_of w).domain ≡ d
+  pub regime : (regime_of w).domain ≡ d
 
 -- Each answer is of the kind that its question takes.
 
@@ -88,7 +88,7 @@ stored_has : (va width value : ℕ) (to : Result ℕ ℕ) (w : World) →
 unfolding stored_inside replies
 stored_has va width value (Err cause) w = refl
 stored_has va width value (Ok pa) w =
-    drawn_has ForAccess (put_at pa width value) (opened (view_of w).satp (inside_access w va Store) pa w) refl
+    drawn_has ForAccess (put_at pa width value) (opened (regime_of w).satp (inside_access w va Store) pa w) refl
     (put_at_has pa width value _)
 
 put_has : (va width value : ℕ) (w : World) → ForAccess (put_by_table va width value w).answer
@@ -110,7 +110,7 @@ got_has : (va width : ℕ) (to : Result ℕ ℕ) (w : World) → ForValue width 
 unfolding got replies
 got_has va width (Err cause) w = record { kind = refl; narrow = refl }
 got_has va width (Ok pa) w =
-    drawn_has (ForValue width) (get_at pa width) (opened (view_of w).satp (inside_access w va Load) pa w)
+    drawn_has (ForValue width) (get_at pa width) (opened (regime_of w).satp (inside_access w va Load) pa w)
     (record { kind = refl; narrow = refl }) (get_at_has pa width _)
 
 get_has : (va width : ℕ) (w : World) → ForValue width (get_by_table va width w).answer
@@ -254,7 +254,7 @@ change_same (Forget resource) (Cloaked c) answers cloaked = refl
 
 -- What a change leaves: all but the pages of its domain.
 pub record LeavesOthers (d : ℕ) (w v : World) : Type 0 where
-  pub view : view_of v ≡ view_of w
+  pub regime : regime_of v ≡ regime_of w
   pub form : is_cloaked v ≡ is_cloaked w
   pub items : items_of v ≡ items_of w
   pub violation : violation_of v ≡ violation_of w
@@ -264,7 +264,7 @@ not_taken : {A : Type 0} (b : Bool) (x y : A) → b ≡ false → cond b x y ≡
 not_taken true x y is = absurd cc
 not_taken false x y is = refl
 
--- a map of pages that is changed where a test passes, at no page of a domain
+-- a map of pages that is changed where a test passes, which is at no page of a domain
 other_pages : (e : ℕ) (plain new : PageId → List ℕ) (test : PageId → Bool) →
     ((resource page : ℕ) → test (record { domain = e; resource = resource; page = page }) ≡ false) →
     domain_pages e (λ p. if test p then new p else plain p) ≡ domain_pages e plain
@@ -291,7 +291,7 @@ unfolding ask_write ask_copy ask_forget copy_pages drop_pages
 change_leaves change (Flat ram) cloaked = absurd (false≢true cloaked)
 change_leaves change (Alone h) cloaked = absurd (false≢true cloaked)
 change_leaves {d} (Write q own at width value) (Cloaked c) cloaked = record {
-  view = refl;
+  regime = refl;
   form = refl;
   items = refl;
   violation = refl;
@@ -299,7 +299,7 @@ change_leaves {d} (Write q own at width value) (Cloaked c) cloaked = record {
       (λ p. same_page p q) (never_same_page d e q own other);
 }
 change_leaves {d} (Copy from to) (Cloaked c) cloaked = record {
-  view = refl;
+  regime = refl;
   form = refl;
   items = refl;
   violation = refl;
@@ -307,7 +307,7 @@ change_leaves {d} (Copy from to) (Cloaked c) cloaked = record {
       (never_of d e to other);
 }
 change_leaves {d} (Forget resource) (Cloaked c) cloaked = record {
-  view = refl;
+  regime = refl;
   form = refl;
   items = refl;
   violation = refl;

@@ -1,4 +1,4 @@
--- The end of a domain behind a step, and what the program alone makes of it.
+-- The end of a domain after a step, and what the program alone makes of it.
 use Rattle.std.proofs.Common.{◌≡◌, ◌≢◌, ◌∙◌, inl, inr, zero, suc, ◌+◌, ◌<◌, true, false, cond, ℕ, Bool, List, [], ◌∷◌, ◌++◌, length, Option, Some, None, refl, ap, sym, subst, eq-eqb, ne_eqb, append-nil, if◌then◌else◌}
 use Rattle.std.specs.Prelude.{◌==◌, ◌||◌, is_some, slice_get}
 use Rattle.std.specs.List.{AllByRecursion}
@@ -37,7 +37,7 @@ pub record EndLeaves (d : ℕ) (w v : World) : Type 0 where
   pub items : (e : ℕ) → inward_half e (items_of v) ≡ inward_half e (items_of w)
   pub others : (e : ℕ) → e ≢ d → domain_pages e (plain_of v) ≡ domain_pages e (plain_of w)
 
-steady_for : (d f n : ℕ) (w : World) → Steady w (settled_for d f n w)
+pub steady_for : (d f n : ℕ) (w : World) → Steady w (settled_for d f n w)
 unfolding settled_for
 steady_for d f zero w = Steady-refl w
 steady_for d f (suc n) w =
@@ -140,7 +140,7 @@ pub record StepTaken (d count : ℕ) (schedule : List ℕ) (k hart : ℕ) (p : D
   pub order : InOrder count t.joint.harts t.joint.domains
   pub told : AllByRecursion IsOfStep (inward_half d t.items)
 
--- where the program has read the items of the step
+-- the program alone once it has read the items of the step
 abbrev read_by : ℕ → List ℕ → ℕ → ℕ → DomainPart → Turn → DomainAlone
 read_by d schedule k hart p t =
     domain_taken d schedule (alone_at p (suc k) (place_for hart (slot_on hart 0 p.domain.control.contexts))) t.items

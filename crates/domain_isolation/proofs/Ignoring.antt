@@ -6,10 +6,7 @@ use Rattle.cloak_model.specs.declared.item.Item.TheVariants as item
 use Rattle.cloak_model.specs.Halves.{is_inward, inward_half}
 use Rattle.cloak_model.specs.DomainAlone.{DomainAlone, domain_takes, take_domain_item, domain_taken, opened_with_part}
 use Rattle.domain_isolation.specs.Isolation.{InwardHalfSuffices}
-
-either_same : {A : Type 0} (b : Bool) (x y : A) → y ≡ x → cond b x y ≡ x
-either_same true x y e = refl
-either_same false x y e = e
+use Rattle.kernel_isolation.proofs.Ignoring.{either_same}
 
 not_chosen : {A : Type 0} (b : Bool) (x y : A) → b ≡ false → cond b x y ≡ y
 not_chosen true x y e = absurd cc
@@ -69,7 +66,7 @@ pub taken_half : (d : ℕ) (schedule : List ℕ) (s : DomainAlone) (items half :
     inward_half d items ≡ half → domain_taken d schedule s items ≡ domain_taken d schedule s half
 taken_half d schedule s items half is = sym (half_taken d schedule s items) ∙ ap (domain_taken d schedule s) is
 
--- an item that is taken where none was unfit
+-- an item that is taken when none was unfit
 pub item_taken : (d : ℕ) (schedule : List ℕ) (s : DomainAlone) (i : Item) → s.unfit ≡ None →
     take_domain_item d schedule s i ≡ domain_takes d schedule i s
 unfolding take_domain_item

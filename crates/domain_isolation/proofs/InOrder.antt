@@ -1,5 +1,5 @@
 -- What holds of the joint machine between two steps: each program has its place for its number, and a context runs on a
--- hart only where that hart is inside it.
+-- hart only if that hart is inside it.
 use Rattle.std.proofs.Common.{◌≡◌, ◌≢◌, ◌∙◌, ◌⊎◌, inl, inr, ◌+◌, ◌<◌, ◌≤◌, true, false, cond, suc, zero, pred, ℕ, Bool, List, [], ◌∷◌, Option, Some, None, Ok, Err, refl, ap, sym, subst, eq-eqb, eqb-true, ne_eqb, arith, length, length-set, nat_eq}
 use Rattle.std.specs.Prelude.{◌&&◌, ◌==◌, unwrap_or, is_some, replicate, slice_get, slice_set, slice_index_or}
 use Rattle.std.proofs.lemmas.Bool.{false≢true, cases_lt, eqb-false}
@@ -36,7 +36,7 @@ abbrev pub is_running : ℕ → ℕ → Option ℕ → Bool
 is_running d slot None = false
 is_running d slot (Some ctx) = (domain_of ctx == d) && (slot_of ctx == slot)
 
--- There are so many harts; each program has its place for its number; and a context runs on a hart only where the hart is
+-- There are `count` harts; each program has its place for its number; and a context runs on a hart only if the hart is
 -- inside it. A hart may be inside one that does not run: its resuming was refused, or its domain ended.
 pub record InOrder (count : ℕ) (harts : List Hart) (domains : List Domain) : Type 0 where
   pub harts_count : length harts ≡ count

@@ -48,7 +48,7 @@ leave_inside : (h : Hart) (s : Shown) → (leave h s).inside ≡ None
 unfolding leave
 leave_inside h s = refl
 
--- a step of a context, which changed its own domain alone
+-- a step of a context, which changed only its own domain
 running_alone : (d count : ℕ) (schedule : List ℕ) (k n : ℕ) (p : DomainPart) (j : Joint) (ctx : ℕ)
     (old new : Domain) (t : Turn) → InOrder count j.harts j.domains → HoldsPart d j p →
     slice_get j.domains (domain_of ctx) ≡ Some old → inside_at j.harts n ≡ Some ctx →
@@ -238,7 +238,7 @@ ended_stops j n h e w went.Stopped missed is halted =
     halted_if j.memory.ledger.missed (is_missed w) (violation_of w) missed halted
 ended_stops j n h e w g missed is halted = absurd cc
 
-ended_met : (j : Joint) (n : ℕ) (h : Hart) (e : ℕ) (w : World) (g : Went) →
+pub ended_met : (j : Joint) (n : ℕ) (h : Hart) (e : ℕ) (w : World) (g : Went) →
     is_some (domain_ended j n h e w g).violation ≡ true → is_some (violation_of w) ≡ true
 unfolding domain_ended
 ended_met j n h e w went.Stay some = absurd (false≢true some)
@@ -369,7 +369,7 @@ by_interrupt_alone false d count schedule k n p j h ctx old order has is runs ke
     subst (λ (told : Told DomainStepped). StepAlone d count schedule k n p (Some ctx) (after_domain_step j n h e told))
     (sym ((step_scripted (slot_of ctx) old).plays w))
     (played_alone_so d count schedule k n p j h ctx old w order has is runs kept here refl
-    (record { form = refl; view = sym (order.numbers e old is) }) refl refl)
+    (record { form = refl; regime = sym (order.numbers e old is) }) refl refl)
 
 -- a hart leaves a context that does not run on it
 gone_alone : (d count : ℕ) (schedule : List ℕ) (k n : ℕ) (p : DomainPart) (j : Joint) (h : Hart) (ctx : ℕ) →

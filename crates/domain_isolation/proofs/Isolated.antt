@@ -29,7 +29,7 @@ use Rattle.domain_isolation.proofs.InOrder.{InOrder}
 use Rattle.domain_isolation.proofs.JointSteps.{HoldsPart, has_part}
 use Rattle.domain_isolation.proofs.Opened.{opened_half, opened_order, opened_has, closing_half, closing_has}
 
--- the items of these steps, behind so many others
+-- the items of these steps, after k others
 abbrev pub items_behind : ℕ → List Turn → List Item
 items_behind k turns = steps_items (suc k) (map (λ (t : Turn). t.items) turns)
 
@@ -37,7 +37,7 @@ items_behind k turns = steps_items (suc k) (map (λ (t : Turn). t.items) turns)
 abbrev pub told_by : ℕ → List Turn → List (List Item)
 told_by d turns = map (λ (t : Turn). inward_half d t.items) turns
 
--- the program alone, on the items of these steps, has what the joint machine has behind them
+-- the program alone, on the items of these steps, has what the joint machine has after them
 pub record FrontAlone (d : ℕ) (schedule : List ℕ) (k : ℕ) (j : Joint) (turns : List Turn)
     (s : DomainAlone) : Type 0 where
   pub part : DomainPart
@@ -102,7 +102,7 @@ after_last : (d : ℕ) (schedule : List ℕ) (k : ℕ) (j : Joint) (s : DomainAl
 unfolding joint_after steps_items domain_taken
 after_last d schedule k j s p stops has rests = record { part = p; has = has; stops = stops; rests = rests; told = tt }
 
--- the front of a run, behind its first step
+-- the front of a run, after its first step
 abbrev pub Fronts : ℕ → List ℕ → ℕ → Joint → List Turn → DomainAlone → Type 0
 Fronts d schedule k j turns s = (n : ℕ) → n ≤ length turns → FrontAlone d schedule k j (take n turns) s
 
@@ -200,7 +200,7 @@ starts_between : (p : DomainPart) → ended (opened_with_part p) ≡ alone_at p 
 unfolding domain_step_ended
 starts_between p = refl
 
--- the front of the run: behind the opening's items
+-- the front of the run: after the opening's items
 pub run_after : (b : Bundle) (d : ℕ) (p : Program) (from : Beginning) (budget : ℕ) (o : Opened) → IsInGrammar b →
     OpensOver b from o → slice_get b.programs d ≡ Some p →
     Fronts d b.kernel.schedule 0 o.joint (turns_from budget (first_moment b o.joint))
@@ -215,7 +215,7 @@ run_after b d p from budget o g opened found =
     (opened_order b from o opened) (opened_has b from o d p opened found)
     (ap ended none ∙ starts_between part)
 
--- with Close behind it, and items that are not told
+-- with Close after it, and items that are not told
 closed_part : (d : ℕ) (schedule : List ℕ) (p : DomainPart) (opening : List Item) (k : ℕ) (j j' : Joint)
     (turns : List Turn) (rest : List Item) →
     FrontAlone d schedule 0 j turns (domain_taken d schedule (opened_with_part p) opening) →

@@ -26,7 +26,7 @@ has_part d j p has =
 abbrev pub is_cut : Turn → Bool
 is_cut t = is_some t.violation || is_some (stop_of t)
 
--- A step of this hart, behind k others: the program alone, on the step's items, goes from the part before it to the
+-- A step of this hart, after k others: the program alone, on the step's items, goes from the part before it to the
 -- part after it, and all is in order unless the run stops.
 pub record StepAlone (d count : ℕ) (schedule : List ℕ) (k hart : ℕ) (p : DomainPart) (inside : Option ℕ) (t : Turn) :
     Type 0 where
@@ -51,7 +51,7 @@ opens_elsewhere : (d : ℕ) (inside : Option ℕ) (s : DomainAlone) (p : DomainP
 opens_elsewhere d None s p elsewhere other = other
 opens_elsewhere d (Some ctx) s p elsewhere other = inl (elsewhere, other)
 
--- where it runs none of the program's contexts, and none of the items is the program's
+-- when it runs none of the program's contexts, and none of the items is the program's
 pub other_alone : (d count : ℕ) (schedule : List ℕ) (k hart : ℕ) (p : DomainPart) (inside : Option ℕ) (t : Turn) →
     slot_on hart 0 p.domain.control.contexts ≡ None →
     inward_half d t.items ≡ [] → HoldsPart d t.joint p →

@@ -33,28 +33,28 @@ use Rattle.domain_isolation.proofs.FileParts.{own_page, other_page, files_have, 
 
 -- The pages of one program.
 
-placed_with : (q : PageId) (f : ℕ) (bytes : List ℕ) (draw : Option (List ℕ × Random)) (m m' : CloakedMemory) →
+pub placed_with : (q : PageId) (f : ℕ) (bytes : List ℕ) (draw : Option (List ℕ × Random)) (m m' : CloakedMemory) →
     place_with q f bytes draw m ≡ Some m' → m'.plain ≡ with_page m.plain q bytes
 unfolding place_with
 placed_with q f bytes None m m' is = absurd cc
 placed_with q f bytes (Some draw) m m' is = ap (λ (x : CloakedMemory). x.plain) (sym (same_some _ m' is))
 
-placed : (q : PageId) (f : ℕ) (bytes : List ℕ) (m m' : CloakedMemory) → place q f bytes m ≡ Some m' →
+pub placed : (q : PageId) (f : ℕ) (bytes : List ℕ) (m m' : CloakedMemory) → place q f bytes m ≡ Some m' →
     m'.plain ≡ with_page m.plain q bytes
 unfolding place
 placed q f bytes m m' is = placed_with q f bytes (vector_of m.ledger q) m m' is
 
 -- a value that a chain ends with has one before it
-record Before {A B : Type 0} (f : A → Option B) (o : Option A) (b : B) : Type 0 where
+pub record Before {A B : Type 0} (f : A → Option B) (o : Option A) (b : B) : Type 0 where
   pub value : A
   pub was : o ≡ Some value
   pub next : f value ≡ Some b
 
-before : {A B : Type 0} (f : A → Option B) (o : Option A) (b : B) → option_and_then f o ≡ Some b → Before f o b
+pub before : {A B : Type 0} (f : A → Option B) (o : Option A) (b : B) → option_and_then f o ≡ Some b → Before f o b
 before f None b is = absurd cc
 before f (Some a) b is = record { value = a; was = refl; next = is }
 
--- the first pages of a program, up to this many, are so
+-- with the first pages of a program, up to this many
 abbrev pages_to : Program → ℕ → (ℕ → ℕ → List ℕ) → ℕ → ℕ → List ℕ
 pages_to p n plain resource page =
     if (resource == 0) && nat_lt page n then program_page p.bytes page else plain resource page

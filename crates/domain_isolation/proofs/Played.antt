@@ -36,12 +36,12 @@ answer_items d answers = map (answer_item d) answers
 asked_serving : {d : ℕ} (question : Question d) (w : World) → IsServing d w → IsServing d (asked question w).world
 asked_serving question w s =
     let r = (question_answered question w s.form).replied in
-    record { form = r.form ∙ s.form; view = ap (λ (view : _). view.domain) r.view ∙ s.view }
+    record { form = r.form ∙ s.form; regime = ap (λ (regime : _). regime.domain) r.regime ∙ s.regime }
 
 changed_serving : {d : ℕ} (change : Change d) (w : World) → IsServing d w → IsServing d (changed change w).world
 changed_serving change w s =
     let r = change_leaves change w s.form in
-    record { form = r.form ∙ s.form; view = ap (λ (view : _). view.domain) r.view ∙ s.view }
+    record { form = r.form ∙ s.form; regime = ap (λ (regime : _). regime.domain) r.regime ∙ s.regime }
 
 pub played_serving : {d : ℕ} {A : Type 0} (s : Script d A) (w : World) → IsServing d w → IsServing d (played s w).world
 unfolding ask_read
@@ -64,7 +64,7 @@ played_items {d} (Asks question more) w serving e =
     let rest = answer_items d (answers_of (more t.answer) t.world) in
     played_items (more t.answer) t.world (asked_serving question w serving) e
     ∙ ap (λ (l : List Item). l ++ inward_half e rest)
-    (r.items e ∙ ap (λ (n : ℕ). inward_half e (items_of w) ++ inward_half e (answer_item n t.answer ∷ [])) serving.view)
+    (r.items e ∙ ap (λ (n : ℕ). inward_half e (items_of w) ++ inward_half e (answer_item n t.answer ∷ [])) serving.regime)
     ∙ append_assoc (inward_half e (items_of w)) (inward_half e (answer_item d t.answer ∷ [])) (inward_half e rest)
     ∙ ap (λ (l : List Item). inward_half e (items_of w) ++ l)
     (sym (filter-append (is_inward e) (answer_item d t.answer ∷ []) rest))
@@ -130,7 +130,7 @@ stopped_by e question more w serving stops true is later next any =
     ((question_answered question w serving.form).replied.stops stop)
 stopped_by e question more w serving stops false is later next any = next any
 
--- with an answer that stops, the script was stopped, and the run is to stop
+-- with an answer that stops, the script was stopped, and the run must stop
 pub played_stopped : {d : ℕ} {A : Type 0} (e : Ending A) (s : Script d A) (w : World) → EndsSo e s → IsServing d w →
     list_any is_stopped (answers_of s w) ≡ true → Halts e (played s w)
 unfolding EndsSo ask_read
@@ -214,7 +214,7 @@ played_alone {d} (Changes change more) w serving rest =
     (change_same change w (answers_of more (changed change w).world ++ rest) serving.form)
     ∙ played_alone more (changed change w).world (changed_serving change w serving) rest
 
--- from where no answer was left
+-- from a world in which no answer was left
 played_stuck : {d : ℕ} {A : Type 0} (s : Script d A) (w : World) → IsStuck w → IsStuck (played s w).world
 unfolding ask_read
 played_stuck (Gives a) w stuck = stuck

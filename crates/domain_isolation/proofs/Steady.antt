@@ -1,4 +1,4 @@
--- What the joint machine's questions of a program leave: the newest bytes of each page, the view, and what each
+-- What the joint machine's questions of a program leave: the newest bytes of each page, the regime, and what each
 -- program was told; and what an answer adds to that.
 use Rattle.std.proofs.Common.{sym, ◌≡◌, ◌∙◌, true, false, cond, zero, suc, ◌+◌, ℕ, Bool, List, [], ◌∷◌, ◌++◌, Option, Some, None, Result, Ok, Err, refl, ap, append-nil, if◌then◌else◌}
 use Rattle.std.specs.Prelude.{is_some, ◌||◌}
@@ -19,11 +19,12 @@ use Rattle.cloak_base.specs.Constants.{frame_of}
 use Rattle.cloak_model.specs.Ledger.{vector_of}
 use Rattle.cloak_model.specs.Halves.{is_inward, inward_half}
 use Rattle.cloak_model.specs.Cloaking.{CloakedMemory, AfterSettling, AfterOffer, Offer, Ready, Mismatch, Missed, settle, settle_if, settle_owed, settle_frame_if, owing_frame, owes, owed_in, compared, unless_missed, offer}
-use Rattle.cloak_model.specs.World.{World, Flat, Cloaked, Alone, plain_of, view_of, items_of, violation_of, is_missed, noted, stored_at, settled, written, cipher_items}
+use Rattle.cloak_model.specs.World.{World, Flat, Cloaked, Alone, plain_of, regime_of, items_of, violation_of, is_missed, noted, stored_at, settled, written, cipher_items}
 use Rattle.cloak_model.specs.Asking.{Told, Asking}
 use Rattle.cloak_model.specs.Walk.{Walk, FirstWord, Ends, GoesOn, first_entry}
 use Rattle.cloak_model.specs.Ask.{ask_word, ask_second, ask_after, ask_first, ask_walk, ask_inside, ask_translate, ask_led, opened}
 use Rattle.cloak_model.specs.AskPages.{answer_item, is_store, inside_access, replies, if_drawn, ask_inside_address, offered_by, ask_offer, reached, reach_by_table, get_at, got, get_by_table, put_at, stored_inside, put_by_table, settled_if_marked, clear_from}
+use Rattle.cloak_model.proofs.Clashes.{either}
 
 abbrev pub is_cloaked : World → Bool
 is_cloaked (Flat ram) = false
@@ -50,10 +51,6 @@ settle_plain f m = settle_if_plain f (owed_in m f) m
 settle_frame_if_plain : (f : Option ℕ) (m : CloakedMemory) → (settle_frame_if f m).memory.plain ≡ m.plain
 settle_frame_if_plain None m = refl
 settle_frame_if_plain (Some f) m = settle_plain f m
-
-either : {A : Type 0} (P : A → Type 0) (b : Bool) (x y : A) → P x → P y → P (if b then x else y)
-either P true x y here there = here
-either P false x y here there = there
 
 compared_plain : (q : PageId) (g : ℕ) (write : Bool) (recorded : Option (List ℕ)) (m : CloakedMemory) →
     (compared q g write recorded m).memory.plain ≡ m.plain
@@ -151,19 +148,19 @@ ciphers_told d items ciphers =
 -- What a question leaves before its answer.
 pub record Steady (w v : World) : Type 0 where
   pub plain : plain_of v ≡ plain_of w
-  pub view : view_of v ≡ view_of w
+  pub regime : regime_of v ≡ regime_of w
   pub form : is_cloaked v ≡ is_cloaked w
   pub items : (d : ℕ) → inward_half d (items_of v) ≡ inward_half d (items_of w)
   pub violation : violation_of v ≡ violation_of w
 
 pub Steady-refl : (w : World) → Steady w w
-Steady-refl w = record { plain = refl; view = refl; form = refl; items = λ d. refl; violation = refl }
+Steady-refl w = record { plain = refl; regime = refl; form = refl; items = λ d. refl; violation = refl }
 
 pub Steady-trans : (u v w : World) → Steady u v → Steady v w → Steady u w
 Steady-trans u v w p q =
     record {
       plain = q.plain ∙ p.plain;
-      view = q.view ∙ p.view;
+      regime = q.regime ∙ p.regime;
       form = q.form ∙ p.form;
       items = λ d. q.items d
           ∙ p.items d;
@@ -180,7 +177,7 @@ Steady-settled f (Flat ram) = Steady-refl (Flat ram)
 Steady-settled f (Cloaked c) =
     record {
       plain = settle_plain f c.memory;
-      view = refl;
+      regime = refl;
       form = refl;
       items = λ d. ciphers_told d c.items
           (settle f c.memory).ciphers;
@@ -190,22 +187,22 @@ Steady-settled f (Alone h) = Steady-refl (Alone h)
 
 Steady-noted : (events : List Event) (w : World) → Steady w (noted events w)
 Steady-noted events (Flat ram) = Steady-refl (Flat ram)
-Steady-noted events (Cloaked c) = record { plain = refl; view = refl; form = refl; items = λ d. refl; violation = refl }
+Steady-noted events (Cloaked c) = record { plain = refl; regime = refl; form = refl; items = λ d. refl; violation = refl }
 Steady-noted events (Alone h) = Steady-refl (Alone h)
 
 Steady-opened : (satp : ℕ) (a : Access) (pa : ℕ) (w : World) → Steady w (opened satp a pa w)
 Steady-opened satp a pa w = Steady-trans _ _ _ (Steady-settled (frame_of pa) w) (Steady-noted _ _)
 
 Steady-stored_at : (pa width value : ℕ) (w : World) → Steady w (stored_at pa width value w)
-Steady-stored_at pa width value (Flat ram) = record { plain = refl; view = refl; form = refl; items = λ d. refl; violation = refl }
-Steady-stored_at pa width value (Cloaked c) = record { plain = refl; view = refl; form = refl; items = λ d. refl; violation = refl }
+Steady-stored_at pa width value (Flat ram) = record { plain = refl; regime = refl; form = refl; items = λ d. refl; violation = refl }
+Steady-stored_at pa width value (Cloaked c) = record { plain = refl; regime = refl; form = refl; items = λ d. refl; violation = refl }
 Steady-stored_at pa width value (Alone h) = Steady-refl (Alone h)
 
 Steady-written : (i : Item) (w : World) → ((d : ℕ) → is_inward d i ≡ false) → Steady w (written i w)
 Steady-written i (Flat ram) outward = Steady-refl (Flat ram)
 Steady-written i (Cloaked c) outward = record {
   plain = refl;
-  view = refl;
+  regime = refl;
   form = refl;
   items = λ d.
       filter-append (is_inward d) c.items (i ∷ [])
@@ -260,22 +257,22 @@ is_halted w = is_missed w || is_some (violation_of w)
 -- What a question leaves with its answer.
 pub record Replied (w : World) (t : Told Answer) : Type 0 where
   pub plain : plain_of t.world ≡ plain_of w
-  pub view : view_of t.world ≡ view_of w
+  pub regime : regime_of t.world ≡ regime_of w
   pub form : is_cloaked t.world ≡ is_cloaked w
   pub items : (d : ℕ) → inward_half d (items_of t.world) ≡ inward_half d (items_of w) ++ inward_half d
-      (answer_item (view_of w).domain t.answer ∷ [])
+      (answer_item (regime_of w).domain t.answer ∷ [])
   pub stops : t.answer ≡ told.Stopped → is_halted t.world ≡ true
-  -- where the kernel presented what is not recorded, the answer says so
+  -- if the kernel presented what is not recorded, the answer says so
   pub meets : violation_of w ≡ None → is_some (violation_of t.world) ≡ true → t.answer ≡ told.Stopped
 
 replied_after : (u v : World) (t : Told Answer) → Steady u v → Replied v t → Replied u t
 replied_after u v t s r = record {
   plain = r.plain ∙ s.plain;
-  view = r.view ∙ s.view;
+  regime = r.regime ∙ s.regime;
   form = r.form ∙ s.form;
   items = λ d.
-      r.items d ∙ ap (λ (l : List Item). l ++ inward_half d (answer_item (view_of v).domain t.answer ∷ [])) (s.items d)
-      ∙ ap (λ (view : _). inward_half d (items_of u) ++ inward_half d (answer_item view.domain t.answer ∷ [])) s.view;
+      r.items d ∙ ap (λ (l : List Item). l ++ inward_half d (answer_item (regime_of v).domain t.answer ∷ [])) (s.items d)
+      ∙ ap (λ (regime : _). inward_half d (items_of u) ++ inward_half d (answer_item regime.domain t.answer ∷ [])) s.regime;
   stops = r.stops;
   meets = λ none some. r.meets (s.violation ∙ none) some;
 }
@@ -286,9 +283,9 @@ unfolding replies
 replied a (Flat ram) cloaked halted = absurd (false≢true cloaked)
 replied a (Cloaked c) cloaked halted = record {
   plain = refl;
-  view = refl;
+  regime = refl;
   form = refl;
-  items = λ d. filter-append (is_inward d) c.items (answer_item c.view.domain a ∷ []);
+  items = λ d. filter-append (is_inward d) c.items (answer_item c.regime.domain a ∷ []);
   stops = halted;
   meets = λ none some. absurd (false≢true (sym (ap is_some none) ∙ some));
 }
@@ -322,7 +319,7 @@ replied_offered q va kind g Mismatch (Cloaked c) cloaked marked =
     (λ e. violation_halted c.memory.ledger.missed) in
     record {
       plain = r.plain;
-      view = r.view;
+      regime = r.regime;
       form = r.form;
       items = r.items;
       stops = r.stops;
@@ -343,7 +340,7 @@ replied_offer q va kind g (Cloaked c) cloaked =
     replied_after (Cloaked c) (Cloaked _) _
     (record {
       plain = offer_plain q g (is_store kind) c.memory;
-      view = refl;
+      regime = refl;
       form = refl;
       items = λ d.
           ciphers_told d c.items o.ciphers;
@@ -377,7 +374,7 @@ replied_got : (va width : ℕ) (to : Result ℕ ℕ) (w : World) → is_cloaked 
 unfolding got
 replied_got va width (Err cause) w cloaked = replied (told.Absent cause) w cloaked (λ e. absurd cc)
 replied_got va width (Ok pa) w cloaked =
-    let v = opened (view_of w).satp (inside_access w va Load) pa w in
+    let v = opened (regime_of w).satp (inside_access w va Load) pa w in
     let steady = Steady-opened _ _ pa w in
     let cloaked' : is_cloaked v ≡ true = steady.form ∙ cloaked in
     replied_after w _ _ steady (replied_drawn (get_at pa width) _ cloaked' (replied_get_at pa width _ cloaked'))
@@ -402,7 +399,7 @@ replied_stored : (va width value : ℕ) (to : Result ℕ ℕ) (w : World) → is
 unfolding stored_inside
 replied_stored va width value (Err cause) w cloaked = replied (told.Absent cause) w cloaked (λ e. absurd cc)
 replied_stored va width value (Ok pa) w cloaked =
-    let v = opened (view_of w).satp (inside_access w va Store) pa w in
+    let v = opened (regime_of w).satp (inside_access w va Store) pa w in
     let steady = Steady-opened _ _ pa w in
     let cloaked' : is_cloaked v ≡ true = steady.form ∙ cloaked in
     replied_after w _ _ steady (replied_drawn (put_at pa width value) _ cloaked'

@@ -266,7 +266,7 @@ unfolding instruction_ended_scripted IsStop
 stopped_instruction slot d c P implies ran.Stopped is = refl
 stopped_instruction slot d c P implies e is = absurd cc
 
--- A write, behind an end.
+-- A write, after an end.
 
 moves_written : (slot : ℕ) (d : Domain) (wrote : Option WordPlace) (s : steps.DomainStepped) →
     (of_domain slot d).each s → (of_domain slot d).each (steps.after_write wrote s)

@@ -6,12 +6,12 @@
 //! reach a program by its inward items alone. The laws hold of every beginning (`specs/Beginning`), whatever its files
 //! hold.
 //!
-//! No body turns a law, so there is no wrong body to refuse here. These changed definitions were tried on a copy, and
+//! No body changes a law, so there is no wrong body to refuse here. These changed definitions were tried on a copy, and
 //! with none of them did the proofs go through. Of the joint machine: the timer is told to program 0; a resuming tells
-//! another answer than the context takes; a context that leaves stays marked as running; a hart that resumes a context
-//! stays outside; a step that met a violation goes on; a copy of pages goes to program 0; a load of memory that is not
-//! the program's own is told more than its bytes. Of the program alone: its pages begin as zeros; its turns go by the
-//! next hart.
+//! an answer other than the one that the context takes; a context that leaves stays marked as running; a hart that
+//! resumes a context stays outside; a step that met a violation goes on; a copy of pages goes to program 0; a load of
+//! memory that is not the program's own is told more than its bytes. Of the program alone: its pages begin as zeros;
+//! its turns go by the next hart.
 #![tactic(auto)]
 
 ghost use Rattle.domain_isolation.specs.Isolation.{DomainDependsOnHalf, DomainEndsAlone, DomainIsAlone, InwardHalfSuffices};

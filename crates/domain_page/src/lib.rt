@@ -16,6 +16,6 @@ mod region_list;
 mod unread;
 mod writing;
 
-pub use program::Program;
+pub use program::ProgramParts;
 pub use reading::read_page;
 pub use writing::write_page;

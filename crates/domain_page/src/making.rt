@@ -34,7 +34,7 @@ fn may_own(r: &Resources, owner: Owner) -> bool
     }
 }
 
-/// The resource can be put beside others with so many pages.
+/// The resource can be put beside others that have this many pages.
 fn can_put(r: &Resources, held: &Resource, pages: u32) -> bool
     requires pages { pages ≡ spec.all_pages r.now }
     requires few { pages ≤ 1024 }

@@ -3,7 +3,7 @@ use thread_context::Contexts;
 
 /// Contexts and resources of a program.
 #[derive(Drop)]
-pub struct Program {
+pub struct ProgramParts {
     pub contexts: Contexts,
     pub resources: Resources,
 }

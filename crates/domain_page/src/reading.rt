@@ -9,7 +9,7 @@ ghost use Rattle.domain_page.specs.Writing.{IsOnHart};
 
 use crate::limits::{are_slots, file_words, slot_words, spaces_apart};
 use crate::making::resources_of;
-use crate::program::Program;
+use crate::program::ProgramParts;
 use crate::region_list::RegionList;
 use crate::unread::Unread;
 use crate::writing::write_page;
@@ -66,14 +66,14 @@ fn have_page(contexts: &Contexts, resources: &Resources, b: &[u8; 4096]) -> bool
 
 /// Contexts and resources of the one program with this page, none exactly if there is no such program that keeps its
 /// limits.
-pub fn read_page(b: &[u8; 4096]) -> Option<Program>
+pub fn read_page(b: &[u8; 4096]) -> Option<ProgramParts>
     ensures { MatchOption result (IsNoPage b.now) (λ p. IsRead b.now p.contexts p.resources) }
 {
     let parts = parts_of(b);
     let resources = resources_of(&parts.held, &parts.spaces)?;
     let contexts = Contexts::of(parts.slots);
     if keep_limits(&contexts, &resources) && have_page(&contexts, &resources, b) {
-        Some(Program {
+        Some(ProgramParts {
             contexts,
             resources,
         })

@@ -10,7 +10,7 @@ use cloak_model::Item;
 /// The most bytes of an item: a tag, a frame and its page.
 pub const LONGEST: usize = 4101;
 
-/// Writes these bytes behind the first `at`, and answers where they end.
+/// Writes these bytes after the first `at`, and returns where they end.
 fn write_behind(into: &mut [u8; LONGEST], at: usize, bytes: &[u8]) -> usize
     requires { at + length bytes.now ≤ LONGEST }
     ensures end { result ≡ at + length bytes.now }
@@ -21,7 +21,7 @@ fn write_behind(into: &mut [u8; LONGEST], at: usize, bytes: &[u8]) -> usize
     end
 }
 
-/// Writes these bytes to the front, and answers how many they are.
+/// Writes these bytes to the front, and returns how many they are.
 fn write_front(into: &mut [u8; LONGEST], bytes: &[u8]) -> usize
     requires { length bytes.now ≤ LONGEST }
     ensures count { result ≡ length bytes.now }
@@ -30,7 +30,7 @@ fn write_front(into: &mut [u8; LONGEST], bytes: &[u8]) -> usize
     write_behind(into, 0, bytes)
 }
 
-/// Writes the bytes of a Cipher, and answers how many they are.
+/// Writes the bytes of a Cipher, and returns how many they are.
 #[tactic(auto, unfolding(cloak_model::specs::Exchange::item_bytes))]
 pub fn write_cipher(frame: u32, bytes: &[u8; 4096], into: &mut [u8; LONGEST]) -> usize
     ensures few { result ≤ LONGEST }
@@ -41,7 +41,7 @@ pub fn write_cipher(frame: u32, bytes: &[u8; 4096], into: &mut [u8; LONGEST]) ->
     write_behind(into, end, bytes)
 }
 
-/// Writes these words behind the first `at`, and answers where they end.
+/// Writes these words after the first `at` bytes, and returns where they end.
 fn write_words(into: &mut [u8; LONGEST], at: usize, words: &[u32]) -> usize
     requires { at + 4 * length words.now ≤ LONGEST }
     ensures end { result ≡ at + 4 * length words.now }
@@ -54,7 +54,7 @@ fn write_words(into: &mut [u8; LONGEST], at: usize, words: &[u32]) -> usize
     end
 }
 
-/// Writes the bytes of a Leave, and answers how many they are.
+/// Writes the bytes of a Leave, and returns how many they are.
 #[tactic(auto, unfolding(cloak_model::specs::Exchange::item_bytes))]
 fn write_leave(s: &Shown, into: &mut [u8; LONGEST]) -> usize
     ensures few { result ≤ LONGEST }
@@ -94,7 +94,7 @@ pub fn word_bytes(domain: u8, value: u32) -> [u8; 6]
     [0x22, domain, a, b, c, d]
 }
 
-/// Writes the bytes of an item, and answers how many they are.
+/// Writes the bytes of an item, and returns how many they are.
 #[tactic(auto, unfolding(cloak_model::specs::Exchange::item_bytes))]
 pub fn write_item(i: &Item, into: &mut [u8; LONGEST]) -> usize
     ensures few { result ≤ LONGEST }

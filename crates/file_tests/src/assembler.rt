@@ -267,8 +267,8 @@ fn long(alloc: Global, first: &str, count: u32, last: &str) -> Result<String, Al
     Ok(text)
 }
 
-/// Lines around so many others, and a word of them with its place: a branch reaches 4092 bytes ahead and 4096 back. AUIPC x6,
-/// 1 and ADDI x6, x6, -1688 are 2408 ahead; AUIPC x7, -1 and ADDI x7, x7, 1688 as many back.
+/// Lines around this many others, and a word of them with its place: a branch reaches 4092 bytes ahead and 4096 back.
+/// AUIPC x6, 1 and ADDI x6, x6, -1688 are 2408 ahead; AUIPC x7, -1 and ADDI x7, x7, 1688 as many back.
 static REACHING: [(&str, u32, &str, usize, u32); 6] = [
     ("beq x0, x0, a\n", 1022, "a:", 0, 0x7e00_0ee3),
     ("a:\n", 1024, "beq x0, x0, a", 1024, 0x8000_0063),
@@ -288,7 +288,7 @@ fn reaches_so_far(rt: HostRuntime) -> Result<(), Fail> {
     Ok(())
 }
 
-/// Lines around so many others, with the line that does not reach its label.
+/// Lines around this many others, with the line that does not reach its label.
 static TOO_FAR: [(&str, u32, &str, u32); 2] = [
     ("beq x0, x0, a\n", 1023, "a:", 1),
     ("a:\n", 1025, "beq x0, x0, a", 1027),

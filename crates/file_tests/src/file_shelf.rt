@@ -2,10 +2,11 @@
 
 use crate::checks::{holds, same};
 use cloak_base::Failed;
-use outside_io::{FileShelf, Shelf};
+use io_traits::Shelf;
 use std::fs;
 use std::rt::Files;
 use std::test::Fail;
+use system_io::FileShelf;
 
 /// Two files by turns, the first of which had more bytes before it was begun.
 #[test]
@@ -111,7 +112,7 @@ fn done(answer: Result<(), Failed>) -> Option<u64> {
     }
 }
 
-/// What a call answers, if it does not fail.
+/// What a call returns, if it does not fail.
 fn answer<R: Files + Drop>(shelf: &mut FileShelf<R>, call: Call, name: &str) -> Option<u64> {
     match call {
         Call::Begin => done(shelf.begin(name)),
@@ -132,8 +133,9 @@ const FOLDER: &str = ".";
 
 const FULL: &str = "/dev/full";
 
-/// Calls, and what each answers. A name that is missing is empty, and a folder a fault. A fault of writing is answered
-/// by the call that meets it, also by one that reads. What is gathered is not lost by it: else the next one would be well.
+/// Calls, and what each returns. A name that is missing is empty, and a folder is a fault. A fault of writing is
+/// returned by the call that meets it, even by one that reads. What is gathered is not lost by it: otherwise the next
+/// call would succeed.
 static CALLS: [(Call, &str, Option<u64>); 17] = [
     (Call::Size, MISSING, Some(0)),
     (Call::Read, MISSING, Some(0)),

@@ -1,7 +1,7 @@
 //! Files in memory.
 
 use crate::checks::same;
-use outside_io::{MemoryShelf, Shelf};
+use io_traits::{MemoryShelf, Shelf};
 use std::test::Fail;
 
 /// With ample memory only the call fails whose number is in the list.

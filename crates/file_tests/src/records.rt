@@ -4,11 +4,11 @@ use crate::checks::{holds, same};
 use cloak_base::Shown;
 use cloak_model::{Item, RecordFault};
 use exchange_log::{LONGEST, write_item};
-use outside_io::{MemoryShelf, Shelf};
+use io_traits::{MemoryShelf, Shelf};
 use record_reader::{KeptItems, NextFault, Reader};
 use std::test::*;
 
-/// How many items are read, and what comes behind them.
+/// How many items are read, and what comes after them.
 fn read_on(shelf: &mut MemoryShelf, reader: &mut Reader<'_>) -> (usize, Result<(), NextFault>) {
     let mut kept = KeptItems::new();
     for count in 0..100 {
@@ -154,7 +154,7 @@ fn damaged_files(rt: HostRuntime) -> Result<(), Fail> {
 }
 
 /// The Nth call on the shelf fails, and how many items were read before. Then the reader goes on. A piece of the file is
-/// read by a call for its bytes and one that finds its end: from the magic on, from Close, from End, and behind it.
+/// read by a call for its bytes and one that finds its end: from the magic on, from Close, from End, and after it.
 #[test]
 fn failing_calls(rt: HostRuntime) -> Result<(), Fail> {
     for (call, count) in [(1, 0), (2, 0), (3, 0), (4, 0), (5, 1), (6, 1), (7, 2)] {

@@ -1,12 +1,13 @@
 //! An output whose calls fail.
 
 use crate::checks::same;
-use outside_io::{Sink, StdSink, put_all};
+use io_traits::{Sink, put_all};
 use std::cell::Cell;
 use std::fmt::Display;
 use std::io;
 use std::io::{Error, ErrorKind};
 use std::test::Fail;
+use system_io::StdSink;
 
 /// Shows two bytes a call, and fails at the second call.
 #[derive(Drop)]
@@ -71,7 +72,7 @@ fn a_line_shows_at_its_end(rt: HostRuntime) -> Result<(), Fail> {
     Ok(())
 }
 
-/// Puts a piece, or writes out what is gathered where it is empty, and says whether that was done.
+/// Puts a piece, or writes out what is gathered if the piece is empty, and says whether that was done.
 fn is_done<P: Print + Drop>(sink: &mut StdSink<P>, piece: &str) -> bool {
     if piece.is_empty() {
         sink.flush().is_ok()
@@ -80,7 +81,7 @@ fn is_done<P: Print + Drop>(sink: &mut StdSink<P>, piece: &str) -> bool {
     }
 }
 
-/// A fault behind the front of a piece is answered by the next call, and one at `flush` by it.
+/// A fault after the front of a piece is returned by the next call, and one at `flush` by `flush` itself.
 #[test]
 fn a_piece_is_taken_up_to_a_fault(rt: HostRuntime) -> Result<(), Fail> {
     for next in ["c\n", ""] {
@@ -105,7 +106,7 @@ fn a_piece_is_taken_up_to_a_fault(rt: HostRuntime) -> Result<(), Fail> {
     Ok(())
 }
 
-/// A piece that is too long to be gathered stands behind what is gathered, and both meet their faults.
+/// A piece that is too long to be gathered stands after what is gathered, and both meet their faults.
 #[test]
 fn a_long_piece_stands_behind_what_is_gathered(rt: HostRuntime) -> Result<(), Fail> {
     let calls = Cell::new(0);
@@ -117,7 +118,7 @@ fn a_long_piece_stands_behind_what_is_gathered(rt: HostRuntime) -> Result<(), Fa
     let mut sink = StdSink::open((screen, rt.alloc()))?;
     let long = vec![in rt.alloc(); b'x'; 70_000]?;
     sink.put(b"ab")?;
-    // So many calls were before, and the second one fails.
+    // This many calls were made before, and the second one fails.
     for (before, taken) in [(1, None), (0, None), (0, Some(2)), (2, None)] {
         calls.set(before);
         same(&rt, &sink.put(&long).ok(), &taken, before);

@@ -1,7 +1,7 @@
 //! Random bytes.
 
 use crate::checks::same;
-use outside_io::Stream;
+use io_traits::Stream;
 
 /// The key stream of ChaCha20 for the zero key, nonce and counter (RFC 8439, appendix A.1, vector 1).
 #[test]

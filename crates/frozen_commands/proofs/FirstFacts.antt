@@ -11,8 +11,8 @@ use Rattle.cloak_model.specs.Joint.{Moment}
 use Rattle.cloak_model.specs.Opening.{Opened}
 use Rattle.cloak_model.specs.Run.{Run, closing, first_moment, last_stop, run_of, turns_from}
 use Rattle.frozen_state.specs.Continuing.{first_pieces}
-use Rattle.program_parts.specs.declared.status.Status.{Status}
-use Rattle.program_parts.specs.declared.status.Status.TheVariants as status
+use Rattle.command_parts.specs.declared.status.Status.{Status}
+use Rattle.command_parts.specs.declared.status.Status.TheVariants as status
 use Rattle.run_command.specs.Running.{BeginsRun, EndsRun}
 use Rattle.run_command.proofs.RunFacts.{writes-front, writes-whole}
 use Rattle.frozen_commands.specs.declared.first.First.TheVariants as first

@@ -1,4 +1,4 @@
--- What `freeze` answers, by what was written.
+-- What `freeze` returns, by what was written.
 use Rattle.std.proofs.Common.{◌≡◌, ◌<◌, ◌≤◌, ◌-◌, ◌^◌, ◌∙◌, ◌⊎◌, ℕ, Bool, true, false, List, [], ◌++◌, length, take, refl, sym, ap, subst, inl, inr, Option, Some, None, Result, Ok, OnErr, is_err}
 use Rattle.std.specs.Prelude.{◌≢◌}
 use Rattle.std.specs.Result.{result_map_both}
@@ -15,19 +15,19 @@ use Rattle.command_words.specs.Command as spec
 use Rattle.frozen_state.specs.declared.frozen.Frozen.{Frozen}
 use Rattle.frozen_state.specs.Continuing.{first_pieces}
 use Rattle.frozen_state.specs.FrozenState.{frozen_bytes, frozen_of}
-use Rattle.outside_io.specs.Told.{Counts, Grows, OtherFiles, SameFiles, Tells}
-use Rattle.outside_io.proofs.ToldFacts.{Grows-append, Grows-none, Rose-after}
-use Rattle.program_parts.specs.declared.refusal.Refusal.{Refusal}
-use Rattle.program_parts.specs.declared.refusal.Refusal.TheVariants as refusal
-use Rattle.program_parts.specs.declared.status.Status.{Status}
-use Rattle.program_parts.specs.declared.status.Status.TheVariants as status
-use Rattle.program_parts.specs.Files.{TellsFront}
-use Rattle.program_parts.specs.Freezing.{FreezeSources}
-use Rattle.program_parts.specs.NoRun.{IsRefused, NoRun}
-use Rattle.program_parts.specs.Outside.{FilesOutside, NothingRose, OnlyRead, Output, Outside}
-use Rattle.program_parts.specs.Refusal.{status_of_refusal}
-use Rattle.program_parts.specs.Refusing.{Refuses}
-use Rattle.program_parts.proofs.FaultFacts.{raised, risen}
+use Rattle.io_traits.specs.Told.{Counts, Grows, OtherFiles, SameFiles, Tells}
+use Rattle.io_traits.proofs.ToldFacts.{Grows-append, Grows-none, Rose-after}
+use Rattle.command_parts.specs.declared.refusal.Refusal.{Refusal}
+use Rattle.command_parts.specs.declared.refusal.Refusal.TheVariants as refusal
+use Rattle.command_parts.specs.declared.status.Status.{Status}
+use Rattle.command_parts.specs.declared.status.Status.TheVariants as status
+use Rattle.command_parts.specs.Files.{TellsFront}
+use Rattle.command_parts.specs.Freezing.{FreezeSources}
+use Rattle.command_parts.specs.NoRun.{IsRefused, NoRun}
+use Rattle.command_parts.specs.Outside.{FilesOutside, NothingRose, OnlyRead, Output, Outside}
+use Rattle.command_parts.specs.Refusal.{status_of_refusal}
+use Rattle.command_parts.specs.Refusing.{Refuses}
+use Rattle.command_parts.proofs.FaultFacts.{raised, risen}
 use Rattle.run_command.specs.Outlet.{WroteAll, WroteFront, pieces_left}
 use Rattle.run_command.specs.Recording.{GrowsSome}
 use Rattle.run_command.specs.Running.{IsStatusOfStop, NoClashYet, run_status, status_of, unless_refused}

@@ -9,7 +9,7 @@ use Rattle.frozen_state.specs.declared.fault.FrozenFault.{FrozenFault}
 use Rattle.frozen_state.specs.declared.fault.FrozenFault.TheVariants.{Form}
 use Rattle.frozen_state.specs.declared.frozen.Frozen.{Frozen}
 use Rattle.frozen_state.specs.FrozenFault.{frozen_fault}
-use Rattle.program_parts.specs.Thawing.{SpellsState, largest_state, state_fault}
+use Rattle.command_parts.specs.Thawing.{SpellsState, largest_state, state_fault}
 use Rattle.frozen_commands.specs.Thawing.{IsStateFront}
 
 -- a file that is too long

@@ -1,7 +1,7 @@
 -- Why no run is frozen, and why none goes on.
 use Rattle.std.proofs.Common.{◌≡◌, ◌<◌, ◌≤◌, ◌+◌, ℕ, List, Option, Err, refl, subst, inl, inr}
 use Rattle.sha2.specs.Sha256.{sha256}
-use Rattle.outside_io.specs.Told.{SameFiles}
+use Rattle.io_traits.specs.Told.{SameFiles}
 use Rattle.cloak_base.specs.Random.{Random}
 use Rattle.cloak_model.specs.declared.image.Bundle.{Bundle}
 use Rattle.cloak_model.specs.Opening.{Lack, opening}
@@ -12,14 +12,14 @@ use Rattle.frozen_state.specs.declared.frozen.Frozen.{Frozen}
 use Rattle.joint_machine.specs.declared.thaw_fault.ThawFault.{ThawFault}
 use Rattle.joint_machine.specs.declared.thaw_fault.ThawFault.TheVariants as fault
 use Rattle.joint_machine.specs.Thawing.{IsThawFault}
-use Rattle.program_parts.specs.declared.refusal.Refusal.{Refusal}
-use Rattle.program_parts.specs.declared.refusal.Refusal.TheVariants as refusal
-use Rattle.program_parts.specs.Bundles.{IsInFileAs}
-use Rattle.program_parts.specs.Freezing.{AsksFrozen, FreezeSources, IsFreezeLack}
-use Rattle.program_parts.specs.NoRun.{NoRun}
-use Rattle.program_parts.specs.Outside.{FilesOutside}
-use Rattle.program_parts.specs.Streams.{IsStream}
-use Rattle.program_parts.specs.Thawing.{AsksThawed, SpellsState, ThawSources}
+use Rattle.command_parts.specs.declared.refusal.Refusal.{Refusal}
+use Rattle.command_parts.specs.declared.refusal.Refusal.TheVariants as refusal
+use Rattle.command_parts.specs.Bundles.{IsInFileAs}
+use Rattle.command_parts.specs.Freezing.{AsksFrozen, FreezeSources, IsFreezeLack}
+use Rattle.command_parts.specs.NoRun.{NoRun}
+use Rattle.command_parts.specs.Outside.{FilesOutside}
+use Rattle.command_parts.specs.Streams.{IsStream}
+use Rattle.command_parts.specs.Thawing.{AsksThawed, SpellsState, ThawSources}
 use Rattle.run_command.proofs.PrepareFacts.{stream_before}
 use Rattle.frozen_commands.specs.Thawing.{IsStateFront, JudgesState, refused_by}
 use Rattle.frozen_commands.proofs.JudgedFacts.{front_fault, front_spells}

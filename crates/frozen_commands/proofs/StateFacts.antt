@@ -23,13 +23,13 @@ use Rattle.frozen_state.specs.declared.room.FrozenRoom.{FrozenRoom}
 use Rattle.frozen_state.specs.FrozenState.{frozen_of}
 use Rattle.frozen_state.specs.Room.{IsRoomFor}
 use Rattle.frozen_state.specs.Thawing.{CanGoOn}
-use Rattle.item_law.specs.Writing.{IsOfBytes, IsStreamOfBytes}
+use Rattle.range_law.specs.Writing.{IsOfBytes, IsStreamOfBytes}
 use Rattle.joint_machine.specs.Freezing.{HasRoom}
 use Rattle.kernel_isolation.specs.Isolation.{joint_until}
-use Rattle.outside_io.specs.declared.shelf.Shelf as shelves
-use Rattle.program_parts.specs.declared.status.Status.{Status}
-use Rattle.program_parts.specs.Freezing.{FreezeSources}
-use Rattle.program_parts.specs.Outside.{Outside}
+use Rattle.io_traits.specs.declared.shelf.Shelf as shelves
+use Rattle.command_parts.specs.declared.status.Status.{Status}
+use Rattle.command_parts.specs.Freezing.{FreezeSources}
+use Rattle.command_parts.specs.Outside.{Outside}
 use Rattle.run_command.specs.Running.{NoClashYet, moment_behind}
 use Rattle.thaw_law.proofs.TwoParts.{runs_go_on}
 use Rattle.frozen_commands.specs.declared.freezing.Left.{Left}
@@ -37,7 +37,7 @@ use Rattle.frozen_commands.specs.FreezeAnswering.{IsState}
 use Rattle.frozen_commands.specs.Freezing.{IsLeft, is_stopped, last_joint}
 use Rattle.frozen_commands.specs.Saving.{LeavesState}
 
-none_left : (stopped : Option Stop) → is_some stopped ≡ false → stopped ≡ None
+pub none_left : (stopped : Option Stop) → is_some stopped ≡ false → stopped ≡ None
 none_left None is = refl
 none_left (Some cause) is = absurd (let clash : true ≡ false = is in cc)
 

@@ -1,4 +1,4 @@
--- What `thaw` answers, by what was written.
+-- What `thaw` returns, by what was written.
 use Rattle.std.proofs.Common.{◌≡◌, ◌<◌, ◌≤◌, ◌-◌, ◌^◌, ◌∙◌, ◌⊎◌, ℕ, Bool, true, false, List, [], refl, sym, subst, inl, inr, Option, Some, None, Result, OnErr, is_err}
 use Rattle.cloak_base.specs.declared.causes.Failed.{Failed}
 use Rattle.cloak_base.specs.declared.causes.Stop.{Stop}
@@ -10,18 +10,18 @@ use Rattle.cloak_model.specs.Exchange.{Piece, recorded, shown_bytes}
 use Rattle.cloak_model.specs.Parts.{Joint}
 use Rattle.command_words.specs.Command as spec
 use Rattle.frozen_state.specs.Continuing.{next_moment, run_on}
-use Rattle.outside_io.specs.Told.{Counts, OtherFiles, SameFiles, Tells}
-use Rattle.outside_io.proofs.ToldFacts.{Grows-none}
-use Rattle.program_parts.specs.declared.refusal.Refusal.{Refusal}
-use Rattle.program_parts.specs.declared.refusal.Refusal.TheVariants as refusal
-use Rattle.program_parts.specs.declared.status.Status.{Status}
-use Rattle.program_parts.specs.declared.status.Status.TheVariants as status
-use Rattle.program_parts.specs.NoRun.{IsRefused, NoRun}
-use Rattle.program_parts.specs.Outside.{FilesOutside, OnlyRead, Output, Outside}
-use Rattle.program_parts.specs.Refusal.{status_of_refusal}
-use Rattle.program_parts.specs.Refusing.{Refuses}
-use Rattle.program_parts.specs.Thawing.{ThawSources}
-use Rattle.program_parts.proofs.FaultFacts.{raised}
+use Rattle.io_traits.specs.Told.{Counts, OtherFiles, SameFiles, Tells}
+use Rattle.io_traits.proofs.ToldFacts.{Grows-none}
+use Rattle.command_parts.specs.declared.refusal.Refusal.{Refusal}
+use Rattle.command_parts.specs.declared.refusal.Refusal.TheVariants as refusal
+use Rattle.command_parts.specs.declared.status.Status.{Status}
+use Rattle.command_parts.specs.declared.status.Status.TheVariants as status
+use Rattle.command_parts.specs.NoRun.{IsRefused, NoRun}
+use Rattle.command_parts.specs.Outside.{FilesOutside, OnlyRead, Output, Outside}
+use Rattle.command_parts.specs.Refusal.{status_of_refusal}
+use Rattle.command_parts.specs.Refusing.{Refuses}
+use Rattle.command_parts.specs.Thawing.{ThawSources}
+use Rattle.command_parts.proofs.FaultFacts.{raised}
 use Rattle.run_command.specs.Outlet.{WroteAll, WroteFront, pieces_left}
 use Rattle.run_command.specs.Running.{IsStatusOfStop, NoClash, status_of}
 use Rattle.run_command.proofs.BegunFacts.{AreLow, Begun, at_pieces, fault_since, grows_from}

@@ -2,10 +2,10 @@
 use Rattle.std.proofs.Common.{◌≡◌, ◌∙◌, ◌⊎◌, ℕ, true, List, [], refl, inl, inr, Result, OnErr, is_err}
 use Rattle.cloak_base.specs.declared.causes.Failed.{Failed}
 use Rattle.cloak_model.specs.Exchange.{Piece, recorded_bytes}
-use Rattle.outside_io.specs.Told.{Counts, OtherFiles, Tells}
-use Rattle.outside_io.proofs.ToldFacts.{Rose-after, Tells_after}
-use Rattle.program_parts.specs.Outside.{FilesOutside, OnlyRead, Output, Outside}
-use Rattle.program_parts.proofs.FaultFacts.{failed, raised, risen}
+use Rattle.io_traits.specs.Told.{Counts, OtherFiles, Tells}
+use Rattle.io_traits.proofs.ToldFacts.{Rose-after, Tells_after}
+use Rattle.command_parts.specs.Outside.{FilesOutside, OnlyRead, Output, Outside}
+use Rattle.command_parts.proofs.FaultFacts.{failed, raised, risen}
 use Rattle.run_command.specs.Outlet.{WroteAll, WroteFront, pieces_left}
 use Rattle.run_command.proofs.BegunFacts.{AreLow, Begun, fault_since, grows_from}
 use Rattle.frozen_commands.specs.Writing.{BeginsNoRecord, HasWritten, IsCutOff}

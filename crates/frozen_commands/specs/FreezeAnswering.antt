@@ -1,7 +1,7 @@
--- What `freeze` answers, each status with its cause.
+-- What `freeze` returns, each status with its cause.
 use Rattle.std.specs.Prelude.{ℕ, ◌≡◌, ◌≢◌, ◌≤◌, ◌⊎◌, true, false, List, ◌++◌, length, take, Option, Some, None, Ok}
 use Rattle.sha2.specs.Sha256.{sha256}
-use Rattle.outside_io.specs.Told.{Tells, Grows, OtherFiles, SameFiles}
+use Rattle.io_traits.specs.Told.{Tells, Grows, OtherFiles, SameFiles}
 use Rattle.cloak_model.specs.Beginning.{Fresh}
 use Rattle.cloak_model.specs.Exchange.{recorded_bytes, shown_bytes}
 use Rattle.cloak_model.specs.Run.{Run, due, joint_run}
@@ -12,12 +12,12 @@ use Rattle.frozen_state.specs.Continuing.{first_pieces}
 use Rattle.frozen_state.specs.FrozenState.{frozen_bytes, frozen_of}
 use Rattle.frozen_state.specs.Ranges.{IsInRange}
 use Rattle.frozen_state.specs.Thawing.{CanGoOn}
-use Rattle.program_parts.specs.declared.status.Status.{Status}
-use Rattle.program_parts.specs.declared.status.Status.TheVariants as status
-use Rattle.program_parts.specs.Files.{TellsFront}
-use Rattle.program_parts.specs.Freezing.{AsksFrozen, FreezeSources}
-use Rattle.program_parts.specs.NoRun.{IsRefused, LineFailed}
-use Rattle.program_parts.specs.Outside.{FilesOutside, NothingRose, Outside, Raised}
+use Rattle.command_parts.specs.declared.status.Status.{Status}
+use Rattle.command_parts.specs.declared.status.Status.TheVariants as status
+use Rattle.command_parts.specs.Files.{TellsFront}
+use Rattle.command_parts.specs.Freezing.{AsksFrozen, FreezeSources}
+use Rattle.command_parts.specs.NoRun.{IsRefused, LineFailed}
+use Rattle.command_parts.specs.Outside.{FilesOutside, NothingRose, Outside, Raised}
 use Rattle.run_command.specs.Answering.{IsLawful}
 use Rattle.run_command.specs.Recording.{FailedSome, GrowsSome}
 use Rattle.run_command.specs.Running.{IsStatusOfStop, NoClashYet, run_status}
@@ -149,7 +149,7 @@ pub record FreezingBrokeOff {S O : Type 0} (asked : spec.Asked) (before after : 
   pub reading : after.files.reading ≡ before.files.reading
   pub fault : FailedSome Raised before after
 
--- What each status says. Its causes exclude each other; only want of memory may stand in the place of another, before
+-- What each status says. The causes exclude each other; only want of memory may be returned instead of another, before
 -- anything is written.
 abbrev pub FreezeAnswers : {S O : Type 0} → spec.Asked → Outside S O → Outside S O → Status → Type 0
 FreezeAnswers asked before after status.Done = HasEnded asked status.Done before after
@@ -182,7 +182,7 @@ KeepsFrozenFiles names status.Frozen held held' = OtherThanFrozen names held hel
 KeepsFrozenFiles names status.WriteFault held held' = OtherThanFrozen names held held'
 KeepsFrozenFiles names answer held held' = SameFiles held held'
 
--- What making a run that was prepared answers, seen from before its files were read.
+-- What making a run that was prepared returns, seen from before its files were read.
 abbrev pub FreezesPrepared : {S O : Type 0} → spec.FreezeNames → (steps : ℕ) → spec.Randomness → Prepared →
     Outside S O → Outside S O → Status → Type 0
 FreezesPrepared {S} {O} names steps randomness prepared now after given =

@@ -11,13 +11,13 @@ use Rattle.cloak_machine.specs.declared.machine.Machine.{Machine}
 use Rattle.command_words.specs.Command as spec
 use Rattle.frozen_state.specs.Continuing.{first_pieces}
 use Rattle.frozen_state.specs.Room.{IsRoomFor}
-use Rattle.item_law.specs.Writing.{IsOfBytes, IsStreamOfBytes}
+use Rattle.range_law.specs.Writing.{IsOfBytes, IsStreamOfBytes}
 use Rattle.joint_machine.specs.Placings.{placing}
-use Rattle.program_parts.specs.declared.refusal.Refusal.{Refusal}
-use Rattle.program_parts.specs.declared.status.Status.{Status}
-use Rattle.program_parts.specs.Freezing.{AsksFrozen, FreezeSources}
-use Rattle.program_parts.specs.NoRun.{NoRun}
-use Rattle.program_parts.specs.Outside.{FilesOutside, OnlyRead, Outside}
+use Rattle.command_parts.specs.declared.refusal.Refusal.{Refusal}
+use Rattle.command_parts.specs.declared.status.Status.{Status}
+use Rattle.command_parts.specs.Freezing.{AsksFrozen, FreezeSources}
+use Rattle.command_parts.specs.NoRun.{NoRun}
+use Rattle.command_parts.specs.Outside.{FilesOutside, OnlyRead, Outside}
 use Rattle.run_command.specs.Outlet.{Writes}
 use Rattle.run_command.specs.Running.{IsStatusOfStop, moment_behind, run_status}
 use Rattle.frozen_commands.specs.declared.first.First.{First}

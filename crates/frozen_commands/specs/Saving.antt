@@ -7,11 +7,11 @@ use Rattle.frozen_run.specs.Shapes.{HasShape}
 use Rattle.frozen_state.specs.declared.frozen.Frozen.{Frozen}
 use Rattle.frozen_state.specs.FrozenState.{frozen_bytes, frozen_of}
 use Rattle.joint_machine.specs.Freezing.{HasRoom}
-use Rattle.outside_io.specs.Told.{Grows, GrowsByFront, OtherFiles, Rose, Tells}
-use Rattle.program_parts.specs.declared.status.Status.{Status}
-use Rattle.program_parts.specs.declared.status.Status.TheVariants as status
-use Rattle.program_parts.specs.Files.{TellsFront}
-use Rattle.program_parts.specs.Outside.{Outside, Output}
+use Rattle.io_traits.specs.Told.{Grows, GrowsByFront, OtherFiles, Rose, Tells}
+use Rattle.command_parts.specs.declared.status.Status.{Status}
+use Rattle.command_parts.specs.declared.status.Status.TheVariants as status
+use Rattle.command_parts.specs.Files.{TellsFront}
+use Rattle.command_parts.specs.Outside.{Outside, Output}
 use Rattle.frozen_commands.specs.declared.freezing.Left.{Left}
 
 -- the rest of the console's line, and the line that says why
@@ -53,7 +53,7 @@ abbrev pub Leaves : {S O : Type 0} → Option Frozen → List ℕ → List ℕ �
 Leaves None digest name before after given = ShowsLacking before after given
 Leaves (Some f) digest name before after given = SavesState f digest name before after given
 
--- Some state was left so, or none; of a machine that stands for a moment it is the one that the vectors give.
+-- Some state was left so, or none; for a machine that stands for a moment it is the one that the vectors give.
 pub record LeavesState {S O : Type 0} (machine : Machine) (left : Left) (name : List ℕ) (before after : Outside S O)
     (given : Status) : Type 0 where
   pub state : Option Frozen

@@ -1,6 +1,6 @@
--- What `thaw` answers, each status with its cause.
+-- What `thaw` returns, each status with its cause.
 use Rattle.std.specs.Prelude.{ℕ, ◌≡◌, ◌≤◌, ◌+◌, ◌⊎◌, List, Option, Some, Ok}
-use Rattle.outside_io.specs.Told.{OtherFiles, SameFiles}
+use Rattle.io_traits.specs.Told.{OtherFiles, SameFiles}
 use Rattle.cloak_base.specs.Random.{Random}
 use Rattle.cloak_model.specs.Ledger.{Keys}
 use Rattle.cloak_model.specs.Parts.{Joint}
@@ -9,18 +9,18 @@ use Rattle.command_words.specs.Command as spec
 use Rattle.frozen_state.specs.Continuing.{due_after, run_on}
 use Rattle.frozen_state.specs.Thawing.{CanGoOn, keys_and_rest}
 use Rattle.joint_machine.specs.Thawing.{IsThawable}
-use Rattle.program_parts.specs.declared.status.Status.{Status}
-use Rattle.program_parts.specs.declared.status.Status.TheVariants as status
-use Rattle.program_parts.specs.NoRun.{IsRefused, LineFailed}
-use Rattle.program_parts.specs.Outside.{FilesOutside, NothingRose, Outside, Raised}
-use Rattle.program_parts.specs.Thawing.{AsksThawed, ThawSources}
+use Rattle.command_parts.specs.declared.status.Status.{Status}
+use Rattle.command_parts.specs.declared.status.Status.TheVariants as status
+use Rattle.command_parts.specs.NoRun.{IsRefused, LineFailed}
+use Rattle.command_parts.specs.Outside.{FilesOutside, NothingRose, Outside, Raised}
+use Rattle.command_parts.specs.Thawing.{AsksThawed, ThawSources}
 use Rattle.run_command.specs.Recording.{FailedSome, GrowsSome}
 use Rattle.run_command.specs.Running.{IsStatusOfStop, NoClash, run_status}
 use Rattle.cloak_machine.specs.declared.machine.Machine.{Machine}
 use Rattle.frozen_commands.specs.Thawing.{PreparesThawed}
 use Rattle.frozen_commands.specs.Writing.{BeginsNoRecord, HasWritten, IsCutOff}
 
--- What becomes of the rest of a run after so many steps.
+-- What becomes of the rest of a run after this many steps.
 
 -- All that is due of it was written, and this is its status.
 pub record IsWrittenAfter {S O : Type 0} (steps : ℕ) (r : Run) (name : List ℕ) (given : Status) (before after : Outside S O) :
@@ -80,7 +80,7 @@ pub record ThawingBrokeOff {S O : Type 0} (asked : spec.Asked) (before after : O
   pub reading : after.files.reading ≡ before.files.reading
   pub fault : FailedSome Raised before after
 
--- What each status says. Its causes exclude each other; only want of memory may stand in the place of another, before
+-- What each status says. The causes exclude each other; only want of memory may be returned instead of another, before
 -- anything is written.
 abbrev pub ThawAnswers : {S O : Type 0} → spec.Asked → Outside S O → Outside S O → Status → Type 0
 ThawAnswers asked before after status.Done = HasThawed asked status.Done before after
@@ -105,7 +105,7 @@ KeepsThawedFiles names status.WriteFault held held' = OtherFiles names.record_na
 KeepsThawedFiles names status.NoRandom held held' = OtherFiles names.record_name held held'
 KeepsThawedFiles names answer held held' = SameFiles held held'
 
--- What making the rest of a run answers, seen from before its files were read.
+-- What making the rest of a run returns, seen from before its files were read.
 abbrev pub ThawsPrepared : {S O : Type 0} → spec.ThawNames → (steps : ℕ) → spec.Randomness → Machine →
     Outside S O → Outside S O → Status → Type 0
 ThawsPrepared {S} {O} names steps randomness machine now after given =

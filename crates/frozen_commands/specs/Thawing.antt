@@ -16,13 +16,13 @@ use Rattle.frozen_state.specs.Ranges.{IsFrozen, IsInRange}
 use Rattle.joint_machine.specs.declared.thaw_fault.ThawFault.{ThawFault}
 use Rattle.joint_machine.specs.declared.thaw_fault.ThawFault.TheVariants as fault
 use Rattle.frozen_state.specs.declared.fault.FrozenFault.TheVariants.{Form}
-use Rattle.program_parts.specs.declared.refusal.Refusal.{Refusal}
-use Rattle.program_parts.specs.declared.refusal.Refusal.TheVariants as refusal
-use Rattle.program_parts.specs.declared.status.Status.{Status}
-use Rattle.program_parts.specs.Files.{ReadsFile}
-use Rattle.program_parts.specs.NoRun.{NoRun}
-use Rattle.program_parts.specs.Outside.{FilesOutside, OnlyRead, Outside}
-use Rattle.program_parts.specs.Thawing.{AsksThawed, SpellsState, ThawSources, largest_state, state_fault}
+use Rattle.command_parts.specs.declared.refusal.Refusal.{Refusal}
+use Rattle.command_parts.specs.declared.refusal.Refusal.TheVariants as refusal
+use Rattle.command_parts.specs.declared.status.Status.{Status}
+use Rattle.command_parts.specs.Files.{ReadsFile}
+use Rattle.command_parts.specs.NoRun.{NoRun}
+use Rattle.command_parts.specs.Outside.{FilesOutside, OnlyRead, Outside}
+use Rattle.command_parts.specs.Thawing.{AsksThawed, SpellsState, ThawSources, largest_state, state_fault}
 use Rattle.run_command.specs.Outlet.{Writes}
 use Rattle.run_command.specs.Running.{IsStatusOfStop, run_status}
 
@@ -69,7 +69,7 @@ PreparesThawed names steps randomness before after (Err refused) =
 
 -- The rest.
 
--- what is due of a run after so many steps was given, and the answer is its status unless the outlet failed
+-- what is due of a run after this many steps was given, and the answer is its status unless the outlet failed
 pub record WritesRest {E : Type 0} (gave : E → E → List Piece → Type 0) (failed : Bool) (e e' : E) (given : Status)
     (steps : ℕ) (r : Run) : Type 0 where
   pub emits : Emits gave e e' (due_after steps r)

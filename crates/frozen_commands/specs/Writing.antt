@@ -2,8 +2,8 @@
 -- a front of it.
 use Rattle.std.specs.Prelude.{ℕ, ◌≡◌, ◌⊎◌, List, []}
 use Rattle.cloak_model.specs.Exchange.{Piece, recorded_bytes, shown_bytes}
-use Rattle.outside_io.specs.Told.{Tells, Grows, OtherFiles}
-use Rattle.program_parts.specs.Outside.{Outside, Raised}
+use Rattle.io_traits.specs.Told.{Tells, Grows, OtherFiles}
+use Rattle.command_parts.specs.Outside.{Outside, Raised}
 use Rattle.run_command.specs.Outlet.{Cut, pieces_left, FailedAt}
 
 -- These pieces were written, those for the record to the file of this name, which was begun.
@@ -11,8 +11,8 @@ pub record HasWritten {S O : Type 0} (pieces : List Piece) (name : List ℕ) (be
   pub file : Tells (after.files.held name) (recorded_bytes pieces)
   pub output : Grows before.output.taken after.output.taken (shown_bytes pieces)
 
--- Of them record and output have what is left where they are cut at one place, and the count of faults of where the piece
--- there goes rose.
+-- Of them, record and output have what is left when they are cut at one place, and the fault count of the place where
+-- the piece there goes rose.
 pub record IsCutOff {S O : Type 0} (pieces : List Piece) (name : List ℕ) (before after : Outside S O) : Type 0 where
   pub cut : Cut pieces
   pub left : HasWritten (pieces_left cut) name before after

@@ -7,15 +7,15 @@ ghost use Rattle.cloak_model.specs.Opening.{Opened};
 ghost use Rattle.cloak_model.specs.Run.{first_moment, joint_after, most_steps, run_of, turns_from};
 ghost use Rattle.cloak_machine.specs.Standing.{StandsForMoment, placings_of, steps_made};
 ghost use Rattle.joint_machine.specs.Placings.{placing};
-ghost use Rattle.program_parts.specs.Outside.{outside};
+ghost use Rattle.command_parts.specs.Outside.{outside};
 ghost use Rattle.run_command.specs.Outlet.{Gave};
 ghost use Rattle.run_command.specs.Running.{NoClashYet};
 ghost use Rattle.frozen_commands.specs.Freezing.{EndsAsSome, RecordsFirst, WritesFirst, WritesSome, is_failed};
 
 use cloak_machine::Machine;
+use command_parts::Status;
 use exchange_log::LONGEST;
-use outside_io::{Shelf, Sink};
-use program_parts::Status;
+use io_traits::{Shelf, Sink};
 use run_command::{Outlet, RecordPen, write_end, write_steps};
 
 /// How the first steps of a run ended.
@@ -29,7 +29,7 @@ pub(crate) enum First {
     Failed,
 }
 
-/// Makes up to so many steps of a run whose record is begun, and ends it if one of them stops it.
+/// Makes up to this many steps of a run whose record is begun, and ends it if one of them stops it.
 fn write_first<S: Shelf, O: Sink>(
     machine: Machine,
     steps: u32,

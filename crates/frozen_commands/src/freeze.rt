@@ -2,15 +2,15 @@
 ghost use Rattle.std.specs.Prelude.{◌≡◌, ◌<◌, ◌-◌, ◌^◌};
 ghost use Rattle.cloak_machine.specs.Standing.{steps_made};
 ghost use Rattle.command_words.specs.Request.{asked_of_freeze, freeze_names_of, randomness_of};
-ghost use Rattle.program_parts.specs.Outside.{outside};
+ghost use Rattle.command_parts.specs.Outside.{outside};
 ghost use Rattle.frozen_commands.specs.FreezeAnswering.{FreezeAnswers, FreezesPrepared, KeepsFrozenFiles};
 
 use crate::first::{First, record_first};
 use crate::freezing::{Prepared, prepare_frozen};
 use crate::saving::leave_state;
+use command_parts::{Status, refuse};
 use command_words::FreezeRequest;
-use outside_io::{Shelf, Sink};
-use program_parts::{Status, refuse};
+use io_traits::{Shelf, Sink};
 use std::alloc::Global;
 
 /// Makes the steps of a run that is prepared, and freezes it, up to the first call that fails.

@@ -2,16 +2,16 @@
 ghost use Rattle.std.specs.Prelude.{◌≡◌, ◌<◌, ◌-◌, ◌^◌, IfOk};
 ghost use Rattle.cloak_machine.specs.Standing.{steps_made};
 ghost use Rattle.command_words.specs.Request.{freeze_names_of, randomness_of};
-ghost use Rattle.program_parts.specs.Outside.{files};
+ghost use Rattle.command_parts.specs.Outside.{files};
 ghost use Rattle.frozen_commands.specs.Freezing.{PreparesFrozen};
 
 use crate::digest::digest_of;
 use cloak_machine::{Machine, OpenFault};
 use cloak_model::Bundle;
+use command_parts::{Refusal, read_bundle_with_bytes};
 use command_words::{FreezeRequest, Randomness};
 use frozen_state::FrozenRoom;
-use outside_io::{Shelf, Stream};
-use program_parts::{Refusal, read_bundle_with_bytes};
+use io_traits::{Shelf, Stream};
 use run_command::{image_is_of_bytes, open_stream};
 use std::alloc::Global;
 

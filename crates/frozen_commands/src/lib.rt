@@ -1,10 +1,10 @@
 //! The commands `freeze` and `thaw`: a run that is stopped and saved, and its rest.
 //!
-//! The layer above may rely on this: `freeze_command` and `thaw_command` answer each status by its cause. A run that no step
-//! stopped has record and console of its steps, and the file of its state under the vectors; one that a step stopped ends as
-//! `run` does. Of each machine that can go on with the state that a file spells, `thaw` writes exactly what is due of its
-//! rest: so the two records together are the record of one run (`frozen_promise`). All memory is taken before the first
-//! step.
+//! The layer above may rely on this: `freeze_command` and `thaw_command` return each status by its cause. A run that no
+//! step stopped has record and console of its steps, and the file of its state under the vectors; one that a step
+//! stopped ends as `run` does. For each machine that can go on with the state that a file spells, `thaw` writes exactly
+//! what is due of its rest: so the two records together are the record of one run (`frozen_promise`). All memory is
+//! taken before the first step.
 #![tactic(auto)]
 
 mod digest;

@@ -6,19 +6,19 @@ ghost use Rattle.cloak_model.specs.Parts as model;
 ghost use Rattle.cloak_model.specs.Run.{most_steps};
 ghost use Rattle.cloak_machine.specs.Standing.{StandsForMoment, steps_made};
 ghost use Rattle.frozen_state.specs.Continuing.{next_moment, run_on};
-ghost use Rattle.program_parts.specs.Outside.{outside};
+ghost use Rattle.command_parts.specs.Outside.{outside};
 ghost use Rattle.run_command.specs.Outlet.{Gave};
 ghost use Rattle.run_command.specs.Running.{IsStatusOfStop, NoClash};
 ghost use Rattle.frozen_commands.specs.Thawing.{RecordsRest, RestAnswers, WritesRest, WritesSomeRest};
 
 use cloak_base::Stop;
 use cloak_machine::Machine;
+use command_parts::Status;
 use exchange_log::LONGEST;
-use outside_io::{Shelf, Sink};
-use program_parts::Status;
+use io_traits::{Shelf, Sink};
 use run_command::{Outlet, RecordPen, run_steps, write_end};
 
-/// Makes up to so many steps of a run that goes on and whose record is begun, and writes its rest.
+/// Makes up to this many steps of a run that goes on and whose record is begun, and writes its rest.
 fn write_rest<S: Shelf, O: Sink>(
     machine: Machine,
     steps: u32,
@@ -41,7 +41,7 @@ fn write_rest<S: Shelf, O: Sink>(
     write_end(machine, stopped.unwrap_or(Stop::Budget), outlet)
 }
 
-/// Does so over a shelf on which the record is begun. Answers the run's status, or nothing if writing failed.
+/// Does so over a shelf on which the record is begun. Returns the run's status, or nothing if writing failed.
 pub(crate) fn record_rest<S: Shelf, O: Sink>(
     machine: Machine,
     steps: u32,

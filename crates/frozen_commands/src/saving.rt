@@ -1,15 +1,15 @@
 //! The state of a machine is saved.
 ghost use Rattle.std.specs.Prelude.{◌≡◌, ◌≤◌, length};
-ghost use Rattle.program_parts.specs.Outside.{output, outside};
+ghost use Rattle.command_parts.specs.Outside.{output, outside};
 ghost use Rattle.frozen_commands.specs.Saving.{LeavesState, SavesState, ShowsLackingLine};
 
 use crate::freezing::Left;
 use crate::shapes::state_has_shape;
 use cloak_machine::Machine;
+use command_parts::Status;
 use frozen_run::write_frozen;
 use frozen_state::Frozen;
-use outside_io::{Shelf, Sink, put_all};
-use program_parts::Status;
+use io_traits::{Shelf, Sink, put_all};
 
 /// Shows that there are too few vectors.
 fn show_lacking<O: Sink>(out: &mut O) -> Status

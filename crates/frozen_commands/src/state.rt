@@ -1,14 +1,14 @@
 //! The frozen state that a file is.
 ghost use Rattle.std.specs.Prelude.{◌≡◌, ◌≤◌, IfOk, length};
-ghost use Rattle.outside_io.specs.Told.{SameFiles};
-ghost use Rattle.program_parts.specs.Files.{ReadsFile};
+ghost use Rattle.io_traits.specs.Told.{SameFiles};
+ghost use Rattle.command_parts.specs.Files.{ReadsFile};
 ghost use Rattle.frozen_commands.specs.Thawing.{IsStateFront, JudgesState};
 
 use cloak_model::Bundle;
+use command_parts::{Refusal, read_front};
 use frozen_run::read_frozen;
 use frozen_state::{Frozen, FrozenFault};
-use outside_io::Shelf;
-use program_parts::{Refusal, read_front};
+use io_traits::Shelf;
 use std::alloc::Global;
 
 /// The most bytes of the file of a state.

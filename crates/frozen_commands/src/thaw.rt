@@ -3,15 +3,15 @@ ghost use Rattle.std.specs.Prelude.{◌≡◌, ◌<◌, ◌≤◌, ◌+◌, ◌-
 ghost use Rattle.cloak_model.specs.Run.{most_steps};
 ghost use Rattle.cloak_machine.specs.Standing.{steps_made};
 ghost use Rattle.command_words.specs.Request.{asked_of_thaw, randomness_of, thaw_names_of};
-ghost use Rattle.program_parts.specs.Outside.{outside};
+ghost use Rattle.command_parts.specs.Outside.{outside};
 ghost use Rattle.frozen_commands.specs.ThawAnswering.{KeepsThawedFiles, ThawAnswers, ThawsPrepared};
 
 use crate::rest::record_rest;
 use crate::thawing::prepare_thawed;
 use cloak_machine::Machine;
+use command_parts::{Status, refuse};
 use command_words::ThawRequest;
-use outside_io::{Shelf, Sink};
-use program_parts::{Status, refuse};
+use io_traits::{Shelf, Sink};
 use std::alloc::Global;
 
 /// Makes the rest of a run, up to the first call that fails.

@@ -1,16 +1,16 @@
 //! A run that can go on, from the files that the words name.
 ghost use Rattle.std.specs.Prelude.{◌≡◌, ◌<◌, ◌-◌, ◌^◌};
 ghost use Rattle.command_words.specs.Request.{randomness_of, thaw_names_of};
-ghost use Rattle.program_parts.specs.Outside.{files};
+ghost use Rattle.command_parts.specs.Outside.{files};
 ghost use Rattle.frozen_commands.specs.Thawing.{PreparesThawed, refused_by};
 
 use crate::digest::digest_of;
 use crate::state::{judge_state, read_state};
 use cloak_machine::{Machine, ThawFault};
+use command_parts::{Refusal, read_bundle_with_bytes};
 use command_words::{ThawRequest, UsageFault};
 use frozen_state::FrozenFault;
-use outside_io::Shelf;
-use program_parts::{Refusal, read_bundle_with_bytes};
+use io_traits::Shelf;
 use run_command::open_stream;
 use std::alloc::Global;
 
@@ -47,6 +47,8 @@ pub(crate) fn prepare_thawed<S: Shelf>(
         Ok(read) => read,
         Err(refusal) => return Err(refusal),
     };
+    // The bytes of the image are given up here, before those of the state are read.
+    let digest = digest_of(bytes);
     let file = match read_state(alloc, shelf, thaw.files.state_name) {
         Ok(file) => file,
         Err(refusal) => return Err(refusal),
@@ -55,7 +57,6 @@ pub(crate) fn prepare_thawed<S: Shelf>(
         Ok(stream) => stream,
         Err(refusal) => return Err(refusal),
     };
-    let digest = digest_of(bytes);
     let state = match judge_state(alloc, &bundle, &digest, file) {
         Ok(state) => state,
         Err(refusal) => return Err(refusal),

@@ -21,7 +21,7 @@ use Rattle.cloak_model.specs.Ledger.{vector_of}
 use Rattle.cloak_model.specs.PageMoves.{copy_pages, drop_pages}
 use Rattle.cloak_model.specs.Resources.{Resources, page_at}
 use Rattle.cloak_model.specs.World.{World, Flat, Cloaked, Alone, noted, stored_at, settled, written}
-use Rattle.item_law.proofs.Bounds.{either}
+use Rattle.kernel_isolation.proofs.Shown.{either}
 use Rattle.frozen_law.proofs.Ends.{forgets_keep, end_keeps}
 use Rattle.frozen_law.proofs.Memories.{InWorld}
 use Rattle.frozen_law.proofs.Questions.{Kept, reach_keeps, clear_keeps}
@@ -49,7 +49,7 @@ one_more [] f q = omega arith
 one_more (x ∷ xs) zero q = omega arith
 one_more (x ∷ xs) (suc f) q = let rest = one_more xs f q in omega (arith, rest)
 
--- Draws and such frames are at most so many.
+-- Draws and such frames are at most n.
 
 abbrev pub AreFew : ℕ → CloakedMemory → Type 0
 AreFew n m = m.ledger.draws + owing m.ledger.owed ≤ n

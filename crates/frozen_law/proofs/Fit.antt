@@ -1,10 +1,8 @@
 -- What is recorded of pages is enough to go on with them: the laws of records, of whole pages, and of those of which
 -- none is recorded, at each moment from which a run goes on.
-use Rattle.std.proofs.Common.{◌≡◌, ◌∙◌, ℕ, ◌<◌, nat_lt, Bool, true, false, cond, List, get_or, length, position, Option, Some, None, refl, sym, ap, inl, inr, arith}
-use Rattle.std.proofs.lemmas.Bool.{false≢true, cases_lt, lt-ltb}
-use Rattle.std.specs.List.{position_or_len}
+use Rattle.std.proofs.Common.{◌≡◌, ◌∙◌, ℕ, ◌<◌, true, false, length, Some, None, sym, ap, inl, inr}
+use Rattle.std.proofs.lemmas.Bool.{false≢true, cases_lt}
 use Rattle.std.proofs.lemmas.List.{get_or_past}
-use Rattle.std.proofs.lemmas.List.Sums.{fails_before_first}
 use Rattle.cloak_base.specs.declared.names.PageId.{PageId}
 use Rattle.cloak_base.proofs.Pages.{same_page-self}
 use Rattle.cloak_model.specs.Cloaking.{CloakedMemory, owes, owing_frame}
@@ -15,20 +13,7 @@ use Rattle.frozen_law.specs.Records.{IsUnowed}
 use Rattle.frozen_law.proofs.MissedRuns.{nothing_is_missed}
 use Rattle.frozen_law.proofs.Pages.{begins, pages_are_whole}
 use Rattle.frozen_law.proofs.RecordRuns.{records_tell_pages}
-
-none_by : (test : Bool) (n : ℕ) → ◌≡◌ {A = Option ℕ} (cond test (Some n) None) None → test ≡ false
-none_by true n none = absurd cc
-none_by false n none = refl
-
--- if none passes, none does at any place
-fails_all : {A : Type 0} (p : A → Bool) (xs : List A) (k : ℕ) (d : A) → position p xs ≡ None → k < length xs →
-    p (get_or xs k d) ≡ false
-fails_all p xs k d none less = elim (cases_lt (position_or_len p xs) (length xs)) [
-  | inl inside ↦
-      absurd (false≢true (sym (none_by (nat_lt (position_or_len p xs) (length xs)) _ none)
-      ∙ lt-ltb (position_or_len p xs) (length xs) inside))
-  | inr past ↦ fails_before_first p xs k d (omega (arith, past, less))
-]
+use Rattle.latest_store.proofs.Begun.{fails_all}
 
 -- a page that no frame is owed
 unowed : (m : CloakedMemory) (q : PageId) → owing_frame m q ≡ None → IsUnowed q m

@@ -1,11 +1,11 @@
 -- A state with which a run is frozen is in range, and its machine can go on: what the laws say, field by field.
-use Rattle.std.proofs.Common.{◌≡◌, ◌∙◌, inl, inr, ℕ, zero, suc, ◌+◌, ◌%◌, ◌<◌, ◌≤◌, nat_le, bit_and, Bool, true, false, List, [], ◌∷◌, length, map, slice_get, slice_index_or, Option, Some, None, IfSome, Ok, refl, sym, ap, subst, arith, eq-eqb}
+use Rattle.std.proofs.Common.{◌≡◌, ◌∙◌, inl, inr, ℕ, zero, suc, ◌+◌, ◌%◌, ◌<◌, ◌≤◌, nat_le, bit_and, true, false, List, [], ◌∷◌, length, map, slice_get, slice_index_or, Option, Some, None, IfSome, Ok, refl, sym, ap, subst, arith, eq-eqb}
 use Rattle.std.specs.Prelude.{◌==◌, ◌&&◌, IsSomeAnd, slice_index, option_map, option_and_then}
 use Rattle.std.specs.List.{AllByRecursion}
 use Rattle.std.proofs.lemmas.Bool.{cases_lt, lt-ltb, le-leb}
 use Rattle.std.proofs.lemmas.List.{get_or_past, length-map}
 use Rattle.std.proofs.lemmas.List.Sums.{get_or-le-sum_by}
-use Rattle.outside_io.specs.Skipping.{skipped}
+use Rattle.io_traits.specs.Skipping.{skipped}
 use Rattle.cloak_base.specs.Constants.{ram_start, ram_end}
 use Rattle.cloak_base.specs.Random.{Random}
 use Rattle.cloak_base.specs.declared.causes.Violation.{Violation}
@@ -34,9 +34,9 @@ use Rattle.frozen_state.specs.FrozenState.{hart_with, pages_of_domains, recorded
 use Rattle.frozen_state.specs.Limits.{KeepsLimits}
 use Rattle.frozen_state.specs.Ranges.{has_only, kept_bits, is_word_in_ram, IsFrozenHart, IsPage, owed_page, IsInRange}
 use Rattle.frozen_state.specs.Ranges as range
-use Rattle.frozen_state.specs.Thawing.{keys_and_rest, IsHart, PagesFit, CanGoOn}
-use Rattle.item_law.specs.Writing.{IsOfBytes, IsStreamOfBytes}
-use Rattle.item_law.proofs.Bounds.{all_get, all_map, by_place}
+use Rattle.frozen_state.specs.Thawing.{keys_and_rest, PagesFit, CanGoOn}
+use Rattle.range_law.specs.Writing.{IsOfBytes, IsStreamOfBytes}
+use Rattle.range_law.proofs.Bounds.{all_get, all_map, by_place}
 use Rattle.kernel_isolation.specs.Isolation.{joint_until}
 use Rattle.limit_law.specs.Words.{HasProgramWords}
 use Rattle.limit_law.proofs.EndedRuns.{ended_are_told, refusals_are_few}
@@ -50,12 +50,11 @@ use Rattle.frozen_law.specs.Harts.{HaveOnly, IsWordOfRam}
 use Rattle.frozen_law.specs.Harts as law
 use Rattle.frozen_law.specs.Held.{IsHeldIn, IsHeldBy}
 use Rattle.frozen_law.specs.Missed.{GoesOn}
-use Rattle.frozen_law.specs.Sizes as sizes
 use Rattle.frozen_law.specs.Streams.{HasDrawn}
 use Rattle.frozen_law.specs.Violations.{IsViolationOf}
 use Rattle.frozen_law.proofs.DrawRuns.{draws_are_below}
 use Rattle.frozen_law.proofs.Fit.{runs_fit_pages}
-use Rattle.frozen_law.proofs.FrozenPages.{recorded_are_pages, recorded_pages_rise}
+use Rattle.frozen_law.proofs.FrozenPages.{recorded_are_pages, recorded_pages_rise, and_both}
 use Rattle.frozen_law.proofs.FrozenParts.{DomainsAs, FramesAs, each_end, each_owed, owed_at, FrozenAs, frozen_as}
 use Rattle.frozen_law.proofs.HartRuns.{harts_are_in_range}
 use Rattle.frozen_law.proofs.HeldOpened.{runs_hold_pages}
@@ -73,10 +72,6 @@ only_at [] words have i low = absurd (omega (arith, low))
 only_at (bit ∷ bits) [] have i low = absurd have
 only_at (bit ∷ bits) (w ∷ words) have zero low = eq-eqb (bit_and w bit) w have.0
 only_at (bit ∷ bits) (w ∷ words) have (suc i) low = only_at bits words have.1 i (omega (arith, low))
-
-and_both : (a b : Bool) → a ≡ true → b ≡ true → a && b ≡ true
-and_both true b first second = second
-and_both false b first second = absurd cc
 
 word_in : (frames pa : ℕ) → IsWordOfRam frames pa → is_word_in_ram frames pa ≡ true
 word_in frames pa is =
@@ -166,10 +161,6 @@ program_if : (j : Joint) (d : ℕ) (o : Option Domain) → slice_get j.domains d
     IfSome o (λ domain. IsProgram d domain.control)
 program_if j d None e is = tt
 program_if j d (Some program) e is = is program e
-
-hart_if : (n : ℕ) (o : Option Hart) → IfSome o (sizes.IsHart n) → IfSome o (IsHart n)
-hart_if n None is = tt
-hart_if n (Some h) is = record { numbered = is.numbered; csrs = is.csrs }
 
 -- Keys.
 
@@ -276,7 +267,7 @@ module _ (b : Bundle) (stream : Random) (budget : ℕ) (r : Run) (grammar : IsIn
       record {
         ivs = ivs;
         state = state;
-        harts = λ k. hart_if k (slice_get j.harts k) (size.each k);
+        harts = size.each;
         programs = λ d. program_if j d (slice_get j.domains d) refl (program_of d);
         ended = ended_are_told b (Fresh stream) budget r grammar is n;
         roots = roots_are_of_spaces_in_use b (Fresh stream) budget r grammar is n;

@@ -11,7 +11,7 @@ use Rattle.cloak_model.specs.Opening.{numbers_below}
 use Rattle.frozen_state.specs.declared.frozen.FrozenPage.{FrozenPage}
 use Rattle.frozen_state.specs.FrozenState.{page_named, pages_of_resource, pages_of_resources, pages_of_domains, page_with, recorded_of}
 use Rattle.frozen_state.specs.Ranges.{IsPage, precedes, Rises}
-use Rattle.item_law.proofs.Bounds.{all_append, by_place}
+use Rattle.range_law.proofs.Bounds.{all_append, by_place}
 
 -- Each before each later one.
 
@@ -114,7 +114,7 @@ or_right : (a b : Bool) → b ≡ true → a || b ≡ true
 or_right true b is = refl
 or_right false b is = is
 
-and_both : (a b : Bool) → a ≡ true → b ≡ true → a && b ≡ true
+pub and_both : (a b : Bool) → a ≡ true → b ≡ true → a && b ≡ true
 and_both true b first second = second
 and_both false b first second = absurd cc
 

@@ -36,7 +36,7 @@ use Rattle.cloak_model.specs.Resuming.{by_root, by_context, by_domain, resume}
 use Rattle.cloak_model.specs.Run.{Run, run_from}
 use Rattle.cloak_model.specs.StoredFiles.{FileContents}
 use Rattle.cloak_model.specs.World.{World, Flat}
-use Rattle.item_law.proofs.Bounds.{all_set, all_or, all_append}
+use Rattle.range_law.proofs.Bounds.{all_set, all_or, all_append}
 use Rattle.kernel_isolation.specs.Isolation.{joint_until}
 use Rattle.kernel_isolation.proofs.FilesAdded.{IsGiven, given_keeps}
 use Rattle.limit_law.specs.Words.{HasHartWords}

@@ -1,5 +1,5 @@
 -- A plain step of a hart, whatever is answered to its questions: the hart stays in range.
-use Rattle.std.proofs.Common.{◌≡◌, ℕ, ◌+◌, ◌-◌, ◌%◌, ◌^◌, Bool, true, false, ℤ, cond, List, [], ◌∷◌, length, Option, Some, None, Result, Ok, Err, refl, arith}
+use Rattle.std.proofs.Common.{◌≡◌, ℕ, ◌+◌, ◌-◌, ◌%◌, ◌^◌, Bool, true, false, ℤ, cond, List, [], ◌∷◌, length, Option, Some, None, Result, Ok, Err, refl}
 use Rattle.std.specs.Prelude.{◌==◌, not}
 use Rattle.std.proofs.lemmas.Bool.{eqb-true}
 use Rattle.cloak_base.specs.Registers.{register, with_register, zero_registers}
@@ -26,7 +26,7 @@ use Rattle.cloak_model.specs.HostCalls.{SteppedKernel, ends, is_transfer, put_ca
 use Rattle.cloak_model.specs.KernelStep.{access, extended, misaligned, is_ecall, or_trap, carried_out, atomic_access, atomic_executed, executed, instruction_step, ticked, ends_reservation, released, kernel_step}
 use Rattle.cloak_model.specs.Leaving.{with_registers, shown_registers, leave}
 use Rattle.cloak_model.specs.World.{World}
-use Rattle.limit_law.proofs.Contexts.{with_register_length, with_register_zero}
+use Rattle.limit_law.proofs.Contexts.{with_register_length, with_register_zero, next_word}
 use Rattle.frozen_law.proofs.Csrs.{HasCsrs, zero_has, write_has, pending_has, entry_has, return_has, vector_aligned, return_aligned}
 
 -- Registers.
@@ -61,9 +61,6 @@ pub started_fits : (entry h : ℕ) → entry % 4 ≡ 0 → Fits (started entry h
 unfolding started
 started_fits entry h aligned =
     record { regs = written_have zero_registers 10 h zeros_have; pc = aligned; csrs = zero_has }
-
-next_word : (pc : ℕ) → pc % 4 ≡ 0 → ((pc + 4) % 2 ^ 32) % 4 ≡ 0
-next_word pc is = omega (arith, is)
 
 word_fits : (h : Hart) (rd value : ℕ) → Fits h → Fits (with_word h rd value)
 word_fits h rd value here =

@@ -14,7 +14,8 @@ use Rattle.cloak_model.specs.World.{World, Flat, Cloaked, Alone, settled}
 use Rattle.kernel_isolation.proofs.Settlings.{HasPlaces}
 use Rattle.resource_map.proofs.Lists.{inside_from_some}
 use Rattle.frozen_law.specs.Held.{IsHeldBy}
-use Rattle.frozen_law.proofs.Cleared.{ClearBelow, marked_below, cleared_world}
+use Rattle.frozen_law.proofs.Cleared.{cleared_world}
+use Rattle.chain_law.proofs.ZeroWorlds.{ClearBelow, marked_below}
 use Rattle.frozen_law.proofs.Counts.{HasCount, settle_count}
 use Rattle.frozen_law.proofs.HeldCalls.{OfIn, IsApart, forgets_in}
 use Rattle.frozen_law.proofs.Memories.{InWorld}

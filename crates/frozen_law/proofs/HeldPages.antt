@@ -1,6 +1,6 @@
 -- A page at an address of a space is of a resource in use, and below its size; and what calls make of resources leaves
 -- such pages.
-use Rattle.std.proofs.Common.{◌≡◌, ◌≢◌, ℕ, zero, suc, ◌+◌, ◌-◌, ◌*◌, ◌/◌, ◌<◌, ◌≤◌, nat_le, nat_lt, Bool, true, false, not, cond, List, [], ◌∷◌, length, find, filter, slice_set, slice_index_or, Option, Some, None, IfSome, option_map, Ok, refl, subst, arith}
+use Rattle.std.proofs.Common.{◌≡◌, ◌≢◌, ℕ, zero, suc, ◌+◌, ◌-◌, ◌*◌, ◌/◌, ◌<◌, ◌≤◌, nat_le, nat_lt, Bool, true, false, not, cond, List, [], ◌∷◌, length, find, filter, slice_set, slice_index_or, Option, Some, None, IfSome, option_map, Ok, refl, arith}
 use Rattle.std.specs.Prelude.{◌==◌, ◌||◌, IsSomeAnd, position}
 use Rattle.std.specs.List.{list_any}
 use Rattle.std.proofs.lemmas.Bool.{and_parts, leb-true, ltb-true}
@@ -15,6 +15,7 @@ use Rattle.cloak_model.specs.Resources.{Resources, Mapped, resource_at, regions_
 use Rattle.resource_map.specs.Kept.{IsMapped, IsSound}
 use Rattle.resource_map.proofs.Lists.{All-find, first_free-at}
 use Rattle.frozen_law.specs.Held.{IsHeldBy}
+use Rattle.limit_law.proofs.Pages.{found_passes}
 
 -- Of one program: its own pages are held, and of others something else is known.
 pub record IsKind (d : ℕ) (r : Resources) (Other : PageId → Type 0) (q : PageId) : Type 0 where
@@ -22,15 +23,6 @@ pub record IsKind (d : ℕ) (r : Resources) (Other : PageId → Type 0) (q : Pag
   pub other : q.domain ≢ d → Other q
 
 -- The pages of a space.
-
-found_step : (t : Bool) (p : Region → Bool) (x g : Region) (rest : Option Region) → p x ≡ t →
-    (rest ≡ Some g → p g ≡ true) → cond t (Some x) rest ≡ Some g → p g ≡ true
-found_step true p x g rest is later found = let same : x ≡ g = cc in subst (λ (y : Region). p y ≡ true) same is
-found_step false p x g rest is later found = later found
-
-found_passes : (p : Region → Bool) (xs : List Region) (g : Region) → find p xs ≡ Some g → p g ≡ true
-found_passes p [] g found = absurd cc
-found_passes p (x ∷ xs) g found = found_step (p x) p x g (find p xs) refl (found_passes p xs g) found
 
 below : (va start pages first : ℕ) → start ≤ va → va < start + 4096 * pages →
     first + (va - start) / 4096 < first + pages

@@ -31,7 +31,7 @@ use Rattle.script_fold.proofs.Folding.{step_keeps}
 use Rattle.script_fold.proofs.Questions.{Kept}
 use Rattle.script_fold.proofs.ByQuestions.{kept_by}
 use Rattle.script_fold.proofs.Endings.{keeps_end}
-use Rattle.item_law.proofs.Bounds.{either}
+use Rattle.kernel_isolation.proofs.Shown.{either}
 use Rattle.limit_law.proofs.Moments.{at_every_moment}
 use Rattle.limit_law.proofs.Openings.{begins_by_memory}
 use Rattle.frozen_law.proofs.KernelWalks.{kernel_keeps}

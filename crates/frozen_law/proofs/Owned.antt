@@ -10,7 +10,7 @@ use Rattle.cloak_base.proofs.Pages.{is_of-here}
 use Rattle.cloak_model.specs.Cloaking.{CloakedMemory, AfterSettling, AfterOffer, Ready, Mismatch, owed_in, settle_owed, settle_if, settle, settle_frame_if, owing_frame, owes, with_owed, with_comparison, taken, compared, unless_missed, offer}
 use Rattle.cloak_model.specs.Ledger.{vector_of}
 use Rattle.cloak_model.specs.PageMoves.{copy_pages, drop_pages}
-use Rattle.item_law.proofs.Bounds.{either}
+use Rattle.kernel_isolation.proofs.Shown.{either}
 use Rattle.chain_law.proofs.ZeroWorlds.{NoneOwedOf}
 use Rattle.frozen_law.proofs.Records.{page_tells}
 

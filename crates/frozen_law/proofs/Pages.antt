@@ -7,9 +7,9 @@ use Rattle.cloak_model.specs.Beginning.{Beginning, Fresh, Stored, IsBeginning}
 use Rattle.cloak_model.specs.Bundle.{IsInGrammar}
 use Rattle.cloak_model.specs.Parts.{Joint}
 use Rattle.cloak_model.specs.Run.{Run, run_from}
-use Rattle.item_law.specs.Writing.{AreBytes, IsOfBytes, IsBeginningOfBytes}
-use Rattle.item_law.proofs.Bounds.{by_place}
-use Rattle.item_law.proofs.Turns.{JointFits, turn_fits}
+use Rattle.range_law.specs.Writing.{AreBytes, IsOfBytes, IsBeginningOfBytes}
+use Rattle.range_law.proofs.Bounds.{by_place}
+use Rattle.range_law.proofs.Turns.{JointFits, turn_fits}
 use Rattle.kernel_isolation.specs.Isolation.{joint_until}
 use Rattle.latest_store.proofs.Histories.{runs_give_latest}
 use Rattle.limit_law.proofs.Moments.{at_every_moment}

@@ -16,7 +16,7 @@ use Rattle.cloak_model.specs.Events.{Event}
 use Rattle.cloak_model.specs.Walk.{Walk, FirstWord, Ends, GoesOn, first_entry}
 use Rattle.cloak_model.specs.World.{World, Cloak, Flat, Cloaked, Alone, noted, stored_at, settled, Handed, written, cipher_items}
 
--- What holds of a world and of that after it, if at most so many pages were offered in between, all of this kind.
+-- What holds of a world and of that after it, if at most this many pages were offered in between, all of this kind.
 pub record Kept (P : PageId → Type 0) (R : ℕ → World → World → Type 0) : Type 0 where
   pub same : (w : World) → R 0 w w
   pub chained : (a b : ℕ) (u v w : World) → R a u v → R b v w → R (a + b) u w

@@ -1,6 +1,6 @@
 -- What is recorded of pages tells their newest bytes, after each step of a program.
-use Rattle.std.proofs.Common.{◌≡◌, ◌∙◌, ◌<◌, ◌+◌, ℕ, zero, suc, Bool, true, false, ◌&&◌, cond, List, [], ◌∷◌, zip, length, Option, Some, None, IfSome, Result, Ok, Err, refl, sym, subst, zero-add}
-use Rattle.std.specs.Prelude.{All, slice_index_or}
+use Rattle.std.proofs.Common.{◌≡◌, ◌∙◌, ◌<◌, ◌+◌, ℕ, zero, suc, Bool, true, false, ◌&&◌, cond, List, [], ◌∷◌, zip, length, Option, Some, None, IfSome, Result, Ok, Err, refl, sym}
+use Rattle.std.specs.Prelude.{All}
 use Rattle.std.proofs.lemmas.Bool.{false≢true, ltb-true}
 use Rattle.std.proofs.lemmas.List.{length-set}
 use Rattle.std.proofs.lemmas.List.Elements.{All-head, All-tail}
@@ -25,11 +25,10 @@ use Rattle.cloak_model.specs.Hypercalls.{Hypercall, New, Map, Unmap, File, Threa
 use Rattle.cloak_model.specs.Memory.{is_in_ram}
 use Rattle.cloak_model.specs.Opening.{numbers_below}
 use Rattle.cloak_model.specs.PageMoves.{copy_pages, drop_pages}
-use Rattle.cloak_model.specs.Resources.{Resources, is_private_to, page_at}
+use Rattle.cloak_model.specs.Resources.{Resources, page_at}
 use Rattle.cloak_model.specs.World.{World, Handed, Flat, Cloaked, Alone, is_missed, ram_of, noted, stored_at, settled, written}
 use Rattle.kernel_isolation.proofs.Leading.{leads_inside}
 use Rattle.kernel_isolation.proofs.Settlings.{HasPlaces}
-use Rattle.resource_map.proofs.Places.{All-places, places-map}
 use Rattle.chain_law.proofs.Zeros.{keeps_places, settle_fresh, offer_offered}
 use Rattle.chain_law.proofs.ZeroWorlds.{NoneOwedIn, MarkedClear, copy_owes}
 use Rattle.frozen_law.specs.Records.{RecordsTell}
@@ -39,6 +38,7 @@ use Rattle.frozen_law.proofs.Memories.{InWorld}
 use Rattle.frozen_law.proofs.Questions.{Kept, address_keeps, reach_keeps, clear_keeps}
 use Rattle.frozen_law.proofs.Records.{IsOwed, settle_tell, offer_tell, offer_owes, newest_tell, copy_tell, drop_tell}
 use Rattle.frozen_law.proofs.Walks.{AreOf, Stores, step_keeps}
+use Rattle.chain_law.proofs.ZeroSteps.{IsMarked, private_marked}
 
 -- The changes of a world.
 
@@ -223,15 +223,6 @@ unfolding ask_forget drop_pages
 learns_forget d n (Flat seen) = learns_none (Flat seen)
 learns_forget d n (Cloaked c) = record { by = λ knows. (knows.0, drop_tell d n c.memory knows.1) }
 learns_forget d n (Alone h) = record { by = λ knows. tt }
-
-abbrev IsMarked : List Bool → ℕ → Type 0
-IsMarked marks n = slice_index_or marks n false ≡ true
-
-private_marked : (space : ℕ) (r : Resources) → All (IsMarked (marked space r)) (private_numbers space r)
-private_marked space r =
-    subst (λ (numbers : List ℕ). All (IsMarked (marked space r)) numbers) (places-map (is_private_to space) 0 r.held)
-    (All-places (λ (mark : Bool). mark) (IsMarked (marked space r)) false 0 (marked space r)
-    (λ i low pass. subst (IsMarked (marked space r)) (sym (zero-add i)) pass))
 
 learns_copies : (domain : ℕ) (marks : List Bool) (numbers free : List ℕ) (w : World) → All (IsMarked marks) numbers →
     MarkedClear domain marks w → Learns 0 w (ask_copies domain (zip numbers free) w).world

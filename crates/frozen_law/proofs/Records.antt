@@ -13,8 +13,8 @@ use Rattle.cloak_model.specs.Cloaking.{CloakedMemory, AfterSettling, AfterOffer,
 use Rattle.cloak_model.specs.Ledger.{key_of, vector_of}
 use Rattle.cloak_model.specs.PageMoves.{with_newest, copy_pages, drop_pages}
 use Rattle.domain_isolation.proofs.InOrder.{decided}
-use Rattle.item_law.proofs.Bounds.{either}
-use Rattle.chain_law.proofs.Zeros.{settle_cleans}
+use Rattle.kernel_isolation.proofs.Shown.{either}
+use Rattle.chain_law.proofs.Zeros.{settle_cleans, frame_clean}
 use Rattle.chain_law.proofs.ZeroWorlds.{NoneOwedOf}
 use Rattle.frozen_law.specs.Records.{IsUnowed, RecordsTell}
 use Rattle.frozen_law.proofs.Counts.{HasCount, settle_count, frame_count}
@@ -91,20 +91,6 @@ settle_tell f m tell = if_tell f (owed_in m f) m refl tell
 frame_tell : (o : Option ℕ) (m : CloakedMemory) → RecordsTell m → RecordsTell (settle_frame_if o m).memory
 frame_tell None m tell = tell
 frame_tell (Some f) m tell = settle_tell f m tell
-
--- a frame that was owed nothing is so still
-still_clean : (f : ℕ) (m : CloakedMemory) (g : ℕ) → owed_in m g ≡ None → owed_in (settle f m).memory g ≡ None
-still_clean f m g none =
-    let s = settle_cleans f m in
-    elim (decided g f) [
-      | inl same ↦ ap (owed_in (settle f m).memory) same ∙ s.here
-      | inr other ↦ s.others g other ∙ none
-    ]
-
-frame_clean : (o : Option ℕ) (m : CloakedMemory) (g : ℕ) → owed_in m g ≡ None →
-    owed_in (settle_frame_if o m).memory g ≡ None
-frame_clean None m g none = none
-frame_clean (Some f) m g none = still_clean f m g none
 
 -- Offering.
 

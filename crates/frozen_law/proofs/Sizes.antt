@@ -13,7 +13,7 @@ use Rattle.cloak_model.specs.Joint.{Moment, Turn, end_domain, step_before_end, j
 use Rattle.cloak_model.specs.Opening.{Opened, started_harts, started_kernel, started_domains, started_joint}
 use Rattle.cloak_model.specs.Parts.{Joint}
 use Rattle.disk_law.proofs.Turns.{step_keeps}
-use Rattle.item_law.proofs.Bounds.{all_get}
+use Rattle.range_law.proofs.Bounds.{all_get}
 use Rattle.kernel_isolation.specs.Isolation.{joint_until}
 use Rattle.kernel_isolation.proofs.FilesAdded.{added_keep, files_of, opens_over}
 use Rattle.kernel_isolation.proofs.Numbers.{AreFrom, number_at}
@@ -22,7 +22,8 @@ use Rattle.limit_law.proofs.Moments.{at_every_moment}
 use Rattle.limit_law.proofs.Told.{step_leaves}
 use Rattle.reservation_law.proofs.Moments.{IsOrderly, step_does, step_orderly}
 use Rattle.reservation_law.proofs.Runs.{opened_orderly}
-use Rattle.frozen_law.specs.Sizes.{IsHart, RunsKeepSizes}
+use Rattle.frozen_law.specs.Sizes.{RunsKeepSizes}
+use Rattle.frozen_state.specs.Thawing.{IsHart}
 use Rattle.frozen_law.proofs.Counts.{are_counted}
 use Rattle.frozen_law.proofs.HartRuns.{JointFits, fits_at}
 use Rattle.frozen_law.proofs.Harts.{Fits}

@@ -4,7 +4,7 @@ use Rattle.std.specs.Prelude.{IsSomeAnd, option_and_then}
 use Rattle.std.specs.Str.{bytes_eq}
 use Rattle.std.proofs.Math.Nat.{min-eq_left, min-eq_right}
 use Rattle.std.proofs.lemmas.Bool.{cases_lt}
-use Rattle.outside_io.specs.Skipping.{skipped}
+use Rattle.io_traits.specs.Skipping.{skipped}
 use Rattle.cloak_base.specs.Random.{Random, next_draw}
 use Rattle.cloak_base.specs.declared.names.PageId.{PageId}
 use Rattle.cloak_model.specs.declared.image.Bundle.{Bundle}
@@ -29,7 +29,7 @@ use Rattle.script_fold.proofs.Folding.{step_keeps}
 use Rattle.script_fold.proofs.Questions.{Kept}
 use Rattle.script_fold.proofs.ByQuestions.{kept_by}
 use Rattle.script_fold.proofs.Endings.{keeps_end}
-use Rattle.item_law.proofs.Bounds.{either}
+use Rattle.kernel_isolation.proofs.Shown.{either}
 use Rattle.limit_law.proofs.Moments.{at_every_moment}
 use Rattle.frozen_law.specs.Streams.{HasDrawn, HasDrawnFrom, RunsKeepStreams}
 use Rattle.frozen_law.proofs.DrawRuns.{draws_are_below}

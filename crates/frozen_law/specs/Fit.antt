@@ -8,7 +8,7 @@ use Rattle.cloak_model.specs.Beginning.{Beginning}
 use Rattle.cloak_model.specs.Bundle.{IsInGrammar}
 use Rattle.cloak_model.specs.Cloaking.{CloakedMemory, ciphertext_of, owing_frame}
 use Rattle.cloak_model.specs.Run.{Run, run_from}
-use Rattle.item_law.specs.Writing.{IsOfBytes, IsBeginningOfBytes}
+use Rattle.range_law.specs.Writing.{IsOfBytes, IsBeginningOfBytes}
 use Rattle.kernel_isolation.specs.Isolation.{joint_until}
 use Rattle.frozen_law.specs.Missed.{GoesOn}
 

@@ -9,7 +9,7 @@ use Rattle.frozen_state.specs.declared.frozen.Frozen.{Frozen}
 use Rattle.frozen_state.specs.FrozenState.{frozen_of}
 use Rattle.frozen_state.specs.Ranges.{IsInRange}
 use Rattle.frozen_state.specs.Thawing.{CanGoOn}
-use Rattle.item_law.specs.Writing.{IsOfBytes, IsStreamOfBytes}
+use Rattle.range_law.specs.Writing.{IsOfBytes, IsStreamOfBytes}
 use Rattle.kernel_isolation.specs.Isolation.{joint_until}
 use Rattle.frozen_law.specs.Missed.{GoesOn}
 

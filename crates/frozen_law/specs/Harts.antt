@@ -11,7 +11,7 @@ use Rattle.cloak_model.specs.Csr.{csr_words}
 use Rattle.cloak_model.specs.Hart.{Hart}
 use Rattle.cloak_model.specs.Memory.{mark_of}
 use Rattle.cloak_model.specs.Run.{Run, run_from}
-use Rattle.item_law.specs.Writing.{IsOfBytes, IsBeginningOfBytes}
+use Rattle.range_law.specs.Writing.{IsOfBytes, IsBeginningOfBytes}
 use Rattle.kernel_isolation.specs.Isolation.{joint_until}
 
 -- The bits that the nine registers keep, in the order in which a hart lists them: of sstatus SIE, SPIE, SPP, SUM and MXR,

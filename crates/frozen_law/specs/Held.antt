@@ -10,7 +10,7 @@ use Rattle.cloak_model.specs.Resources.{Resources, resource_at}
 use Rattle.cloak_model.specs.Run.{Run, run_from}
 use Rattle.kernel_isolation.specs.Isolation.{joint_until}
 
--- There is the page's resource, and it has so many pages.
+-- There is the page's resource, and it has a page of this number.
 abbrev pub IsHeldBy : Resources → PageId → Type 0
 IsHeldBy r q = IsSomeAnd (resource_at r q.resource) (λ held. q.page < held.pages)
 

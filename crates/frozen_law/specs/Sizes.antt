@@ -1,18 +1,12 @@
 -- How many there are of all, at every moment of a run: as many as the image says, each under its number.
-use Rattle.std.specs.Prelude.{ℕ, ◌≡◌, length, map, slice_get, IfSome, Ok}
+use Rattle.std.specs.Prelude.{ℕ, ◌≡◌, length, slice_get, IfSome, Ok}
 use Rattle.cloak_model.specs.declared.image.Bundle.{Bundle}
 use Rattle.cloak_model.specs.Beginning.{Beginning}
 use Rattle.cloak_model.specs.Bundle.{IsInGrammar}
-use Rattle.cloak_model.specs.Csr.{csr_numbers}
-use Rattle.cloak_model.specs.Hart.{Hart}
 use Rattle.cloak_model.specs.Parts.{Joint}
 use Rattle.cloak_model.specs.Run.{Run, run_from}
 use Rattle.kernel_isolation.specs.Isolation.{joint_until}
-
--- A hart has its number, and its nine control and status registers in their order.
-pub record IsHart (number : ℕ) (h : Hart) : Type 0 where
-  pub numbered : h.id ≡ number
-  pub csrs : map (λ (entry : ℕ × ℕ). entry.0) h.csrs ≡ csr_numbers
+use Rattle.frozen_state.specs.Thawing.{IsHart}
 
 -- Harts, places for reservations, frames, places for owed pages, bytes of the disk, and programs.
 pub record HasSizes (b : Bundle) (j : Joint) : Type 0 where

@@ -1,7 +1,7 @@
 -- The keys of a run are those of its beginning, and its stream at a moment is what the stream of the beginning has after
 -- the draws that were made.
 use Rattle.std.specs.Prelude.{ℕ, ◌≡◌, ◌≤◌, IsSomeAnd, Some, Ok}
-use Rattle.outside_io.specs.Skipping.{skipped}
+use Rattle.io_traits.specs.Skipping.{skipped}
 use Rattle.cloak_base.specs.Random.{Random}
 use Rattle.cloak_model.specs.declared.image.Bundle.{Bundle}
 use Rattle.cloak_model.specs.Beginning.{Beginning, Fresh, Stored, stored_keys}

@@ -9,7 +9,7 @@ use Rattle.cloak_model.specs.Bundle.{IsInGrammar}
 use Rattle.cloak_model.specs.Run.{Run, run_from}
 use Rattle.kernel_isolation.specs.Isolation.{joint_until}
 
--- A page of program d, of one of 16 resources, each of 1024 pages at most, and one of so many frames.
+-- A page of program d, of one of 16 resources, each of 1024 pages at most, and one of this many frames.
 pub record NamesPageOf (frames d : ℕ) (q : PageId) (f : ℕ) : Type 0 where
   pub domain : q.domain ≡ d
   pub resource : q.resource < 16

@@ -13,18 +13,18 @@ use Rattle.frozen_commands.specs.ThawAnswering.{ThawAnswers}
 use Rattle.frozen_state.specs.FrozenState.{frozen_bytes}
 use Rattle.frozen_state.specs.Ranges.{IsInRange}
 use Rattle.frozen_state.specs.Thawing.{CanGoOn}
-use Rattle.program_parts.specs.declared.refusal.Refusal.{Refusal}
-use Rattle.program_parts.specs.declared.refusal.Refusal.TheVariants as refusal
-use Rattle.program_parts.specs.declared.status.Status.{Status}
-use Rattle.program_parts.specs.declared.status.Status.TheVariants as status
-use Rattle.program_parts.specs.Freezing.{AsksFrozen}
-use Rattle.program_parts.specs.NoRun.{IsRefused}
-use Rattle.program_parts.specs.Outside.{Outside}
-use Rattle.program_parts.specs.Refusal.{status_of_refusal}
-use Rattle.program_parts.proofs.StreamFacts.{same_stream}
+use Rattle.command_parts.specs.declared.refusal.Refusal.{Refusal}
+use Rattle.command_parts.specs.declared.refusal.Refusal.TheVariants as refusal
+use Rattle.command_parts.specs.declared.status.Status.{Status}
+use Rattle.command_parts.specs.declared.status.Status.TheVariants as status
+use Rattle.command_parts.specs.Freezing.{AsksFrozen}
+use Rattle.command_parts.specs.NoRun.{IsRefused}
+use Rattle.command_parts.specs.Outside.{Outside}
+use Rattle.command_parts.specs.Refusal.{status_of_refusal}
+use Rattle.command_parts.proofs.StreamFacts.{same_stream}
 use Rattle.run_command.specs.Running.{NoClashYet}
 use Rattle.frozen_promise.specs.Accepted.{FailedToRead, FailedToWrite, GoesOnUnlessFailed, HasGoneOn, IsFromOutside, LackedMemory, SavedStatesAreAccepted}
-use Rattle.frozen_promise.specs.OneRun.{ShareFiles, Words}
+use Rattle.frozen_promise.specs.OneRun.{ShareFiles, TwoCommands}
 use Rattle.frozen_promise.proofs.Refused.{Named, refused_outside, thaw_of}
 use Rattle.frozen_promise.proofs.Sources.{as_freeze, one_image, steps_in}
 
@@ -36,7 +36,7 @@ one_run : (b : Bundle) (stream : Random) (n : ℕ) (made other : Run) → joint_
 one_run b stream n made other first second =
     let same : ◌≡◌ {A = Result Run Lack} (Ok made) (Ok other) = sym first ∙ second in cc
 
-named : {S O : Type 0} {version : ℕ} {b : Bundle} {stream : Random} (w : Words) (before mid later : Outside S O) →
+named : {S O : Type 0} {version : ℕ} {b : Bundle} {stream : Random} (w : TwoCommands) (before mid later : Outside S O) →
     ShareFiles w version b stream before.files.held mid.files.held later.files.held →
     HasFrozen (spec.Freeze w.freeze w.first_steps w.first_randomness) before mid →
     w.first_steps + w.rest_steps ≤ most_steps → (made : Run) → joint_run b stream w.first_steps ≡ Ok made →

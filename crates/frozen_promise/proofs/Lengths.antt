@@ -24,11 +24,11 @@ use Rattle.frozen_state.specs.declared.frozen.FrozenHart.{FrozenHart}
 use Rattle.frozen_state.specs.declared.frozen.FrozenPage.{FrozenPage}
 use Rattle.frozen_state.specs.FrozenState.{body_bytes, domain_bytes, frame_bytes, frozen_bytes, frozen_magic, hart_bytes, maybe_word, meta_bytes, owed_bytes, recorded_bytes, violation_bytes}
 use Rattle.frozen_state.specs.Ranges.{IsInRange}
-use Rattle.program_parts.specs.Thawing.{largest_state}
+use Rattle.command_parts.specs.Thawing.{largest_state}
 
 -- Lists.
 
--- pieces that have at most so many bytes
+-- pieces that have at most this many bytes
 pieces : {X : Type 0} (bytes : X → List ℕ) (most : ℕ) (xs : List X) → AllByRecursion (λ x. length (bytes x) ≤ most) xs →
     length (flat_map bytes xs) ≤ length xs * most
 pieces bytes most [] each = (let none = zero-mul most in omega (arith, none))
@@ -40,7 +40,7 @@ pieces bytes most (x ∷ xs) each =
     let here = each.0 in
     let more = suc-mul (length xs) most in omega (arith, both, whole, rest, here, more)
 
--- values of which each has at most so many bytes, since of each this is true
+-- values each of which has at most this many bytes, since this is true of each
 pieces_of : {X : Type 0} (P : X → Type 0) (bytes : X → List ℕ) (most : ℕ) → ((x : X) → P x → length (bytes x) ≤ most) →
     (xs : List X) → AllByRecursion P xs → length (flat_map bytes xs) ≤ length xs * most
 pieces_of {X} P bytes most of xs each = pieces bytes most xs (few xs each)

@@ -10,7 +10,7 @@ use Rattle.frozen_state.specs.declared.fault.FrozenFault.TheVariants.{Form}
 use Rattle.frozen_state.specs.declared.frozen.Frozen.{Frozen}
 use Rattle.frozen_state.specs.FrozenFault.{frozen_fault}
 use Rattle.frozen_state.specs.Ranges.{IsFrozen}
-use Rattle.program_parts.specs.Thawing.{largest_state, state_fault}
+use Rattle.command_parts.specs.Thawing.{largest_state, state_fault}
 use Rattle.frozen_promise.proofs.Lengths.{file_is_small}
 
 unless_large : (large : Bool) (fault other : Option FrozenFault) → large ≡ false → cond large fault other ≡ other

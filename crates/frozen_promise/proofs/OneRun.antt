@@ -1,6 +1,6 @@
 -- The two parts are one run.
-use Rattle.std.proofs.Common.{◌≡◌, ◌∙◌, ◌+◌, ℕ, true, false, List, ◌++◌, length, refl, sym, ap, subst, Option, Some, None, Result, Ok, Err}
-use Rattle.std.specs.Prelude.{IfSome, is_some}
+use Rattle.std.proofs.Common.{◌≡◌, ◌∙◌, ◌+◌, ℕ, false, List, ◌++◌, length, refl, sym, ap, subst, Option, Some, None, Result, Ok, Err}
+use Rattle.std.specs.Prelude.{IfSome}
 use Rattle.std.specs.Result.{result_map_both}
 use Rattle.sha2.specs.Sha256.{sha256}
 use Rattle.cloak_base.specs.Random.{Random}
@@ -19,10 +19,10 @@ use Rattle.frozen_state.specs.Continuing.{due_after, first_pieces, first_turns, 
 use Rattle.frozen_state.specs.FrozenState.{frozen_bytes}
 use Rattle.frozen_state.specs.Ranges.{IsInRange}
 use Rattle.frozen_state.specs.Thawing.{CanGoOn}
-use Rattle.outside_io.specs.Told.{Grows}
-use Rattle.program_parts.specs.Freezing.{AsksFrozen}
-use Rattle.program_parts.specs.Thawing.{AsksThawed, SpellsState, ThawSources}
-use Rattle.program_parts.proofs.StreamFacts.{same_stream}
+use Rattle.io_traits.specs.Told.{Grows}
+use Rattle.command_parts.specs.Freezing.{AsksFrozen}
+use Rattle.command_parts.specs.Thawing.{AsksThawed, SpellsState, ThawSources}
+use Rattle.command_parts.proofs.StreamFacts.{same_stream}
 use Rattle.run_command.specs.Running.{NoClash, NoClashYet, status_of}
 use Rattle.run_command.proofs.ClashFacts.{run_unclashed, turns_unclashed}
 use Rattle.thaw_law.proofs.FreezeThaw.{runs_are_first_and_rest}
@@ -31,6 +31,7 @@ use Rattle.thaw_law.proofs.TwoParts.{joint_after-append, runs_go_on, stopped_run
 use Rattle.thaw_law.specs.TwoParts.{moment_after}
 use Rattle.frozen_promise.specs.OneRun.{IsOneRun, PartsAreOneRun}
 use Rattle.frozen_promise.proofs.Sources.{as_freeze, as_thaw, one_image, steps_in}
+use Rattle.frozen_commands.proofs.StateFacts.{none_left}
 
 -- Both runs open alike.
 
@@ -60,10 +61,6 @@ first_unclashed : (b : Bundle) (n k : ℕ) (o : Opened) → NoClash (run_of b (n
     NoClashYet (joint_after o.joint (first_turns b o n))
 first_unclashed b n k o none =
     unclashed_if n k (first_moment b o.joint) _ refl (run_unclashed b (n + k) o none)
-
-none_left : (stopped : Option Stop) → is_some stopped ≡ false → stopped ≡ None
-none_left None is = refl
-none_left (Some cause) is = absurd (let clash : true ≡ false = is in cc)
 
 -- What is told of the rest of each machine, of the bundle, the stream and the state that are known.
 each_at : (t : ThawSources) (b : Bundle) (stream : Random) (f : Frozen) (n k : ℕ) (Becomes : ℕ → Run → Type 0) →

@@ -25,16 +25,16 @@ use Rattle.frozen_state.specs.Thawing.{CanGoOn}
 use Rattle.guest_bundle.proofs.Faulty.{bundle_tells}
 use Rattle.guest_bundle.proofs.Only.{bundle_again}
 use Rattle.guest_bundle.proofs.Tells.{Tells}
-use Rattle.program_parts.specs.declared.refusal.Refusal.{Refusal}
-use Rattle.program_parts.specs.declared.refusal.Refusal.TheVariants as refusal
-use Rattle.program_parts.specs.Bundles.{IsInFileAs}
-use Rattle.program_parts.specs.Freezing.{IsFreezeLack}
-use Rattle.program_parts.specs.NoRun.{HasBadState, HasCause, IsBadBundle, IsLack, IsNoSuchDomain, IsUsage, LacksKey, LacksPageDraw}
-use Rattle.program_parts.specs.Outside.{FilesOutside}
-use Rattle.program_parts.specs.Storing.{IsBadStore, IsShortSecret, IsStoredLack}
-use Rattle.program_parts.specs.Streams.{IsToldStream}
-use Rattle.program_parts.specs.Thawing.{AsksThawed, IsBadState, IsTooLong, IsUnthawed, SpellsState, ThawSources, state_fault}
-use Rattle.program_parts.proofs.StreamFacts.{same_stream}
+use Rattle.command_parts.specs.declared.refusal.Refusal.{Refusal}
+use Rattle.command_parts.specs.declared.refusal.Refusal.TheVariants as refusal
+use Rattle.command_parts.specs.Bundles.{IsInFileAs}
+use Rattle.command_parts.specs.Freezing.{IsFreezeLack}
+use Rattle.command_parts.specs.NoRun.{HasBadState, HasCause, IsBadBundle, IsLack, IsNoSuchDomain, IsUsage, LacksKey, LacksPageDraw}
+use Rattle.command_parts.specs.Outside.{FilesOutside}
+use Rattle.command_parts.specs.Storing.{IsBadStore, IsShortSecret, IsStoredLack}
+use Rattle.command_parts.specs.Streams.{IsToldStream}
+use Rattle.command_parts.specs.Thawing.{AsksThawed, IsBadState, IsTooLong, IsUnthawed, SpellsState, ThawSources, state_fault}
+use Rattle.command_parts.proofs.StreamFacts.{same_stream}
 use Rattle.frozen_promise.specs.Accepted.{IsFromOutside}
 use Rattle.frozen_promise.proofs.NoFault.{saved_without_fault}
 use Rattle.frozen_promise.proofs.Sources.{as_thaw, one_image}

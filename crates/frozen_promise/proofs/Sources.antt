@@ -11,7 +11,7 @@ use Rattle.frozen_state.specs.declared.frozen.FrozenDomain.{FrozenDomain}
 use Rattle.frozen_state.specs.declared.frozen.FrozenFrame.{FrozenFrame}
 use Rattle.frozen_state.specs.FrozenState.{frames_from, frozen_of, frozen_with}
 use Rattle.guest_bundle.proofs.Only.{one_bundle}
-use Rattle.program_parts.specs.Bundles.{IsInFileAs}
+use Rattle.command_parts.specs.Bundles.{IsInFileAs}
 
 -- The words say what is asked for.
 

@@ -19,7 +19,7 @@ use Rattle.frozen_state.specs.Thawing.{CanGoOn, keys_and_rest}
 use Rattle.joint_machine.proofs.GoesOn.{program_of}
 use Rattle.joint_machine.proofs.Shown.{DrewOne, IsFrameShown, ShowsAll, domain_seen, frame_seen, shows_all}
 use Rattle.joint_machine.proofs.Thaws.{all_get, get_low, get_there, some_there}
-use Rattle.outside_io.specs.Skipping.{skipped}
+use Rattle.io_traits.specs.Skipping.{skipped}
 
 pub not_none : {A : Type 0} {o : Option A} (x : A) → o ≡ Some x → o ≡ None → ⊥
 not_none x is none = (let clash : None ≡ Some x = sym none ∙ is in cc)

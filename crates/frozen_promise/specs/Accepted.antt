@@ -7,14 +7,14 @@ use Rattle.command_words.specs.Command as spec
 use Rattle.frozen_commands.specs.FreezeAnswering.{HasFrozen}
 use Rattle.frozen_commands.specs.Freezing.{last_joint}
 use Rattle.frozen_commands.specs.ThawAnswering.{HasThawed, ThawAnswers, ThawingBrokeOff}
-use Rattle.program_parts.specs.declared.refusal.Refusal.{Refusal}
-use Rattle.program_parts.specs.declared.refusal.Refusal.TheVariants as refusal
-use Rattle.program_parts.specs.declared.status.Status.{Status}
-use Rattle.program_parts.specs.declared.status.Status.TheVariants as status
-use Rattle.program_parts.specs.NoRun.{LineFailed}
-use Rattle.program_parts.specs.Outside.{Outside}
+use Rattle.command_parts.specs.declared.refusal.Refusal.{Refusal}
+use Rattle.command_parts.specs.declared.refusal.Refusal.TheVariants as refusal
+use Rattle.command_parts.specs.declared.status.Status.{Status}
+use Rattle.command_parts.specs.declared.status.Status.TheVariants as status
+use Rattle.command_parts.specs.NoRun.{LineFailed}
+use Rattle.command_parts.specs.Outside.{Outside}
 use Rattle.run_command.specs.Running.{NoClashYet}
-use Rattle.frozen_promise.specs.OneRun.{ShareFiles, Words}
+use Rattle.frozen_promise.specs.OneRun.{ShareFiles, TwoCommands}
 
 -- a reason to refuse that lies outside: a file cannot be read, or there is not enough memory
 abbrev pub IsFromOutside : Refusal → Type 0
@@ -42,7 +42,7 @@ pub data GoesOnUnlessFailed {S O : Type 0} (asked : spec.Asked) (given : Status)
 -- have. Then it goes on.
 abbrev pub SavedStatesAreAccepted : (S O : Type 0) → Type 0
 SavedStatesAreAccepted S O =
-    (w : Words) (version : ℕ) (b : Bundle) (stream : Random) (before mid later after : Outside S O) (given : Status) →
+    (w : TwoCommands) (version : ℕ) (b : Bundle) (stream : Random) (before mid later after : Outside S O) (given : Status) →
     ShareFiles w version b stream before.files.held mid.files.held later.files.held →
     HasFrozen (spec.Freeze w.freeze w.first_steps w.first_randomness) before mid →
     w.first_steps + w.rest_steps ≤ most_steps →

@@ -9,17 +9,17 @@ use Rattle.command_words.specs.Command as spec
 use Rattle.frozen_commands.specs.FreezeAnswering.{HasFrozen}
 use Rattle.frozen_commands.specs.ThawAnswering.{HasThawed}
 use Rattle.frozen_state.specs.Continuing.{report_after}
-use Rattle.outside_io.specs.Told.{Grows, Tells}
-use Rattle.program_parts.specs.declared.status.Status.{Status}
-use Rattle.program_parts.specs.Outside.{Outside}
-use Rattle.program_parts.specs.Streams.{IsToldStream}
+use Rattle.io_traits.specs.Told.{Grows, Tells}
+use Rattle.command_parts.specs.declared.status.Status.{Status}
+use Rattle.command_parts.specs.Outside.{Outside}
+use Rattle.command_parts.specs.Streams.{IsToldStream}
 use Rattle.run_command.specs.Running.{NoClash, run_status}
 use Rattle.thaw_law.specs.FreezeThaw.{AreAlike}
 
 -- The commands.
 
--- The words of two commands: so many steps, and then up to so many more.
-pub record Words : Type 0 where
+-- The words of two commands: this many steps, and then up to that many more.
+pub record TwoCommands : Type 0 where
   pub freeze : spec.FreezeNames
   pub first_steps : ℕ
   pub first_randomness : spec.Randomness
@@ -29,7 +29,7 @@ pub record Words : Type 0 where
 
 -- Both read this image and this random stream, and the second one reads the state that the first one wrote. Between
 -- them anything may have been done to other files.
-pub record ShareFiles (w : Words) (version : ℕ) (b : Bundle) (stream : Random)
+pub record ShareFiles (w : TwoCommands) (version : ℕ) (b : Bundle) (stream : Random)
     (before mid later : List ℕ → Option (List ℕ)) : Type 0 where
   pub image : List ℕ
   pub is_image : IsBundleIn version image b
@@ -42,15 +42,15 @@ pub record ShareFiles (w : Words) (version : ℕ) (b : Bundle) (stream : Random)
   pub state_read : later w.thaw.state_name ≡ Some state
 
 -- The first one froze the run, and the second one made its rest.
-pub record BothRan {S O : Type 0} (w : Words) (before mid later after : Outside S O) (given : Status) : Type 0 where
+pub record BothRan {S O : Type 0} (w : TwoCommands) (before mid later after : Outside S O) (given : Status) : Type 0 where
   pub frozen : HasFrozen (spec.Freeze w.freeze w.first_steps w.first_randomness) before mid
   pub thawed : HasThawed (spec.Thaw w.thaw w.rest_steps w.rest_randomness) given later after
 
 -- The run.
 
 -- The record of the run is what both wrote. What is shown of it is what both showed, up to the report. That of the
--- second one has the same lines, but that console and loads are counted from where it went on.
-pub record IsOneRun {S O : Type 0} (w : Words) (before mid later after : Outside S O) (given : Status) (r : Run) :
+-- second one has the same lines, except that console and loads are counted from where it went on.
+pub record IsOneRun {S O : Type 0} (w : TwoCommands) (before mid later after : Outside S O) (given : Status) (r : Run) :
     Type 0 where
   pub first_record : List ℕ
   pub rest_record : List ℕ
@@ -70,7 +70,7 @@ pub record IsOneRun {S O : Type 0} (w : Words) (before mid later after : Outside
 -- The law.
 abbrev pub PartsAreOneRun : (S O : Type 0) → Type 0
 PartsAreOneRun S O =
-    (w : Words) (version : ℕ) (b : Bundle) (stream : Random) (before mid later after : Outside S O) (given : Status) →
+    (w : TwoCommands) (version : ℕ) (b : Bundle) (stream : Random) (before mid later after : Outside S O) (given : Status) →
     ShareFiles w version b stream before.files.held mid.files.held later.files.held →
     BothRan w before mid later after given →
     (r : Run) → joint_run b stream (w.first_steps + w.rest_steps) ≡ Ok r → NoClash r →

@@ -3,22 +3,23 @@
 //! what is true of a run in two parts (`thaw_law`), of a file that spells a state (`frozen_run`), and of a machine that
 //! can go on (`joint_machine`).
 //!
-//! No body turns a law, so there is no wrong body to refuse here; `frozen_commands` and the crates below it have edits.
+//! No body changes a law, so there is no wrong body to refuse here; `frozen_commands` and the crates below it have
+//! edits.
 #![tactic(auto)]
 
 ghost use Rattle.frozen_promise.specs.Accepted.{SavedStatesAreAccepted};
 ghost use Rattle.frozen_promise.specs.OneRun.{PartsAreOneRun};
 
-use outside_io::{Shelf, Sink};
+use io_traits::{Shelf, Sink};
 
-/// If `freeze` answers Frozen, and `thaw` goes on from its state with the same image and the same random stream, then
+/// If `freeze` returns Frozen, and `thaw` goes on from its state with the same image and the same random stream, then
 /// their records, one after the other, are the record of `run` over the steps of both, and so are their consoles; and
 /// the status is that of `run`. It does nothing: its contract is the law.
 pub fn law_of_one_run<S: Shelf, O: Sink>()
     ensures { PartsAreOneRun S O }
 {}
 
-/// If `freeze` answers Frozen, then `thaw` accepts the state that it saved, with the same image and the same random
+/// If `freeze` returns Frozen, then `thaw` accepts the state that it saved, with the same image and the same random
 /// stream: it makes the rest of the run, unless a file cannot be read or written, or there is not enough memory. It
 /// does nothing: its contract is the law.
 pub fn law_of_saved_states<S: Shelf, O: Sink>()

@@ -18,7 +18,7 @@ use Rattle.frozen_state.specs.FrozenFault.{any_in, byte_below, page_at, page_fie
 use Rattle.frozen_run.specs.Reading.{values, meta_in, frame_in, frame_fields, seen_after}
 use Rattle.frozen_run.proofs.Firsts.{first_of-assoc, first_in-append}
 use Rattle.frozen_run.proofs.Stands.{AreBytes, none_parts, field_holds, Stands, Stands-then, piece_stands}
-use Rattle.frozen_run.proofs.Spelled.{ends_at, byte_stands, byte_then, page_holds}
+use Rattle.frozen_run.proofs.Spelled.{ends_at, byte_stands, byte_then, page_holds, zero_below_2}
 
 -- ---- one more frame
 
@@ -70,11 +70,6 @@ frame_by owes body at = record {
   bytes = take 4096 (drop at body);
   owed = cond owes (Some (page_at body (at + 4097), meta_in body (at + 4097 + 12))) None;
 }
-
-zero_below_2 : (n : ℕ) → n < 2 → (n ≡ 1 → ⊥) → n ≡ 0
-zero_below_2 zero lt other = refl
-zero_below_2 (suc zero) lt other = absurd (other refl)
-zero_below_2 (suc (suc n)) lt other = absurd (omega arith)
 
 record FrameHolds (body : List ℕ) (programs : ℕ) (seen : List PageId) (at : ℕ) (frame : FrozenFrame) (next : ℕ) : Type 0 where
   text : Stands body at (frame_bytes frame) next

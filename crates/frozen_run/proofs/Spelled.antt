@@ -46,7 +46,7 @@ byte_then body at b text next le is s =
 abbrev pub maybe_by : Bool → List ℕ → ℕ → Option ℕ
 maybe_by there body at = cond there (Some (number body (at + 1))) None
 
-zero_below_2 : (n : ℕ) → n < 2 → (n ≡ 1 → ⊥) → n ≡ 0
+pub zero_below_2 : (n : ℕ) → n < 2 → (n ≡ 1 → ⊥) → n ≡ 0
 zero_below_2 zero lt other = refl
 zero_below_2 (suc zero) lt other = absurd (other refl)
 zero_below_2 (suc (suc n)) lt other = absurd (omega arith)

@@ -185,7 +185,7 @@ count_fault body at = fault_in body (any_in body at 4)
 abbrev pub recorded_faults : List ℕ → ℕ → ℕ → Option FrozenFault
 recorded_faults body programs at = first_in body (recorded_fields body programs (number body at) None (at + 4))
 
--- bytes too few or too many after so many recorded pages
+-- too few or too many bytes after this many recorded pages
 abbrev pub end_fault : List ℕ → ℕ → Option FrozenFault
 end_fault body at =
     let end = at + 4 + 60 * number body at in cond (eqb end (length body)) None (Some (Form end))

@@ -6,9 +6,9 @@ use Rattle.std.specs.List.{flat_map}
 use Rattle.sha2.specs.Hashers.{Holds256}
 use Rattle.sha2.specs.Sha256.{sha256}
 use Rattle.cloak_base.specs.declared.causes.Failed.{Failed}
-use Rattle.outside_io.specs.declared.shelf.Shelf as shelves
-use Rattle.outside_io.specs.Told.{Tells, Grows, GrowsByFront, Rose, Counts, SameFiles, OtherFiles}
-use Rattle.outside_io.proofs.ToldFacts.{Grows-append, Grows-none, GrowsByFront-append, GrowsByFront-first, Rose-after}
+use Rattle.io_traits.specs.declared.shelf.Shelf as shelves
+use Rattle.io_traits.specs.Told.{Tells, Grows, GrowsByFront, Rose, Counts, SameFiles, OtherFiles}
+use Rattle.io_traits.proofs.ToldFacts.{Grows-append, Grows-none, GrowsByFront-append, GrowsByFront-first, Rose-after}
 use Rattle.frozen_run.specs.declared.pen.Pen.{Pen}
 use Rattle.frozen_run.specs.Writing.{Adds, HasAdded, Gives, Saves, TellsFront}
 

@@ -1,12 +1,12 @@
 -- What was added to a file.
 use Rattle.std.specs.Prelude.{ℕ, ◌≡◌, ◌≤◌, ◌⊎◌, Bool, true, false, List, ◌++◌, length, take, Option}
 use Rattle.sha2.specs.Hashers.{Holds256}
-use Rattle.outside_io.specs.declared.shelf.Shelf as shelves
-use Rattle.outside_io.specs.Told.{Tells, Grows, GrowsByFront, Rose, OtherFiles}
+use Rattle.io_traits.specs.declared.shelf.Shelf as shelves
+use Rattle.io_traits.specs.Told.{Tells, Grows, GrowsByFront, Rose, OtherFiles}
 use Rattle.frozen_run.specs.declared.pen.Pen.{Pen}
 
--- These bytes were added to the file of this name, and nothing else was done to the shelf: all of them; or a front of them,
--- and the count of faults of writing rose.
+-- These bytes were added to the file of this name, and nothing else was done to the shelf: all of them; or a front of
+-- them, and the count of write faults rose.
 pub record Adds {S : Type 0} (of_shelf : shelves.Ghosts S) (failed : Bool) (name : List ℕ) (before after : S)
     (bytes : List ℕ) : Type 0 where
   pub whole : failed ≡ false → Grows (of_shelf.held before name) (of_shelf.held after name) bytes
@@ -20,8 +20,8 @@ pub record Adds {S : Type 0} (of_shelf : shelves.Ghosts S) (failed : Bool) (name
 abbrev pub TellsFront : Option (List ℕ) → List ℕ → Type 0
 TellsFront told bytes = (n : ℕ) × (n ≤ length bytes) × Tells told (take n bytes)
 
--- The file of this name was written anew, and nothing else was done to the shelf: it has these bytes; or it stayed as it
--- was or has a front of them, and the count of faults of writing rose.
+-- The file of this name was written from nothing, and nothing else was done to the shelf: it has these bytes; or it
+-- stayed as it was or has a front of them, and the count of write faults rose.
 pub record Saves {S : Type 0} (of_shelf : shelves.Ghosts S) (failed : Bool) (name : List ℕ) (before after : S)
     (bytes : List ℕ) : Type 0 where
   pub whole : failed ≡ false → Tells (of_shelf.held after name) bytes

@@ -1,7 +1,7 @@
 //! A file as it is written.
 ghost use Rattle.std.specs.Prelude.{◌≡◌};
 
-use outside_io::Shelf;
+use io_traits::Shelf;
 use sha2::{Digest, Sha256};
 
 /// Adds pieces to the end of a file, up to the first that fails, and takes the digest of all of them.

@@ -36,7 +36,7 @@ const SHORTEST: usize = 40;
 /// The most steps of a run.
 const MOST_STEPS: u32 = 1_000_000_000;
 
-/// No run makes so many draws.
+/// No run makes this many draws.
 const DRAWS_END: u64 = 1 << 60;
 
 /// The numbers that a state begins with.

@@ -8,7 +8,7 @@ ghost use Rattle.frozen_run.specs.Writing.{Gives};
 use crate::pen::Pen;
 use cloak_base::{Meta, Mode, PageId, Violation};
 use frozen_state::{FrozenDomain, FrozenFrame, FrozenHart, FrozenPage};
-use outside_io::Shelf;
+use io_traits::Shelf;
 
 /// What is written as bytes, the lowest of a number first.
 pub(crate) trait Spelled {

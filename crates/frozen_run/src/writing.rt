@@ -7,7 +7,7 @@ use crate::pen::Pen;
 use crate::spelling::{Spelled, put_each};
 use cloak_base::Failed;
 use frozen_state::Frozen;
-use outside_io::Shelf;
+use io_traits::Shelf;
 use sha2::{Digest, Sha256};
 
 /// Writes all but the digest of all.

@@ -33,17 +33,17 @@ without_loads d = record d { loads = [] }
 abbrev pub without_past : Joint → Joint
 without_past j = record j { console = []; domains = map without_loads j.domains }
 
--- the moment at which it goes on, after so many steps
+-- the moment at which it goes on, after this many steps
 unfoldable pub next_moment : Bundle → ℕ → Joint → Moment
 next_moment b steps j = record { schedule = b.kernel.schedule; steps = steps; joint = without_past j }
 
--- its steps, at most so many, and its end, as one value; nothing is shown as it begins
+-- its steps, at most this many, and its end, as one value; nothing is shown as it begins
 unfoldable pub run_on : Bundle → ℕ → Joint → ℕ → Run
 run_on b steps j budget =
     run_of_turns (record { joint = without_past j; items = [] }) (turns_from budget (next_moment b steps j))
 
--- What a run writes from a step on, before which there were so many: its steps, the closing with the number of all steps,
--- and an empty rest of the console's line. From none on it is all that a run writes after its opening.
+-- What a run writes from a step on, before which there were this many: its steps, the closing with the number of all
+-- steps, and an empty rest of the console's line. With none before, it is all that a run writes after its opening.
 unfoldable pub pieces_after : ℕ → Run → List Piece
 pieces_after steps r =
     turns_pieces (steps + 1) r.turns

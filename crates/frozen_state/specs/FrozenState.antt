@@ -134,8 +134,8 @@ frozen_with j steps domains frames = record {
   recorded = recorded_of j.memory.ledger (pages_of_domains (length j.domains));
 }
 
--- The state of a machine after so many steps, under these vectors: a draw for each domain by rising number, and then one
--- for each frame that is owed a page, by rising number. None if the vectors have too few draws.
+-- The state of a machine after this many steps, under these vectors: a draw for each domain by rising number, and then
+-- one for each frame that is owed a page, by rising number. None if the vectors have too few draws.
 unfoldable pub frozen_of : Joint → ℕ → Random → Option Frozen
 frozen_of j steps ivs =
     option_and_then (λ (domains : List FrozenDomain × Random).
@@ -206,6 +206,6 @@ frozen_bytes f bundle = let body = body_bytes f bundle in body ++ sha256 body
 abbrev pub domain_page_at : Frozen → ℕ → ℕ
 domain_page_at f d = 60 + length (flat_map domain_bytes (take (d + 1) f.domains)) - 4096
 
--- The file of a machine's state after so many steps, of an image with these bytes, under these vectors.
+-- The file of a machine's state after this many steps, of an image with these bytes, under these vectors.
 unfoldable pub frozen : Joint → ℕ → List ℕ → Random → Option (List ℕ)
 frozen j steps bundle ivs = option_map (λ (f : Frozen). frozen_bytes f (sha256 bundle)) (frozen_of j steps ivs)

@@ -38,7 +38,7 @@ pub record IsFrozenHart (frames : ℕ) (h : FrozenHart) : Type 0 where
 
 -- Pages.
 
--- a page that one of so many domains can have
+-- a page that one of this many domains can have
 pub record IsPage (programs : ℕ) (q : PageId) : Type 0 where
   pub domain : q.domain < programs
   pub resource : q.resource < 16
@@ -64,7 +64,7 @@ precedes p q =
 abbrev pub Rises : FrozenPage → FrozenPage → Type 0
 Rises p q = precedes p.page q.page ≡ true
 
--- The whole, of an image with this kernel and so many programs.
+-- The whole, of an image with this kernel and this many programs.
 pub record IsInRange (k : KernelImage) (programs : ℕ) (f : Frozen) : Type 0 where
   pub steps : f.steps ≤ most_steps
   pub draws : f.draws < 2 ^ 60

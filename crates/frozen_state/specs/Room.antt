@@ -3,8 +3,8 @@ use Rattle.std.specs.Prelude.{ℕ, ◌≡◌, ◌≤◌, ◌*◌, [], vec_capaci
 use Rattle.cloak_model.specs.declared.image.KernelImage.{KernelImage}
 use Rattle.frozen_state.specs.declared.room.FrozenRoom.{FrozenRoom}
 
--- Nothing is in these lists yet, and there is room for so many programs, for the harts and the frames of the image, and
--- for each page that a program can have.
+-- Nothing is in these lists yet, and there is room for this many programs, for the harts and the frames of the image,
+-- and for each page that a program can have.
 pub record IsRoomFor (k : KernelImage) (programs : ℕ) (room : FrozenRoom) : Type 0 where
   pub no_domain : room.domains.items ≡ []
   pub no_hart : room.harts.items ≡ []

@@ -18,9 +18,9 @@ use Rattle.frozen_state.specs.DomainPage.{IsProgram}
 use Rattle.frozen_state.specs.FrozenState.{frozen_of}
 use Rattle.frozen_state.specs.Limits.{IsThere, TellsEnded}
 use Rattle.frozen_state.specs.declared.frozen.Frozen.{Frozen}
-use Rattle.outside_io.specs.Skipping.{skipped}
+use Rattle.io_traits.specs.Skipping.{skipped}
 
--- The keys with which a stream begins, and what it has after them and so many draws more: none if it has fewer.
+-- The keys with which a stream begins, and what it has after them and this many more draws: none if it has fewer.
 unfoldable pub keys_and_rest : Bundle → ℕ → Random → Option (Keys × Random)
 keys_and_rest b draws stream =
     option_and_then (λ (drawn : List (List ℕ) × Random). option_map (λ (rest : Random). (keys_for b.programs drawn.0, rest)) (skipped draws drawn.1))

@@ -1,4 +1,4 @@
--- What is spelled so is read.
+-- What the file spells is read.
 use Rattle.std.proofs.Common.{◌≡◌, ℕ, ◌+◌, ◌-◌, ◌*◌, ◌%◌, ◌^◌, ◌<◌, ◌≤◌, Bool, true, false, ltb, leb, eqb, List, [], ◌∷◌}
 use Rattle.std.proofs.Common.{◌++◌, length, get_or, drop, Result, Ok, refl, sym, ap, ◌∙◌, append_assoc, add-zero}
 use Rattle.std.proofs.Common.{length-drop, length-append, arith}
@@ -18,7 +18,7 @@ use Rattle.guest_bundle.specs.Reading.{turn_at, segment_at, place_at, base_at, k
 use Rattle.guest_bundle.specs.Places.{key_size}
 use Rattle.guest_bundle.proofs.Steps.{behind, KeyFits, key_text, key_text-length}
 
--- so many bytes are left
+-- n bytes are left
 is_left : (file : List ℕ) (at : ℕ) (text rest : List ℕ) (n : ℕ) → drop at file ≡ text ++ rest → length text ≡ n →
     ltb (length file - at) n ≡ false
 is_left file at text rest n e len =

@@ -199,7 +199,7 @@ header_takes file h fits e =
     }
 
 -- bytes, each as a list of its own
-joined : (xs : List ℕ) → flat_map (λ x. x ∷ []) xs ≡ xs
+pub joined : (xs : List ℕ) → flat_map (λ x. x ∷ []) xs ≡ xs
 joined [] = refl
 joined (x ∷ xs) = rw (flat_map-cons, joined xs) refl
 

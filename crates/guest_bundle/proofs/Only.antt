@@ -5,7 +5,6 @@ use Rattle.std.specs.List.{flat_map, AllByRecursion}
 use Rattle.std.proofs.lemmas.Bool.{le-ltb, eq-eqb, eqb-true, cases_Bool}
 use Rattle.std.proofs.lemmas.List.{append-nil}
 use Rattle.std.proofs.lemmas.List.Elements.{recursion_from_All}
-use Rattle.std.proofs.lemmas.List.Concat.{flat_map-cons}
 use Rattle.cloak_model.specs.Bits.{word}
 use Rattle.cloak_model.specs.Bundle.{segment_bytes, is_version, program_bytes, bundle_bytes, IsSegmentIn, IsProgramIn}
 use Rattle.cloak_model.specs.Bundle.{IsBundleIn, IsBundle}
@@ -17,7 +16,7 @@ use Rattle.guest_bundle.specs.Reading.{version_at, header_at, turn_at, segment_a
 use Rattle.guest_bundle.specs.Reading.{program_size, parts_at, bundle_at}
 use Rattle.guest_bundle.proofs.Steps.{behind, ok_is, KeyFits}
 use Rattle.guest_bundle.proofs.Lengths.{program_bytes-length, bundle_bytes-length}
-use Rattle.guest_bundle.proofs.Found.{HeaderFits}
+use Rattle.guest_bundle.proofs.Found.{HeaderFits, joined}
 use Rattle.guest_bundle.proofs.Again.{number_again, bytes_again, pages_again, count_again, entry_again, turn_again}
 use Rattle.guest_bundle.proofs.Again.{segment_again, program_again, parts_again}
 
@@ -79,10 +78,6 @@ header_again version file rest h known keys fits e =
       count_again file 32 0 4096 h.blocks r36 (omega arith) (omega arith) fits.few_blocks e32,
       count_again file 36 0 4 h.programs rest (omega arith) (omega arith) fits.few_programs e36,
     ) refl
-
-joined : (xs : List ℕ) → flat_map (λ x. x ∷ []) xs ≡ xs
-joined [] = refl
-joined (x ∷ xs) = rw (flat_map-cons, joined xs) refl
 
 -- the key of each program, in a file with keys and in one without
 are_keyed : (keys : Bool) (frames : ℕ) (ps : List Program) → AllByRecursion (IsProgramIn frames) ps →

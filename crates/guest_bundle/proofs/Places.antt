@@ -57,7 +57,7 @@ segments_front file n low (p ∷ ps) high le h =
     let bytes = between_front file n p.from p.to h.1 (omega arith) in
     λ i. (record { address = p.address; bytes = bytes i }) ∷ rest i
 
--- one part is moved behind the others
+-- one more part is moved after the others
 pub moved_more : {X Y : Type 0} (f : X → Y) (ps : List X) (p : X) (out : List Y) (y : Y) → y ≡ f p →
     map f ps ++ reverse (out ++ y ∷ []) ≡ map f (ps ++ p ∷ []) ++ reverse out
 moved_more f ps p out y e =
@@ -65,7 +65,7 @@ moved_more f ps p out y e =
     let two : map f (ps ++ p ∷ []) ≡ map f ps ++ f p ∷ [] = map-append f ps (p ∷ []) in
     ap (λ l. map f ps ++ l) one ∙ sym (append_assoc (map f ps) (f p ∷ []) (reverse out)) ∙ ap (λ l. l ++ reverse out) (sym two)
 
--- bytes from a place on, and those behind another one
+-- bytes from a place on, and those after another one
 pub moved_piece : (file : List ℕ) (at n : ℕ) → at ≤ n → n ≤ length file →
     reverse (drop n file) ++ reverse (drop at (take n file)) ≡ reverse (drop at file)
 moved_piece file at n h there =
@@ -74,7 +74,7 @@ moved_piece file at n h there =
     ap (drop at) (sym (take-append-drop n file)) ∙ drop-append-le at (take n file) (drop n file) long in
     sym (ap reverse whole ∙ reverse-append (drop at (take n file)) (drop n file))
 
--- the offset behind a part
+-- the offset after a part
 pub segment_end : (file : List ℕ) (at : ℕ) (p : SegmentPlace) → IsSegmentPlace (length file) at p →
     at + segment_size (segment_of file p) ≡ p.to
 segment_end file at p h =

@@ -76,7 +76,7 @@ pub Stands-then : (file : List ℕ) (a : ℕ) (x : List ℕ) (b : ℕ) (y : List
 Stands-then file a x b y c p q =
     record { parts = p.parts ∙ ap (λ t. x ++ t) q.parts ∙ sym (append_assoc x y (drop c file)) }
 
--- what stands behind a text
+-- what stands after a text
 pub behind : (file : List ℕ) (at : ℕ) (text rest : List ℕ) → drop at file ≡ text ++ rest →
     drop (at + length text) file ≡ rest
 behind file at text rest e = sym (drop-drop (length text) at file) ∙ ap (drop (length text)) e

@@ -1,4 +1,4 @@
--- What is read is spelled so.
+-- The file spells what is read.
 use Rattle.std.proofs.Common.{◌≡◌, ℕ, zero, suc, ◌+◌, ◌-◌, ◌*◌, ◌%◌, ◌^◌, ◌<◌, ◌≤◌, Bool, true, false, ◌&&◌, add-one, add-zero}
 use Rattle.std.proofs.Common.{drop-cons, length-drop, cond, ltb, leb, eqb, List, [], ◌∷◌, ◌++◌, length, get_or, take}
 use Rattle.std.proofs.Common.{drop, Result, Ok, Err, refl, sym, ap, subst, ◌∙◌, arith}

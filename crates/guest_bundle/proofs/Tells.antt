@@ -11,7 +11,7 @@ use Rattle.cloak_model.specs.BundleFault.{BundleField, ruled_at, count, is_base_
 use Rattle.guest_bundle.specs.Reading.{turn_at, place_at, base_at, parts_at}
 use Rattle.guest_bundle.proofs.Steps.{bind_ok, refused_not, ok_is}
 
--- what reading gives, beside the first fault that there is
+-- what reading returns, beside the first fault that there is
 abbrev pub Tells : {A : Type 0} → Result A BundleFault → Option BundleFault → Type 0
 Tells (Ok x) fault = fault ≡ None
 Tells (Err e) fault = fault ≡ Some e
@@ -47,7 +47,7 @@ pub passed_tells : {A : Type 0} (b : Bool) (e : BundleFault) (r : Result A Bundl
 passed_tells true e r o h = h
 passed_tells false e r o h = refl
 
--- the fault of so many bytes that are not there
+-- the fault if this many bytes are not there
 abbrev pub short : List ℕ → ℕ → ℕ → Option BundleFault
 short file at size = cond (ltb (length file - at) size) (Some (Short at)) None
 
@@ -92,7 +92,7 @@ tested_tells file f r k h then =
     subst (Tells (r >>= k)) (sym (fault_apart (ltb (length file - f.at) f.size) f.cut f.wrong))
     (bind_tells r k (cut_in file f) f.wrong h then)
 
--- a rule, and what is read where it is kept
+-- a rule, and what is read if it is kept
 pub guarded_tells : {A B : Type 0} (b : Bool) (e : BundleFault) (r : Result A BundleFault) (k : A →
     Result B BundleFault) (o : Option BundleFault) → Tells (r >>= k) o →
     Tells (cond b r (Err e) >>= k) (first_of (cond b None (Some e)) o)

@@ -11,7 +11,7 @@ abbrev pub ◌>>=◌ : {A B : Type 0} → Result A BundleFault → (A → Result
 (Ok x) >>= f = f x
 (Err e) >>= f = Err e
 
--- What a function returned, seen by view, is what reading gives, unless memory ran out.
+-- What a function returned, seen by view, is what reading returns, unless memory ran out.
 abbrev pub Fails : {Y : Type 0} → BundleFault → Result Y BundleFault → Type 0
 Fails NoMemory read = Unit {0}
 Fails (Short at) read = read ≡ Err (Short at)
@@ -26,7 +26,7 @@ abbrev pub Gives : {X Y : Type 0} → (X → Y) → Result X BundleFault → Res
 Gives view (Ok x) read = read ≡ Ok (view x)
 Gives view (Err e) read = Fails e read
 
--- What a function that takes no memory returned, seen by view, is what reading gives.
+-- What a function that takes no memory returned, seen by view, is what reading returns.
 abbrev pub Shows : {X Y : Type 0} → (X → Y) → Result X BundleFault → Result Y BundleFault → Type 0
 Shows view result read = MatchResult result (λ x. read ≡ Ok (view x)) (λ e. read ≡ Err e)
 

@@ -16,7 +16,7 @@ abbrev pub program_of : List ℕ → ProgramPlace → Program
 program_of file p =
     record { place = p.place; start = p.start; key = p.key; bytes = bytes_between file p.from p.to }
 
--- a part whose fields begin at an offset of a file of so many bytes
+-- a part whose fields begin at an offset of a file of `size` bytes
 pub record IsSegmentPlace (size at : ℕ) (p : SegmentPlace) : Type 0 where
   pub from : p.from ≡ at + 8
   pub order : p.from ≤ p.to
@@ -31,7 +31,7 @@ pub record IsProgramPlace (keys : Bool) (size at : ℕ) (p : ProgramPlace) : Typ
   pub order : p.from ≤ p.to
   pub within : p.to ≤ size
 
--- parts that stand one behind the other between two offsets, by where each begins and ends
+-- parts that stand one after the other between two offsets, by where each begins and ends
 abbrev pub LieBetween : {X : Type 0} → (X → ℕ) → (X → ℕ) → ℕ → List X → ℕ → Type 0
 LieBetween from to low [] high = low ≤ high
 LieBetween from to low (p ∷ ps) high = (low ≤ from p) × (from p ≤ to p) × LieBetween from to (to p) ps high

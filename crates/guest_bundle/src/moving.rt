@@ -1,5 +1,5 @@
-//! The parts of a file, moved out of it. What was moved, the file gives back, so that file and parts together take little more
-//! memory than the file took.
+//! The parts of a file, moved out of it. The file gives back what was moved, so that file and parts together take
+//! little more memory than the file took.
 ghost use Rattle.std.specs.Prelude.{◌≡◌, ◌-◌, ◌≤◌, ◌++◌, length, map, reverse, take, drop, IfOk, OnOk};
 ghost use Rattle.guest_bundle.specs.Places.{segment_of, program_of, AreSegmentPlaces, AreProgramPlaces};
 
@@ -56,7 +56,7 @@ fn move_middle(
     Ok(Sequence::new(bytes))
 }
 
-/// Moves the segments, the last one first, and drops what is behind them.
+/// Moves the segments, the last one first, and drops what stands after them.
 pub fn move_segments(
     alloc: Global,
     file: &mut Vec<u8>,
@@ -78,7 +78,7 @@ pub fn move_segments(
     Ok(segments)
 }
 
-/// Moves the programs, the last one first, and drops what is behind a place that lies before them.
+/// Moves the programs, the last one first, and drops what stands after a place that lies before them.
 pub fn move_programs(
     alloc: Global,
     file: &mut Vec<u8>,

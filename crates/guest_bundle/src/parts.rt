@@ -67,7 +67,7 @@ pub fn schedule(
     Ok((turns, at))
 }
 
-/// Bytes from this address on lie in RAM; where there are none, the address may be RAM's end.
+/// Bytes from this address on lie in RAM; if there are none, the address may be RAM's end.
 fn is_in_ram(frames: u32, address: u32, size: u32) -> bool
     ensures { result ≡ lies_in_ram frames address size }
 {

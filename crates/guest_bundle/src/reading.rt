@@ -92,15 +92,15 @@ fn bundle(alloc: Global, file: Vec<u8>) -> Result<Bundle, BundleFault>
     }
 }
 
-/// What is so of the bytes of a file. It does nothing.
+/// What is true of the bytes of a file. It does nothing.
 fn are_bytes(file: &[u8])
     ensures { (i : ℕ) → slice_index_or file.now i 0 < 256 }
 {}
 
 /// The bundle of a file in version 1 or 2, which gives its memory back as the parts are moved out. A file above
-/// 67,108,864 bytes is refused before anything of it is read, and `NoMemory` comes only if a growth was refused.
+/// 67,108,864 bytes is refused before anything of it is read, and `NoMemory` is returned only if a growth was refused.
 pub fn read(alloc: Global, file: Vec<u8>) -> Result<Bundle, BundleFault>
-    // What is read is spelled so, and it is in the grammar.
+    // The file spells what is read, which is in the grammar.
     ensures ok { IfOk result (λ bundle. IsBundle file.items bundle) }
     // What is refused is spelled by no bundle.
     ensures err { IfErr result (λ e. e ≢ faults.NoMemory → (bundle : Bundle) → IsBundle file.items bundle → ⊥) }

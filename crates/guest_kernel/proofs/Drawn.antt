@@ -9,7 +9,7 @@ use Rattle.rand_chacha.specs.ChaCha.{ChaCha, key_of, next_word, word_at}
 use Rattle.cloak_base.specs.Random.{numbered}
 use Rattle.guest_kernel.specs.Drawing.{hart_count, drawn_word, hart_of_turn, rounds_of}
 
--- the generator of number n behind its first k words
+-- the generator of number n after its first k words
 abbrev pub behind_words : ℕ → ℕ → ChaCha
 behind_words n k = record { key = key_of (to_le_bytes w64 n ++ replicate 24 0); stream = 0; word_pos = k }
 

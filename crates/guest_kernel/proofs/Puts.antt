@@ -1,9 +1,9 @@
 -- A line that is put piece by piece.
 use Rattle.std.proofs.Common.{◌≡◌, ℕ, List, ◌++◌, length, codes, ◌∙◌, ap, sym, subst, Option, Result, Ok, Err, OnOk, OnErr, IsErrAnd}
 use Rattle.cloak_base.specs.declared.causes.Failed.{Failed}
-use Rattle.outside_io.specs.declared.sink.Sink.{Ghosts}
-use Rattle.outside_io.specs.Told.{Grows, GrowsByFront, Counts, Puts}
-use Rattle.outside_io.proofs.ToldFacts.{Grows-append, GrowsByFront-append, GrowsByFront-first, Rose-after}
+use Rattle.io_traits.specs.declared.sink.Sink.{Ghosts}
+use Rattle.io_traits.specs.Told.{Grows, GrowsByFront, Counts, Puts}
+use Rattle.io_traits.proofs.ToldFacts.{Grows-append, GrowsByFront-append, GrowsByFront-first, Rose-after}
 use Rattle.cloak_model.specs.Bundle.{bundle_bytes}
 use Rattle.guest_kernel.specs.Drawing.{hart_count, program_count, rounds_of}
 use Rattle.guest_kernel.specs.Generated.{demo_program, generated}

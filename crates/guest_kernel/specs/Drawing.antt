@@ -31,6 +31,6 @@ hart_of_turn n i = if nat_lt i (hart_count n) then i else drawn_word n (i - hart
 abbrev pub schedule_of : ℕ → List ℕ
 schedule_of n = map (hart_of_turn n) (numbers_below 16)
 
--- the rounds of program d, by its word behind those of the turns
+-- the rounds of program d, by its word after those of the turns
 unfoldable pub rounds_of : ℕ → ℕ → ℕ
 rounds_of n d = 16 + drawn_word n (16 - hart_count n + d) % 48

@@ -1,13 +1,13 @@
 -- The line that tells a generated image.
 use Rattle.std.specs.Prelude.{ℕ, List, ◌++◌, length, codes, decimal, Result}
 use Rattle.cloak_base.specs.declared.causes.Failed.{Failed}
-use Rattle.outside_io.specs.declared.sink.Sink.{Ghosts}
-use Rattle.outside_io.specs.Sinks.{PutsTo}
+use Rattle.io_traits.specs.declared.sink.Sink.{Ghosts}
+use Rattle.io_traits.specs.Sinks.{PutsTo}
 use Rattle.cloak_model.specs.Bundle.{bundle_bytes}
 use Rattle.cloak_model.specs.declared.image.Bundle.{Bundle}
 use Rattle.guest_kernel.specs.Generated.{generated}
 
--- a number behind its name
+-- a number after its name
 unfoldable pub named : List ℕ → ℕ → List ℕ
 named name n = name ++ decimal n
 

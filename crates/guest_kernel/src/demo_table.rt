@@ -2,8 +2,8 @@
 ghost use Rattle.std.specs.Prelude.{◌≡◌};
 ghost use Rattle.guest_kernel.specs.Layout.{demo_words};
 
-/// What the text of the demo program is assembled to. In an image its number and its rounds stand in the place of the
-/// last two words.
+/// What the text of the demo program is assembled to. In an image its number and its rounds stand instead of the last
+/// two words.
 pub static DEMO: [u32; 61] = [
     0x00400513, 0x4f5608b7, 0x00188893, 0x00000073, 0x004015b7, 0x00058593, 0x00000613, 0x00400693,
     0x4f5608b7, 0x00288893, 0x00000073, 0x08051463, 0x00000297, 0x0bc28293, 0x0002a403, 0x0042a483,

@@ -7,7 +7,7 @@
 //!
 //! Kernel and demo are tables of words, which is what images are made of: nothing is assembled when the program runs. Their
 //! assembler texts stand in `command_tests` (`kernel_text`, `demo_text`), where a test shows that the assembler makes each
-//! table of its text. Nothing that cloaking promises rests on the kernel.
+//! table from its text. Nothing that cloaking promises rests on the kernel.
 #![tactic(auto)]
 
 mod demo_table;

@@ -18,7 +18,7 @@ pub const DEMO_START: Start = Start {
     sp: 0x0040_1000,
 };
 
-/// The code of a program, and behind it its number and its rounds.
+/// The code of a program, and after it its number and its rounds.
 fn demo_code(alloc: Global, program: u32, rounds: u32) -> Result<Vec<u8>, NoMemory>
     ensures { IfOk result (λ v. v.items ≡ demo_code program rounds) }
 {
@@ -29,7 +29,7 @@ fn demo_code(alloc: Global, program: u32, rounds: u32) -> Result<Vec<u8>, NoMemo
     Ok(out)
 }
 
-/// A program of so many rounds, under a key of its own.
+/// A program of this many rounds, under a key of its own.
 fn demo_program(alloc: Global, program: u32, rounds: u32) -> Result<Program, NoMemory>
     requires { program < 4 }
     ensures { IfOk result (λ p. p ≡ demo_program program rounds) }

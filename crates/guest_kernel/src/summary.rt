@@ -1,12 +1,12 @@
 //! The line that tells a generated image.
 ghost use Rattle.std.specs.Prelude.{decimal};
-ghost use Rattle.outside_io.specs.Sinks.{PutsTo};
+ghost use Rattle.io_traits.specs.Sinks.{PutsTo};
 ghost use Rattle.guest_kernel.specs.Summary.{PutsText, named, summary_line};
 
 use crate::drawing::{harts, programs};
 use crate::length::file_length;
 use cloak_base::Failed;
-use outside_io::{Sink, put_all};
+use io_traits::{Sink, put_all};
 
 /// Puts a text.
 fn put_text<O: Sink>(out: &mut O, text: &[u8]) -> Result<(), Failed>
@@ -23,7 +23,7 @@ fn put_number<O: Sink>(out: &mut O, number: u64) -> Result<(), Failed>
     put_text(out, digits.format(number).as_bytes())
 }
 
-/// Puts a number behind its name.
+/// Puts a number after its name.
 fn put_named<O: Sink>(out: &mut O, name: &[u8], number: u64) -> Result<(), Failed>
     ensures { PutsText O.Sink out.old out.new (named name.now number) result }
 {

@@ -1,4 +1,4 @@
--- Reservations where no hart has one.
+-- Reservations when no hart has one.
 use Rattle.std.proofs.Common.{◌≡◌, ◌∙◌, ℕ, zero, suc, Bool, false, List, [], ◌∷◌, Option, Some, None, ◌≤◌, length, take, replicate, map, set, refl, ap, subst, sym}
 use Rattle.std.proofs.lemmas.List.{length-replicate, take-replicate}
 use Rattle.std.specs.List.{list_any}

@@ -25,7 +25,7 @@ use Rattle.cloak_model.proofs.Later.{IsLater}
 use Rattle.cloak_model.proofs.Following.{then_follows, follows_same}
 use Rattle.step_parts.proofs.StepLater.{later_fetched, later_released}
 
--- what steps over a memory as the access does so as the part does
+-- what steps over a memory as the access does, does so as the part does
 
 ended : {M A B : Type 0} (ram : Ghosts M) (old new : M) (a : A) (b : B) (ask : Asking A) (ending : A → B) →
     b ≡ ending a → StepsOver ram old new a ask → StepsOver ram old new b (then_ask ask (λ x. answered (ending x)))

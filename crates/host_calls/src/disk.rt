@@ -27,7 +27,7 @@ impl Disk {
         Ok(Disk::of(Vec::from_slice(alloc, blocks)?))
     }
 
-    /// A disk in the memory of these bytes. The bytes behind the last whole block are kept, and belong to no block.
+    /// A disk in the memory of these bytes. The bytes after the last whole block are kept, and belong to no block.
     pub fn of(blocks: Vec<u8>) -> Disk
         ensures { result ≡ blocks.items }
     {

@@ -15,7 +15,7 @@ pub struct Hart {
     pub mode: Mode,
     /// A multiple of 4.
     pub pc: u32,
-    /// The steps until the timer interrupt is pending, 0 where it is not set.
+    /// The steps until the timer interrupt is pending, 0 if it is not set.
     pub timer: u32,
     /// The context that it runs.
     pub inside: Option<u32>,

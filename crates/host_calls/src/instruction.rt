@@ -61,7 +61,7 @@ fn csr_step(h: &mut Hart, word: u32, rd: u32, n: u32, new: Option<u32>) -> Kerne
     }
 }
 
-/// The word of a control and status register, 0 where there is none.
+/// The word of a control and status register, 0 if there is none.
 fn csr_now(h: &Hart, n: u32) -> u32
     ensures { result ≡ spec.csr_now h.now n }
 {
@@ -93,8 +93,7 @@ fn idle(h: &mut Hart, word: u32) -> Kernel
     }
 }
 
-/// What an instruction writes to a control and status register that sets bits: nothing where its operand is
-/// named as none.
+/// What an instruction that sets bits writes to a control and status register: nothing if its operand is named as none.
 fn bits_set(h: &Hart, n: u32, none: bool, bits: u32) -> Option<u32>
     ensures { result ≡ (if none then None else Some (bit_or (spec.csr_now h.now n) bits)) }
 {

@@ -8,8 +8,8 @@
 //! disk.
 //!
 //! Nothing here knows of cloaked pages: what a memory does before it tells a word is the memory's own. So are the
-//! reservations of LR and SC, since the writes of others end them; `Reservations` is a list of them for a memory. The step
-//! asks for one as it reserves and tests it, and ends it where the hart takes a trap or resumes a context.
+//! reservations of LR and SC, since the writes of others end them; `Reservations` is a list of them for a memory. The
+//! step asks for one as it reserves and tests it, and ends it when the hart takes a trap or resumes a context.
 #![tactic(auto)]
 
 mod atomic;

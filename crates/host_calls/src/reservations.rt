@@ -11,12 +11,12 @@ use std::marker::Model;
 /// The reservations of the harts of a machine (RISC-V unprivileged manual 20191213, 8.2): for each hart the physical
 /// address of the word that it has reserved, or none. Contracts see them by the numbers of the harts.
 ///
-/// Whoever writes a byte of RAM says so with `word_written` or `frame_written`. Where no hart has a reservation, as in
+/// Whoever writes a byte of RAM says so with `word_written` or `frame_written`. If no hart has a reservation, as in
 /// nearly every step, these look at one truth value.
 #[derive(Drop)]
 pub struct Reservations {
     words: ArrayVec<Option<u32>, 4>,
-    /// False only where no hart has a reservation.
+    /// False only if no hart has a reservation.
     may_have: bool,
 }
 
@@ -77,7 +77,7 @@ fn has_reservation(words: &[Option<u32>]) -> bool
 }
 
 impl Reservations {
-    /// No hart has a reservation; there are so many harts.
+    /// There are this many harts, and none has a reservation.
     pub fn none(harts: u32) -> Reservations
         requires { harts ≤ 4 }
         ensures { result ≡ replicate harts None }

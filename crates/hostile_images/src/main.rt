@@ -1,7 +1,7 @@
 //! Writes a hostile image: `hostile_images NUMBER FILE` writes the image of this number (0 to 23) to this file.
 //!
-//! The exit status is 0 where it was written, 2 where the words are others, 5 where the file could not be written, and
-//! 6 where there is not enough memory.
+//! The exit status is 0 if it was written, 2 if the words are different, 5 if the file could not be written, and 6 if
+//! there is not enough memory.
 #![tactic(auto)]
 
 ghost use Rattle.std.specs.Prelude.{◌≡◌, ◌<◌, IfOk, IfSome};
@@ -27,7 +27,7 @@ fn file_bytes(alloc: Global, number: u32) -> Result<Vec<u8>, NoMemory>
     write(alloc, &image)
 }
 
-/// Writes an image, and gives the exit status.
+/// Writes an image, and returns the exit status.
 fn write_image(rt: &HostRuntime, number: u32, file: &str) -> u8
     requires { number < IMAGES }
 {
@@ -38,7 +38,7 @@ fn write_image(rt: &HostRuntime, number: u32, file: &str) -> u8
     }
 }
 
-/// The number of an image, where the word is one.
+/// The number of an image, if the word is one.
 fn image_number(word: &str) -> Option<u32>
     ensures { IfSome result (λ number. number < IMAGES) }
 {
@@ -46,7 +46,7 @@ fn image_number(word: &str) -> Option<u32>
     (number < IMAGES).then_some(number)
 }
 
-/// Does what the words ask for, or gives nothing where they ask for nothing.
+/// Does what the words ask for, or returns nothing if they ask for nothing.
 fn obey(rt: &HostRuntime) -> Option<u8> {
     let mut words = env::args(rt).ok()?;
     words.next();

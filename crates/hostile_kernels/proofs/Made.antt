@@ -57,7 +57,7 @@ made_image frames harts entry blocks schedule turns disk segments segments_of pr
       programs = is_programs i;
     }
 
--- what one clause says of an answer, another one too
+-- what one clause says of an answer, another one says too
 pub ok-then : {A E : Type 0} {P Q : A → Type 0} (r : Result A E) → IfOk r P → ((x : A) → P x → Q x) → IfOk r Q
 ok-then (Ok x) is then = then x is
 ok-then (Err e) is then = tt

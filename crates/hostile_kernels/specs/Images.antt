@@ -50,7 +50,7 @@ small segments blocks programs = image 64 1 (0 ∷ []) 0x80000000 segments block
 abbrev pub small_pair : List Segment → List Program → Bundle
 small_pair segments programs = image 64 2 (0 ∷ 1 ∷ []) 0x80000000 segments 0 programs
 
--- A kernel at 0x80400000 with its root table in the frame behind it: the entries from 512 on, and a further table.
+-- A kernel at 0x80400000 with its root table in the frame after it: the entries from 512 on, and a further table.
 abbrev pub large : List ℕ → List ℕ → List Segment → List Program → Bundle
 large kernel root more programs =
     image 2048 1 (0 ∷ []) 0x80400000 (words_segment 0x80400000 kernel ∷ words_segment 0x80401800 root ∷ more) 0 programs
@@ -149,7 +149,7 @@ image_16 =
     ∷ words_segment 0x80001800 KERNEL_LEAF.now ∷ [])) 0
     (one_page 8 0x00408000 CALLS.now ∷ one_page 9 0x00409000 lays_a_superpage.READER.now ∷ [])
 
--- 17. The timer interrupts a program at each step, also between the bytes of a copy.
+-- 17. The timer interrupts a program at each step, even between the bytes of a copy.
 unfoldable pub image_17 : Bundle
 image_17 =
     small (low interrupts_every_byte.KERNEL.now []) 0 (one_page 8 0x80008000 interrupts_every_byte.PROGRAM.now ∷ [])

@@ -8,7 +8,7 @@ use Rattle.cloak_model.specs.declared.image.KernelImage.{KernelImage}
 use Rattle.cloak_model.specs.declared.image.Program.{Program}
 use Rattle.cloak_model.specs.declared.image.Bundle.{Bundle}
 use Rattle.guest_kernel.specs.Generated.{words_segment}
-use Rattle.hostile_kernels.specs.declared.draft.Words.{Words}
+use Rattle.hostile_kernels.specs.declared.draft.StandingWords.{StandingWords}
 use Rattle.hostile_kernels.specs.declared.draft.Guest.{Guest}
 use Rattle.hostile_kernels.specs.declared.draft.Draft.{Draft}
 
@@ -36,7 +36,7 @@ image frames harts schedule entry segments blocks programs =
 
 -- The parts of a draft.
 
-abbrev pub segment_of : Words → Segment
+abbrev pub segment_of : StandingWords → Segment
 segment_of s = words_segment s.address s.words.now
 
 abbrev pub guest_of : Guest → Program

@@ -4,12 +4,12 @@ use cloak_base::Start;
 
 /// Words that stand in RAM from an address on as a run begins.
 #[derive(Clone, Copy)]
-pub struct Words {
+pub struct StandingWords {
     pub address: u32,
     pub words: &'static [u32],
 }
 
-/// A cloaked program by the words at the front of its pages. Behind them are zeros.
+/// A cloaked program by the words at the front of its pages. After them are zeros.
 #[derive(Clone, Copy)]
 pub struct Guest {
     /// The frame of its first page as the run begins.
@@ -28,7 +28,7 @@ pub struct Draft {
     pub schedule: &'static [u8],
     /// Where each hart begins.
     pub entry: u32,
-    pub segments: &'static [Words],
+    pub segments: &'static [StandingWords],
     /// Blocks of the disk, which are zeros.
     pub blocks: u32,
     pub programs: &'static [Guest],

@@ -4,7 +4,7 @@ ghost use Rattle.cloak_model.specs.Bundle.{IsInGrammar, bundle_bytes};
 ghost use Rattle.hostile_kernels.specs.Parts.{segment_of, guest_of, image_of};
 ghost use Rattle.hostile_kernels.specs.Images.{hostile_image};
 
-use crate::draft::{Draft, Guest, Words};
+use crate::draft::{Draft, Guest, StandingWords};
 use crate::images::{IMAGES, draft};
 use cloak_base::NoMemory;
 use cloak_model::{Bundle, KernelImage, Program, Segment, Sequence};
@@ -12,7 +12,7 @@ use guest_kernel::put_words;
 use std::alloc::Global;
 
 /// Words in RAM.
-fn segment(alloc: Global, words: &Words) -> Result<Segment, NoMemory>
+fn segment(alloc: Global, words: &StandingWords) -> Result<Segment, NoMemory>
     ensures { IfOk result (λ s. s ≡ segment_of words.now) }
 {
     let mut bytes = Vec::new(alloc);

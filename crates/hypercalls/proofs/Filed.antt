@@ -13,7 +13,7 @@ use Rattle.cloak_model.specs.Files.{holds_file, file_found, file_resource}
 use Rattle.hypercalls.specs.declared.domain.Domain.{Domain}
 use Rattle.hypercalls.proofs.Freed.{free_file}
 
--- what was so of resources is so of those after a refusal
+-- what was true of resources is true of those after a refusal
 abbrev HoldsIfRefused : (Resources → Type 0) → Mapped ℕ → Type 0
 HoldsIfRefused P m = IfErr m.answer (λ fault. P m.resources)
 

@@ -19,7 +19,7 @@ use Rattle.cloak_model.specs.Fork as forking
 use Rattle.cloaked_fork.specs.Left.{spaces, forked_spaces, lowest}
 use Rattle.hypercalls.specs.Fitting.{AllOnHarts, IsFitting}
 
--- what holds of each that is there holds still with one more of which it holds
+-- what holds of each that is there still holds with one more of which it holds
 each_with : {A : Type 0} (P : A → Type 0) (xs : List (Option A)) (i : ℕ) (x : A) → P x → ((k : ℕ) → IfSome (slice_index_or xs k None) P) → (k : ℕ) → IfSome (slice_index_or (slice_set xs i (Some x)) k None) P
 each_with P [] i x holds each k = each k
 each_with P (y ∷ xs) zero x holds each zero = holds
@@ -57,7 +57,7 @@ fits_left d slot c changed fits there same_space left =
     fits_slot d slot changed fits
     (subst (IsInUse d.resources) (sym same_space) (some_holds (λ x. IsInUse d.resources x.space) _ c there (fits.spaces slot))) (subst HasHart (sym left) no_hart)
 
--- a context runs on a hart, where it is there and runs on none
+-- a context runs on a hart, if it is there and runs on none
 either_way : (P : Context → Type 0) (b : Bool) (m n : Resumed) (k : ℕ) → IfSome (context_at m.contexts k) P → IfSome (context_at n.contexts k) P → IfSome (context_at (cond b m n).contexts k) P
 either_way P true m n k p q = p
 either_way P false m n k p q = q

@@ -29,7 +29,7 @@ one_there : (P : Context → Type 0) (o : Option Context) (other : Context) → 
 one_there P None other used holds = absurd (false≢true used)
 one_there P (Some x) other used holds = holds
 
--- Where there is room for a fork, a slot is free.
+-- If there is room for a fork, a slot is free.
 
 found : (o : Option ℕ) (other : ℕ) → is_some o ≡ true → o ≡ Some (unwrap_or o other)
 found None other there = absurd (false≢true there)

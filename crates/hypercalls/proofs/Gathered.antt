@@ -11,7 +11,7 @@ use Rattle.hypercalls.proofs.Lines.{then}
 one : (xs ys : List ℕ) (i j : ℕ) (x : ℕ) → length ys ≡ length xs → j ≡ i + 1 → j ≤ length xs → Appends ys (slice_set ys i x) i j (x ∷ [])
 one xs ys i j x same next fits = record { end_is = next; text_is = rw next (take_more_set ys i x (omega (arith, same, next))) }
 
--- eight bytes that are stored one behind another
+-- eight bytes that are stored one after another
 pub eight : (xs : List ℕ) (at a b c d e f g h : ℕ) → at + 8 ≤ length xs
     → take (at + 8) (slice_set (slice_set (slice_set (slice_set (slice_set (slice_set (slice_set (slice_set xs at a) (at + 1) b) (at + 2) c) (at + 3) d) (at + 4) e) (at + 5) f) (at + 6) g) (at + 7) h)
     ≡ take at xs ++ (a ∷ b ∷ c ∷ d ∷ e ∷ f ∷ g ∷ h ∷ [])

@@ -1,5 +1,5 @@
 -- Bytes that are given to a hasher one after another.
-use Rattle.std.proofs.Common.{◌≡◌, ◌+◌, ◌<◌, ◌≤◌, ◌∙◌, ℕ, List, [], ◌∷◌, ◌++◌, length, take, drop, slice_index_or, arith, refl, ap, sym, subst, append_assoc}
+use Rattle.std.proofs.Common.{◌≡◌, ◌+◌, ◌<◌, ◌≤◌, ◌∙◌, ℕ, List, [], ◌∷◌, ◌++◌, length, take, slice_index_or, ap, sym, subst, append_assoc}
 use Rattle.std.specs.List.{flat_map}
 use Rattle.std.proofs.Math.Nat.{le_refl}
 use Rattle.std.proofs.lemmas.List.{append-nil, take_more, take_all}
@@ -35,8 +35,3 @@ flat_map-take_all f xs n is = ap (flat_map f) (take_all n xs (subst (λ m. m ≤
 -- what a hasher holds that has taken nothing before
 pub all_taken : {a b : Sha256} {x : List ℕ} → Holds256 a [] → TakesIn a b x → Holds256 b x
 all_taken empty takes = takes.holds [] empty
-
--- all but the first element
-pub take-rest : {A : Type 0} (xs : List A) (n : ℕ) → length xs ≡ n + 1 → take n (drop 1 xs) ≡ drop 1 xs
-take-rest [] n is = absurd (omega (arith, is))
-take-rest (x ∷ xs) n is = take_all n xs (omega (arith, is))

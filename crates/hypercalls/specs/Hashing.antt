@@ -1,19 +1,16 @@
 -- Bytes that are given to a hasher.
-use Rattle.std.specs.Prelude.{ℕ, ◌≡◌, ◌<◌, List, [], ◌∷◌, ◌++◌, length, take, Option, Some, None}
+use Rattle.std.specs.Prelude.{ℕ, ◌≡◌, ◌<◌, List, [], ◌∷◌, ◌++◌, length, take, Option}
 use Rattle.std.specs.List.{flat_map}
 use Rattle.std.specs.Option.{ForSome}
 use Rattle.sha2.specs.Hashers.{Holds256}
 use Rattle.sha2.specs.declared.Sha256.{Sha256}
 use Rattle.cloak_base.specs.declared.names.HartId.{HartId}
-use Rattle.cloak_model.specs.Bits.{word}
-use Rattle.cloak_model.specs.DomainState.{owner_bytes}
-use Rattle.cloak_model.specs.declared.resource.Owner.{Owner}
 
--- behind whatever the hasher held it took these bytes
+-- after whatever the hasher held it took these bytes
 pub record TakesIn (old new : Sha256) (bytes : List ℕ) : Type 0 where
   pub holds : (message : List ℕ) → Holds256 old message → Holds256 new (message ++ bytes)
 
--- behind whatever the hasher held it took the bytes of the first n elements; and once it took any, their count is known
+-- after whatever the hasher held it took the bytes of the first n elements; and once it took any, their count is known
 pub record TakesFirst {X : Type 0} (bytes_of : X → List ℕ) (xs : List X) (count n : ℕ) (old new : Sha256) : Type 0 where
   pub takes : TakesIn old new (flat_map bytes_of (take n xs))
   pub counted : 0 < n → length xs ≡ count
@@ -21,8 +18,3 @@ pub record TakesFirst {X : Type 0} (bytes_of : X → List ℕ) (xs : List X) (co
 -- a hart, if there is one, has a number of one byte, which is not that of none
 abbrev pub HasHart : Option HartId → Type 0
 HasHart on = ForSome on (λ hart. hart.0 < 4)
-
--- a resource by its owner and pages, 0 where its number is free
-abbrev pub told_bytes : Option (Owner × ℕ) → List ℕ
-told_bytes None = 0 ∷ []
-told_bytes (Some told) = owner_bytes told.0 ++ word told.1

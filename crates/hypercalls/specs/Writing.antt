@@ -1,8 +1,8 @@
--- Texts that are written into bytes one behind another.
+-- Texts that are written into bytes one after another.
 use Rattle.std.specs.Prelude.{ℕ, ◌≡◌, ◌+◌, List, ◌++◌, length, take, codes, decimal}
 use Rattle.hex.specs.Hex.{encode_lower}
 
--- behind the first `at` bytes stands this text now, up to `end`
+-- after the first `at` bytes this text stands now, up to `end`
 pub record Appends (old new : List ℕ) (at end : ℕ) (text : List ℕ) : Type 0 where
   pub end_is : end ≡ at + length text
   pub text_is : take end new ≡ take at old ++ text

@@ -30,7 +30,7 @@ const EXIT: u32 = 0x4f56_0007;
 
 const CALL: u32 = 0x4f56_0008;
 
-/// The answer to a hypercall that there is not.
+/// The answer to a hypercall that does not exist.
 const BAD_CALL: u32 = 0xffff_fffb;
 
 /// A fault as a word.
@@ -73,7 +73,7 @@ impl Control {
         self.answer(slot, number_word(made))
     }
 
-    /// What MAP and UNMAP answer: 0, where the regions of the caller's space changed, or a fault.
+    /// What MAP and UNMAP answer: 0 if the regions of the caller's space changed, or a fault.
     #[tactic(auto, unfolding(cloak_model::specs::Hypercalls::remapped))]
     fn remapped(&mut self, slot: u32, done: Result<(), MapFault>) -> Went
         requires { IsSome (context_at self.old.contexts slot) }

@@ -3,7 +3,7 @@ ghost use Rattle.std.specs.Prelude.{◌≡◌, ◌≤◌, ◌+◌, length, take,
 ghost use Rattle.hex.specs.Hex.{encode_lower};
 ghost use Rattle.hypercalls.specs.Writing.{Appends, line_of};
 
-/// Writes a text at a place, and answers the place behind it.
+/// Writes a text at a place, and returns the place after it.
 fn append(into: &mut [u8; 256], at: usize, text: &[u8]) -> usize
     requires { at + length text.now ≤ 256 }
     ensures { Appends into.old into.new at result text.now }
@@ -37,7 +37,7 @@ pub fn append_digest(into: &mut [u8; 256], at: usize, digest: &[u8; 32]) -> usiz
 }
 
 /// Writes the line of a domain of this number, with the digest of its state, and the count and the digest of its loads.
-/// Answers its length.
+/// Returns its length.
 pub fn write_line(
     into: &mut [u8; 256],
     number: u32,

@@ -10,7 +10,7 @@ ghost use Rattle.hypercalls.specs.Paging.{IsReadAs};
 use crate::control::Control;
 use crate::domain::Domain;
 use crate::loads::Loads;
-use domain_page::{Program, read_page, write_page};
+use domain_page::{ProgramParts, read_page, write_page};
 
 impl Control {
     /// The page of these contexts and resources.
@@ -25,7 +25,7 @@ impl Control {
         requires { number < 4 }
         ensures { MatchOption result ((d : model.Control) → IsPageOf number b.now d → ⊥) (IsReadAs number ended b.now) }
     {
-        let Program {
+        let ProgramParts {
             contexts,
             resources,
         } = read_page(b)?;

@@ -6,7 +6,8 @@ ghost use Rattle.std.specs.Option.{ForSome};
 ghost use Rattle.sha2.specs.Sha256.{sha256};
 ghost use Rattle.cloak_model.specs.Bits.{word};
 ghost use Rattle.cloak_model.specs.DomainState as spec;
-ghost use Rattle.hypercalls.specs.Hashing.{TakesIn, HasHart, told_bytes};
+ghost use Rattle.hypercalls.specs.Hashing.{TakesIn, HasHart};
+ghost use Rattle.domain_page.specs.Writing.{told_bytes};
 
 use crate::control::Control;
 use cloak_base::HartId;
@@ -112,7 +113,7 @@ fn put_regions(h: &mut Sha256, regions: &[Region])
     }
 }
 
-/// A space: 0 where it is free, and else its regions.
+/// A space: 0 if it is free, and otherwise its regions.
 fn put_space(h: &mut Sha256, regions: Option<&[Region]>)
     requires { ForSome regions (λ list. length list.now < 2 ^ 32) }
     ensures { TakesIn h.old h.new (spec.space_bytes (option_map (λ list. list.now) regions.entry)) }
@@ -151,7 +152,7 @@ fn put_owner(h: &mut Sha256, owner: Owner)
     }
 }
 
-/// A resource: 0 where its number is free, and else its owner and pages.
+/// A resource: 0 if its number is free, and otherwise its owner and pages.
 fn put_resource(h: &mut Sha256, held: Option<(Owner, u32)>)
     ensures { TakesIn h.old h.new (told_bytes held) }
 {

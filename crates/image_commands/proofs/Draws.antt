@@ -16,7 +16,7 @@ abbrev IsKeyed : Random → Type 0
 IsKeyed (handed bytes) = ⊥
 IsKeyed (keyed g) = Unit {0}
 
--- a draw, behind which the stream has no end
+-- a draw, after which the stream has no end
 abbrev DrawsKeyed : Option (List ℕ × Random) → Type 0
 DrawsKeyed None = ⊥
 DrawsKeyed (Some draw) = IsKeyed draw.1

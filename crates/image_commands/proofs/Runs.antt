@@ -4,7 +4,7 @@ use Rattle.std.specs.Result.{result_map_both}
 use Rattle.cloak_base.specs.Random.{numbered}
 use Rattle.cloak_base.specs.declared.causes.Stop.{Stop}
 use Rattle.cloak_base.specs.declared.causes.Stop.TheVariants as stop
-use Rattle.outside_io.specs.Told.{Grows, GrowsByFront}
+use Rattle.io_traits.specs.Told.{Grows, GrowsByFront}
 use Rattle.cloak_model.specs.Opening.{Lack, Opened, opening}
 use Rattle.cloak_model.specs.Run.{Run, run_of}
 use Rattle.cloak_machine.specs.declared.end.End.{End}
@@ -13,9 +13,9 @@ use Rattle.cloak_machine.specs.Ending.{end_is_refused, end_short_report}
 use Rattle.cloak_machine.specs.Standing.{OpensMachine}
 use Rattle.guest_kernel.specs.Generated.{generated}
 use Rattle.guest_kernel.specs.Summary.{summary_line}
-use Rattle.program_parts.specs.Outside.{Output}
-use Rattle.program_parts.specs.declared.status.Status.{Status}
-use Rattle.program_parts.specs.declared.status.Status.TheVariants as status
+use Rattle.command_parts.specs.Outside.{Output}
+use Rattle.command_parts.specs.declared.status.Status.{Status}
+use Rattle.command_parts.specs.declared.status.Status.TheVariants as status
 use Rattle.run_command.specs.Running.{IsEndOf, NoClash, status_of, unless_refused}
 use Rattle.run_command.proofs.EndFacts.{fixed_front}
 use Rattle.image_commands.specs.Demonstrating.{DemoAnswers, HasDemonstrated, demo_lines}

@@ -1,22 +1,22 @@
--- What `upgrade` answers.
+-- The answers of `upgrade`.
 use Rattle.std.proofs.Common.{◌≡◌, ◌∙◌, ◌<◌, ◌≤◌, ◌-◌, ◌^◌, ℕ, List, length, Err, refl, sym, subst, inl, inr}
 use Rattle.cloak_base.specs.Constants.{largest_bundle}
-use Rattle.outside_io.specs.Told.{SameFiles}
+use Rattle.io_traits.specs.Told.{SameFiles}
 use Rattle.cloak_model.specs.declared.fault.BundleFault.{BundleFault}
 use Rattle.cloak_model.specs.declared.fault.BundleFault.TheVariants as faults
 use Rattle.cloak_model.specs.declared.image.Bundle.{Bundle}
 use Rattle.command_words.specs.Command as spec
-use Rattle.program_parts.specs.declared.refusal.Refusal.{Refusal}
-use Rattle.program_parts.specs.declared.refusal.Refusal.TheVariants as refusal
-use Rattle.program_parts.specs.declared.status.Status.{Status}
-use Rattle.program_parts.specs.declared.status.Status.TheVariants as status
-use Rattle.program_parts.specs.Bundles.{IsInFile}
-use Rattle.program_parts.specs.NoRun.{IsRefused, NoRun}
-use Rattle.program_parts.specs.Outside.{FilesOutside, OnlyRead, Outside, Output, Raised}
-use Rattle.program_parts.specs.Refusal.{status_of_refusal}
-use Rattle.program_parts.specs.Refusing.{Refuses}
-use Rattle.program_parts.proofs.FaultFacts.{raised}
-use Rattle.program_parts.proofs.Refused.{IsUnread}
+use Rattle.command_parts.specs.declared.refusal.Refusal.{Refusal}
+use Rattle.command_parts.specs.declared.refusal.Refusal.TheVariants as refusal
+use Rattle.command_parts.specs.declared.status.Status.{Status}
+use Rattle.command_parts.specs.declared.status.Status.TheVariants as status
+use Rattle.command_parts.specs.Bundles.{IsInFile}
+use Rattle.command_parts.specs.NoRun.{IsRefused, NoRun}
+use Rattle.command_parts.specs.Outside.{FilesOutside, OnlyRead, Outside, Output, Raised}
+use Rattle.command_parts.specs.Refusal.{status_of_refusal}
+use Rattle.command_parts.specs.Refusing.{Refuses}
+use Rattle.command_parts.proofs.FaultFacts.{raised}
+use Rattle.command_parts.proofs.Refused.{IsUnread}
 use Rattle.image_commands.specs.Upgrading.{MakesVersion2, UpgradeAnswers, WritesUpgrade, version_2}
 use Rattle.image_commands.specs.Writing.{FailsToWrite, WritesFile}
 

@@ -1,11 +1,11 @@
--- What `gen` answers, each status with its cause.
+-- The answers of `gen`, each status with its cause.
 use Rattle.std.specs.Prelude.{ℕ, ◌≡◌, ◌⊎◌, List}
 use Rattle.cloak_model.specs.Bundle.{bundle_bytes}
 use Rattle.guest_kernel.specs.Generated.{generated}
 use Rattle.guest_kernel.specs.Summary.{summary_line}
-use Rattle.program_parts.specs.Outside.{Outside}
-use Rattle.program_parts.specs.declared.status.Status.{Status}
-use Rattle.program_parts.specs.declared.status.Status.TheVariants as status
+use Rattle.command_parts.specs.Outside.{Outside}
+use Rattle.command_parts.specs.declared.status.Status.{Status}
+use Rattle.command_parts.specs.declared.status.Status.TheVariants as status
 use Rattle.image_commands.specs.Showing.{IsShown, IsShownInPart, no_memory_line}
 use Rattle.image_commands.specs.Writing.{FileFailed, HasWritten, LastLineFailed}
 
@@ -27,7 +27,7 @@ pub record LackFailed {S O : Type 0} (before after : Outside S O) : Type 0 where
   pub untouched : after.files ≡ before.files
   pub line : IsShownInPart before.output after.output no_memory_line
 
--- what `gen` of number n and the file of this name answers
+-- the answer of `gen` of number n and the file of this name
 abbrev pub GenAnswers : {S O : Type 0} → ℕ → List ℕ → Outside S O → Outside S O → Status → Type 0
 GenAnswers n name before after status.Done = HasGenerated n name before after
 GenAnswers n name before after status.WriteFault =

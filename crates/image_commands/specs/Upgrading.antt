@@ -1,4 +1,4 @@
--- What `upgrade` answers, each status with its cause.
+-- The answers of `upgrade`, each status with its cause.
 use Rattle.std.specs.Prelude.{ℕ, ◌≡◌, ◌<◌, ◌≤◌, ◌⊎◌, List, length, codes, Vec, Result, Ok, Err}
 use Rattle.std.specs.declared.alloc.Global.{Global}
 use Rattle.cloak_base.specs.Constants.{largest_bundle}
@@ -6,14 +6,14 @@ use Rattle.cloak_model.specs.declared.fault.BundleFault.TheVariants as faults
 use Rattle.cloak_model.specs.declared.image.Bundle.{Bundle}
 use Rattle.cloak_model.specs.Bundle.{bundle_bytes}
 use Rattle.command_words.specs.Command as spec
-use Rattle.program_parts.specs.declared.refusal.Refusal.{Refusal}
-use Rattle.program_parts.specs.declared.refusal.Refusal.TheVariants as refusal
-use Rattle.program_parts.specs.declared.status.Status.{Status}
-use Rattle.program_parts.specs.declared.status.Status.TheVariants as status
-use Rattle.program_parts.specs.Bundles.{IsInFile}
-use Rattle.program_parts.specs.NoRun.{IsRefused, LineFailed}
-use Rattle.program_parts.specs.Outside.{OnlyRead, Outside, Output}
-use Rattle.program_parts.specs.Refusal.{numbered_line, refusal_line}
+use Rattle.command_parts.specs.declared.refusal.Refusal.{Refusal}
+use Rattle.command_parts.specs.declared.refusal.Refusal.TheVariants as refusal
+use Rattle.command_parts.specs.declared.status.Status.{Status}
+use Rattle.command_parts.specs.declared.status.Status.TheVariants as status
+use Rattle.command_parts.specs.Bundles.{IsInFile}
+use Rattle.command_parts.specs.NoRun.{IsRefused, LineFailed}
+use Rattle.command_parts.specs.Outside.{OnlyRead, Outside, Output}
+use Rattle.command_parts.specs.Refusal.{numbered_line, refusal_line}
 use Rattle.image_commands.specs.Showing.{IsShown, IsShownInPart}
 use Rattle.image_commands.specs.Writing.{FileFailed, HasWritten, LastLineFailed}
 
@@ -36,7 +36,7 @@ upgraded_line b = numbered_line (codes "upgraded ") (length (version_2 b))
 abbrev pub too_large_line : List ℕ
 too_large_line = refusal_line (refusal.BadBundle (faults.TooLarge 0))
 
--- what writing version 2 of this bundle to the file of this name answers
+-- the answer of writing version 2 of this bundle to the file of this name
 abbrev pub WritesUpgrade : {S O : Type 0} → List ℕ → Bundle → Outside S O → Outside S O → Status → Type 0
 WritesUpgrade new_name b before after status.Done = HasWritten (version_2 b) new_name (upgraded_line b) before after
 WritesUpgrade new_name b before after status.WriteFault =
@@ -69,7 +69,7 @@ pub record IsTooLarge {S O : Type 0} (old_name : List ℕ) (Shows : Output O →
   pub files : OnlyRead before.files after.files
   pub shown : Shows before.output after.output too_large_line
 
--- What each status says. Only want of memory may stand in the place of another, before anything is written.
+-- What each status says. Only want of memory may come instead of another, before anything is written.
 abbrev pub UpgradeAnswers : {S O : Type 0} → (old_name new_name : List ℕ) → Outside S O → Outside S O → Status → Type 0
 UpgradeAnswers old_name new_name before after status.Done = HasUpgraded old_name new_name before after
 UpgradeAnswers old_name new_name before after status.BadBundle =

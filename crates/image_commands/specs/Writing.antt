@@ -1,8 +1,8 @@
 -- What becomes of files and output as a file is written, and then a line is shown.
 use Rattle.std.specs.Prelude.{ℕ, ◌≡◌, ◌⊎◌, List}
-use Rattle.outside_io.specs.Told.{Tells, OtherFiles}
-use Rattle.program_parts.specs.Files.{TellsFront}
-use Rattle.program_parts.specs.Outside.{FilesOutside, Outside, Raised}
+use Rattle.io_traits.specs.Told.{Tells, OtherFiles}
+use Rattle.command_parts.specs.Files.{TellsFront}
+use Rattle.command_parts.specs.Outside.{FilesOutside, Outside, Raised}
 use Rattle.image_commands.specs.Showing.{IsShown, IsShownInPart}
 
 -- The file of this name has these bytes. Other files keep theirs, and no call on files failed.

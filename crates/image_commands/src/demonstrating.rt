@@ -1,7 +1,7 @@
 //! The command `demo`.
 ghost use Rattle.std.specs.Prelude.{◌≡◌, ◌≤◌, ◌<◌, ◌-◌, ◌^◌, ◌++◌, IfOk, Ok};
 ghost use Rattle.cloak_base.specs.Random.{Random, numbered};
-ghost use Rattle.outside_io.specs.Sinks.{PutsTo};
+ghost use Rattle.io_traits.specs.Sinks.{PutsTo};
 ghost use Rattle.cloak_model.specs.declared.image.Bundle.{Bundle as AnyBundle};
 ghost use Rattle.cloak_model.specs.Joint.{Moment};
 ghost use Rattle.cloak_model.specs.Opening.{Opened, opening};
@@ -10,16 +10,16 @@ ghost use Rattle.cloak_machine.specs.Ending.{end_short_report};
 ghost use Rattle.cloak_machine.specs.Standing.{OpensMachine, StandsForMoment, steps_made};
 ghost use Rattle.guest_kernel.specs.Generated.{generated};
 ghost use Rattle.guest_kernel.specs.Summary.{summary_line};
-ghost use Rattle.program_parts.specs.Outside.{output};
+ghost use Rattle.command_parts.specs.Outside.{output};
 ghost use Rattle.image_commands.specs.Demonstrating.{DemoAnswers};
 ghost use Rattle.run_command.specs.Running.{IsEndOf, MadeAll, NoClash, NoClashYet};
 
 use cloak_base::{Failed, NoMemory, Stop};
 use cloak_machine::{End, Machine, OpenFault};
 use cloak_model::Bundle;
+use command_parts::{Refusal, Status, refuse};
 use guest_kernel::{generate, put_summary};
-use outside_io::{Sink, Stream};
-use program_parts::{Refusal, Status, refuse};
+use io_traits::{Sink, Stream};
 use run_command::{Unheard, stop_status};
 use std::alloc::Global;
 
@@ -37,7 +37,7 @@ fn open_image(alloc: Global, number: u64) -> Result<Machine, NoMemory>
     }
 }
 
-/// Makes up to this many steps, and answers why the last one stopped the run, if it did.
+/// Makes up to this many steps, and returns why the last one stopped the run, if it did.
 fn run_unheard(machine: &mut Machine, steps: u32) -> Option<Stop>
     requires fresh { steps_made machine.old ≡ 0 }
     requires few { steps ≤ most_steps }
@@ -75,7 +75,7 @@ fn show_demo<O: Sink>(out: &mut O, number: u64, end: &End) -> Result<(), Failed>
     end.short_report(out)
 }
 
-/// Makes the run of a number's image, under the random stream of the number, and shows what it comes to.
+/// Makes the run of a number's image, under the random stream of the number, and shows what it ends with.
 pub fn demo_command<O: Sink>(alloc: Global, number: u64, steps: u32, out: &mut O) -> Status
     requires few { steps ≤ most_steps }
     requires output { O.faults out.old < 2 ^ 64 - 1 }

@@ -1,13 +1,13 @@
 //! The command `gen`.
 ghost use Rattle.std.specs.Prelude.{◌≡◌, ◌<◌, ◌-◌, ◌^◌, IfOk};
-ghost use Rattle.program_parts.specs.Outside.{outside};
+ghost use Rattle.command_parts.specs.Outside.{outside};
 ghost use Rattle.image_commands.specs.Generating.{GenAnswers, image_bytes};
 
 use cloak_base::NoMemory;
+use command_parts::{Refusal, Status, refuse, write_file};
 use guest_bundle::write;
 use guest_kernel::{generate, put_summary};
-use outside_io::{Shelf, Sink};
-use program_parts::{Refusal, Status, refuse, write_file};
+use io_traits::{Shelf, Sink};
 use std::alloc::Global;
 
 /// The bytes of the file of a number's image.

@@ -2,15 +2,15 @@
 ghost use Rattle.std.specs.Prelude.{◌≡◌, ◌<◌, ◌-◌, ◌^◌};
 ghost use Rattle.cloak_model.specs.Bundle.{IsInGrammar};
 ghost use Rattle.cloak_model.specs.declared.image.Bundle.{Bundle};
-ghost use Rattle.outside_io.specs.Told.{OtherFiles};
-ghost use Rattle.program_parts.specs.Outside.{outside};
+ghost use Rattle.io_traits.specs.Told.{OtherFiles};
+ghost use Rattle.command_parts.specs.Outside.{outside};
 ghost use Rattle.image_commands.specs.Upgrading.{MakesVersion2, UpgradeAnswers, WritesUpgrade, version_2};
 
 use cloak_base::LARGEST_BUNDLE;
 use cloak_model::{Bundle, BundleFault};
+use command_parts::{Refusal, Status, read_bundle, refuse, show_numbered, write_file};
 use guest_bundle::{file_length, write};
-use outside_io::{Shelf, Sink};
-use program_parts::{Refusal, Status, read_bundle, refuse, show_numbered, write_file};
+use io_traits::{Shelf, Sink};
 use std::alloc::Global;
 
 /// The bytes of version 2 of a bundle, unless they are too many for a file.

@@ -49,7 +49,7 @@ fn uncloaked(op: AtomicOp) -> u32
     }
 }
 
-/// SC at a word that is reached: it is stored where the context has it reserved. The reservation ends either way.
+/// SC at a word that is reached: the word is stored if the context has it reserved. The reservation ends either way.
 #[tactic(auto, using(crate::proofs::InstructionLater::laters, cloak_model::proofs::PagesLater::stay_pages), unfolding(cloak_model::specs::InsideStep::conditional_inside))]
 fn store_conditional<M: PageSide>(
     c: &mut Context,
@@ -250,8 +250,8 @@ fn atomic_step<M: PageSide>(
     placed(c, r, domain, a.rd, a.op, va, operand, m, wrote, reserved)
 }
 
-/// Makes the atomic instruction that a word is, or none. How it ended is written to `ended`. Apart, so that other
-/// instructions make no room for it.
+/// Makes the atomic instruction that a word is, or none. How it ended is written to `ended`. Kept out of line, so that
+/// other instructions make no room for it.
 #[cold]
 #[inline(never)]
 fn make_atomic<M: PageSide>(

@@ -9,7 +9,7 @@ pub back_next : {A : Type 0} (back others : List A) (x : A) → back ≡ others 
     reverse back ≡ x ∷ reverse others
 back_next back others x e = ap reverse e ∙ reverse-append others (x ∷ [])
 
--- what is so of all is so of the next one, and of those behind it
+-- what is true of all is true of the next one, and of those after it
 pub next_of_all : {A : Type 0} (P : A → Type 0) (back others : List A) (x : A) → back ≡ others ++ x ∷ [] →
     All P (reverse back) → P x
 next_of_all {A} P back others x e all =

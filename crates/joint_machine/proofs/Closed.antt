@@ -16,7 +16,7 @@ use Rattle.cloak_model.specs.World.{Cloak, cipher_items, settled_in}
 use Rattle.thread_context.specs.Recorded.{root_at}
 use Rattle.cloak_pager.specs.State.{PagerState, IsWholePager, page_of, held_in}
 use Rattle.cloak_pager.specs.Turns.{StaysBut}
-use Rattle.cloak_pager.specs.declared.held.Held.TheVariants.{Spent}
+use Rattle.cloak_pager.specs.declared.frame_right.FrameRight.TheVariants.{Spent}
 use Rattle.cloak_pager.proofs.Pages.{same_or_not}
 use Rattle.cloaked_side.specs.Holding.{Holds, Settles}
 use Rattle.cloaked_side.specs.declared.memory.Memory.{Memory}

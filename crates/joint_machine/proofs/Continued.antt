@@ -16,8 +16,8 @@ use Rattle.cloak_pager.specs.State.{PagerState, IsFresh, page_of, held_in}
 use Rattle.cloak_pager.specs.Relation.{StandsForMemory}
 use Rattle.cloak_pager.specs.Asking.{StandsRestored}
 use Rattle.cloak_pager.specs.Turns.{MetasTurn}
-use Rattle.cloak_pager.specs.declared.held.Held.{Held}
-use Rattle.cloak_pager.specs.declared.held.Held.TheVariants.{Spent}
+use Rattle.cloak_pager.specs.declared.frame_right.FrameRight.{FrameRight}
+use Rattle.cloak_pager.specs.declared.frame_right.FrameRight.TheVariants.{Spent}
 use Rattle.cloak_pager.proofs.Pages.{with_page-same, with_page-other}
 use Rattle.shadow_fold.specs.Keeping.{Agrees}
 use Rattle.shadow_fold.specs.Table.{Table}
@@ -148,7 +148,7 @@ stays_unknown p q known is fresh = record {
 
 -- no frame holds other pages
 pub held_same : (old new : PagerState) → new.rights ≡ old.rights → (k : ℕ) → held_in new k ≡ held_in old k
-held_same old new rights k = ap (λ (hs : List Held). page_of (slice_index_or hs k Spent)) rights
+held_same old new rights k = ap (λ (hs : List FrameRight). page_of (slice_index_or hs k Spent)) rights
 
 pub others_none : (d resource : ℕ) (p : PagerState) → KeepsOthers d resource p p
 others_none d resource p = record { frames = refl; rights = refl; domains = refl; metas = λ q other. refl }

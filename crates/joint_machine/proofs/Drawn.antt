@@ -64,7 +64,7 @@ draws_more stream left rest n keys keys' key so_far few next set = record {
       ∙ filled_set (replicate 16 0) key so_far.drawn n so_far.count few);
 }
 
--- a stream that has not so many draws has not more
+-- a stream that does not have m draws does not have more
 drawn_missed : (stream : Random) (m n : ℕ) → m ≤ n → drawn_keys m stream ≡ None → drawn_keys n stream ≡ None
 unfolding drawn_keys
 drawn_missed stream m zero few none =

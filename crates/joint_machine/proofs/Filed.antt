@@ -49,7 +49,7 @@ pub record MadeFile (r after : Resources) (number pages n : ℕ) : Type 0 where
   pub inside : n < length r.held
   pub held : after.held ≡ slice_set r.held n (Some (record { owner = File number; pages = pages }))
 
--- where no number holds the file, none is found
+-- if no number holds the file, none is found
 not_found : (r : Resources) (number : ℕ) → HasNoFile r number → position (holds_file number) r.held ≡ None
 not_found r number none =
     let all : position_or_len (holds_file number) r.held ≡ length r.held =
@@ -274,7 +274,7 @@ pub record IsOf (f : FileContents) (d number pages : ℕ) : Type 0 where
   pub number_is : number ≡ f.number
   pub pages_are : pages ≡ length f.pages
 
--- what the domain answers is what the code's own does
+-- the domain answers what the code's own domain answers
 answer_at : (x : Domain) (was : model.Domain) (f : FileContents) (d number pages : ℕ) → IsOf f d number pages →
     StandsFor x was →
     (made_of f.number (length f.pages) was).answer ≡ (file_resource number pages (control_of x).resources).answer

@@ -36,8 +36,8 @@ use Rattle.cloak_pager.specs.Turns.{IsReadOnce, StaysBut, left_by}
 use Rattle.cloak_pager.specs.Freezing.{FreezesFrame}
 use Rattle.cloak_model.specs.Cloaking.{AfterSettling}
 use Rattle.cloak_pager.specs.Asking.{FollowsCall, FollowsCallFrom, after_touch, shown_by}
-use Rattle.cloak_pager.specs.declared.held.Held.{Held}
-use Rattle.cloak_pager.specs.declared.held.Held.TheVariants.{Outside, Clean, Changed, Spent}
+use Rattle.cloak_pager.specs.declared.frame_right.FrameRight.{FrameRight}
+use Rattle.cloak_pager.specs.declared.frame_right.FrameRight.TheVariants.{Outside, Clean, Changed, Spent}
 use Rattle.cloak_pager.specs.declared.touching.Touched.{Touched}
 use Rattle.cloak_pager.proofs.Pages.{same_or_not}
 use Rattle.cloak_pager.proofs.Stands.{owed_by_right}
@@ -87,7 +87,7 @@ front_all {A} front left = ap (λ (l : List A). Some (l, left)) (append-nil fron
 
 -- Frames that are owed nothing.
 
-pub held_if_owed : (h : Held) → pager.owed_under h ≢ None → page_of h ≡ pager.owed_under h
+pub held_if_owed : (h : FrameRight) → pager.owed_under h ≢ None → page_of h ≡ pager.owed_under h
 held_if_owed (Outside r) owed = absurd (owed refl)
 held_if_owed (Clean r) owed = absurd (owed refl)
 held_if_owed (Changed r) owed = refl
@@ -159,7 +159,7 @@ reseals_lend old p stream left n so_far m lends same = record {
 
 -- What the pager then tells.
 
-told_bytes : (p : PagerState) (wiped : PageId → Bool) (m : CloakedMemory) (f : ℕ) (h : Held) → FrameStands p wiped m f h →
+told_bytes : (p : PagerState) (wiped : PageId → Bool) (m : CloakedMemory) (f : ℕ) (h : FrameRight) → FrameStands p wiped m f h →
     page_of h ≡ pager.owed_under h → ((q : PageId) → wiped q ≡ false) → bytes_in p f ≡ newest_in m f (pager.owed_under h)
 told_bytes p wiped m f (Outside r) stands settled kept = stands
 told_bytes p wiped m f (Clean r) stands settled kept = absurd (let clash : Some r.page ≡ None = settled in cc)
@@ -662,7 +662,7 @@ pub is_owed : (o : Option PageId) (b : Bool) → (IsTrue b → o ≢ None) → b
 is_owed o b is high = is high
 
 -- a touch that draws nothing leaves the stream
-pub undrawn : (h : Held) (draw : Option (List ℕ × Random)) (stream left : Random) → pager.owed_under h ≡ None →
+pub undrawn : (h : FrameRight) (draw : Option (List ℕ × Random)) (stream left : Random) → pager.owed_under h ≡ None →
     left ≡ left_by h draw stream → left ≡ stream
 undrawn (Outside r) draw stream left none is = is
 undrawn (Clean r) draw stream left none is = is

@@ -41,8 +41,8 @@ use Rattle.cloak_pager.specs.State.{PagerState, IsWholePager, bytes_in, held_in,
 use Rattle.cloak_pager.specs.Relation.{StandsForMemory, FrameStands, PageStands, IsUnowed, vector_in}
 use Rattle.cloak_pager.specs.Asking.{none_wiped}
 use Rattle.cloak_pager.specs.Turns.{frame_numbered, holding}
-use Rattle.cloak_pager.specs.declared.held.Held.{Held}
-use Rattle.cloak_pager.specs.declared.held.Held.TheVariants.{Outside, Clean, Changed, Spent}
+use Rattle.cloak_pager.specs.declared.frame_right.FrameRight.{FrameRight}
+use Rattle.cloak_pager.specs.declared.frame_right.FrameRight.TheVariants.{Outside, Clean, Changed, Spent}
 use Rattle.cloak_pager.proofs.Offers.{none_owing}
 use Rattle.hypercalls.specs.declared.domain.Domain.{Domain}
 use Rattle.hypercalls.specs.Standing.{StandsFor, control_of}

@@ -20,15 +20,15 @@ use Rattle.cloak_base.specs.declared.names.PageId.{PageId}
 use Rattle.cloak_base.specs.declared.names.Meta.{Meta}
 use Rattle.cloak_pager.specs.State.{PagerState}
 use Rattle.cloak_pager.specs.Relation.{FrameStands, PageStands}
-use Rattle.cloak_pager.specs.declared.held.Held.{Held}
-use Rattle.cloak_pager.specs.declared.held.Held.TheVariants.{Outside, Clean, Changed, Spent}
+use Rattle.cloak_pager.specs.declared.frame_right.FrameRight.{FrameRight}
+use Rattle.cloak_pager.specs.declared.frame_right.FrameRight.TheVariants.{Outside, Clean, Changed, Spent}
 use Rattle.cloaked_side.specs.Holding.{Holds}
 use Rattle.cloaked_side.specs.declared.memory.Memory.{Memory}
 use Rattle.cloaked_side.proofs.Emitting.{emits_none}
 use Rattle.thread_context.specs.Recorded.{root_at}
 use Rattle.joint_machine.specs.Turning.{AreRoots, GoesOn, Unmarks}
 
-frame_rooted : (p : PagerState) (wiped : PageId → Bool) (m : CloakedMemory) (root : SpaceId → Option ℕ) (f : ℕ) (r : Held) → FrameStands p wiped m f r → FrameStands p wiped (with_roots root m) f r
+frame_rooted : (p : PagerState) (wiped : PageId → Bool) (m : CloakedMemory) (root : SpaceId → Option ℕ) (f : ℕ) (r : FrameRight) → FrameStands p wiped m f r → FrameStands p wiped (with_roots root m) f r
 frame_rooted p wiped m root f (Outside r) stands = stands
 frame_rooted p wiped m root f (Clean r) stands = record { newest = stands.newest; shown = stands.shown; long = stands.long; sealed = stands.sealed }
 frame_rooted p wiped m root f (Changed r) stands = stands

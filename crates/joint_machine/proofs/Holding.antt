@@ -17,8 +17,8 @@ use Rattle.cloak_model.specs.StoredRun.{content_of, contents_from, contents_of, 
 use Rattle.protect_meta.specs.Table.{Table, meta_at}
 use Rattle.cloak_pager.specs.State.{PagerState, held_in, owed_under, page_of, right_at}
 use Rattle.cloak_pager.specs.Relation.{IsUnowed, StandsForMemory}
-use Rattle.cloak_pager.specs.declared.held.Held.{Held}
-use Rattle.cloak_pager.specs.declared.held.Held.TheVariants.{Outside, Clean, Changed, Spent}
+use Rattle.cloak_pager.specs.declared.frame_right.FrameRight.{FrameRight}
+use Rattle.cloak_pager.specs.declared.frame_right.FrameRight.TheVariants.{Outside, Clean, Changed, Spent}
 use Rattle.cloak_pager.proofs.Contents.{knows_content}
 use Rattle.cloaked_side.specs.Holding.{Holds}
 use Rattle.hypercalls.specs.declared.domain.Domain.{Domain}
@@ -162,13 +162,13 @@ sealed_all m d (y ∷ xs) (was ∷ ds) are sealed i x low =
 
 -- The pager.
 
-mapped_at : (rights : List Held) (f : ℕ) →
+mapped_at : (rights : List FrameRight) (f : ℕ) →
     slice_index_or (map owed_under rights) f None ≡ owed_under (slice_index_or rights f Spent)
 mapped_at [] f = refl
 mapped_at (h ∷ rights) zero = refl
 mapped_at (h ∷ rights) (suc f) = mapped_at rights f
 
-none_owed : (h : Held) (q : PageId) → page_of h ≡ None → owed_under h ≢ Some q
+none_owed : (h : FrameRight) (q : PageId) → page_of h ≡ None → owed_under h ≢ Some q
 none_owed (Outside r) q none some = cc
 none_owed (Clean r) q none some = cc
 none_owed (Changed r) q none some = cc

@@ -1,4 +1,4 @@
--- The step of a hart inside, by what its parts came to.
+-- The step of a hart inside, by the results of its parts.
 use Rattle.std.proofs.Common.{◌≡◌, ◌∙◌, ℕ, Bool, true, false, List, [], ◌∷◌, Option, None, refl, sym, subst}
 use Rattle.cloak_base.specs.declared.names.SpaceId.{SpaceId}
 use Rattle.cloak_base.specs.declared.causes.Shown.{Shown}
@@ -7,7 +7,7 @@ use Rattle.cloak_model.specs.declared.item.Item.{Item}
 use Rattle.cloak_model.specs.declared.item.Item.TheVariants as item
 use Rattle.cloak_model.specs.declared.inside.Went.{Went}
 use Rattle.cloak_model.specs.declared.inside.Went.TheVariants as went
-use Rattle.cloak_model.specs.declared.view.View.{View}
+use Rattle.cloak_model.specs.declared.regime.InsideRegime.{InsideRegime}
 use Rattle.cloak_model.specs.Asking.{Told}
 use Rattle.cloak_model.specs.Cloaking.{CloakedMemory}
 use Rattle.cloak_model.specs.Contexts.{context_at}
@@ -84,15 +84,15 @@ pub roots_stepped : (roots : List (List (Option ℕ))) (j : model.Joint) (h : Ha
 roots_stepped roots j h d slot was are =
     subst (λ (root : SpaceId → Option ℕ). AreRoots roots root) (sym (root_in (told_of j h d slot was).world j.memory (rooted_domain_step slot was _).root)) are
 
--- the hart's view
-pub begun_is : (m : CloakedMemory) (view : View) (slot : ℕ) (was : program.Domain) (h : Hart) (d : ℕ) → view.satp ≡ satp_of h.csrs → view.sum ≡ sum_of h.csrs → view.mxr ≡ mxr_of h.csrs → view.domain ≡ d →
-    begun m view slot was ≡ cloak_of m h d (pages_for was (context_at was.control.contexts slot))
-begun_is m view slot was h d satp sum mxr domain = λ i. record {
+-- the hart's regime
+pub begun_is : (m : CloakedMemory) (regime : InsideRegime) (slot : ℕ) (was : program.Domain) (h : Hart) (d : ℕ) → regime.satp ≡ satp_of h.csrs → regime.sum ≡ sum_of h.csrs → regime.mxr ≡ mxr_of h.csrs → regime.domain ≡ d →
+    begun m regime slot was ≡ cloak_of m h d (pages_for was (context_at was.control.contexts slot))
+begun_is m regime slot was h d satp sum mxr domain = λ i. record {
   memory = m;
   items = [];
   events = [];
   violation = None;
-  view = record { satp = satp i; sum = sum i; mxr = mxr i; domain = domain i };
+  regime = record { satp = satp i; sum = sum i; mxr = mxr i; domain = domain i };
   pages = pages_for was (context_at was.control.contexts slot);
 }
 
@@ -140,7 +140,7 @@ turns_interrupted gave e e' h h' domain roots memory memory' given j number d sl
   holds = subst (λ (m : CloakedMemory). Holds memory' m) (sym i.memory) (unmarks.holds j.memory holds);
 }
 
--- The interrupt by itself: the context leaves.
+-- The interrupt alone: the context leaves.
 pub interrupts_out : {E : Type 0} (gave : E → E → List Piece → Type 0) (e e' e'' : E) (h h' : Hart) (domain : Domain) (s : Shown) (j : model.Joint) (number d slot : ℕ) (was : program.Domain) →
     EndsAs domain (went.Leave s) (within was (interrupt slot was.control)) → h' ≡ leave h s → Emits gave e e' (item_pieces (item.Timer d ∷ [])) → Emits gave e' e'' (item_pieces (item.Leave s ∷ [])) →
     InterruptsIn gave e e'' h' domain j number d (after_interrupt j number h d was (interrupt slot was.control))
@@ -169,7 +169,7 @@ pub turns_now : {E : Type 0} (gave : E → E → List Piece → Type 0) (e e' : 
 turns_now gave e e' h h' domain roots memory given j number d slot was due now is turns =
     subst (λ (b : Bool). (by_interrupt b j number h d slot was).joint.memory.ledger.clashed ≡ false → TurnsIn gave e e' h' domain roots memory given j number d (by_interrupt b j number h d slot was)) (sym is) turns
 
--- what a step came to stays where the memory stands for all that it stood for
+-- what a step resulted in stays if the memory stands for all that it stood for
 world_on : (old new : Memory) (w : World) → ((m : CloakedMemory) → Holds old m → Holds new m) → HoldsWorld old w → HoldsWorld new w
 world_on old new (Flat ram) keeps holds = absurd holds
 world_on old new (Alone handed) keeps holds = absurd holds
@@ -181,12 +181,12 @@ steps_on gave e e' old new domain given told keeps s =
     record { went = s.went; violation = s.violation; emits = s.emits; holds = world_on old new told.world keeps s.holds; stands = s.stands }
 
 -- A program's step over the memory as it begins, and what followed.
-pub turns_stepping : {E : Type 0} (gave : E → E → List Piece → Type 0) (e e' e'' : E) (h h' : Hart) (domain : Domain) (roots roots' : List (List (Option ℕ))) (memory memory' : Memory) (stepped : Stepped) (given : Option Violation) (j : model.Joint) (number d slot : ℕ) (was : program.Domain) (view : View) →
-    begun j.memory view slot was ≡ cloak_of j.memory h d (pages_for was (context_at was.control.contexts slot)) → AreRoots roots j.memory.ledger.root →
-    (is_clashed (domain_step slot was (Cloaked (begun j.memory view slot was))).world ≡ false → StepsDomain gave e e' memory domain stepped (domain_step slot was (Cloaked (begun j.memory view slot was)))) →
+pub turns_stepping : {E : Type 0} (gave : E → E → List Piece → Type 0) (e e' e'' : E) (h h' : Hart) (domain : Domain) (roots roots' : List (List (Option ℕ))) (memory memory' : Memory) (stepped : Stepped) (given : Option Violation) (j : model.Joint) (number d slot : ℕ) (was : program.Domain) (regime : InsideRegime) →
+    begun j.memory regime slot was ≡ cloak_of j.memory h d (pages_for was (context_at was.control.contexts slot)) → AreRoots roots j.memory.ledger.root →
+    (is_clashed (domain_step slot was (Cloaked (begun j.memory regime slot was))).world ≡ false → StepsDomain gave e e' memory domain stepped (domain_step slot was (Cloaked (begun j.memory regime slot was)))) →
     ((after : model.Joint) (w : World) → stepped.violation ≡ violation_of w → AreRoots roots after.memory.ledger.root → GoesOn gave e' e'' h' roots' memory memory' given after number (items_of w) (domain_ended after number h d w stepped.went)) →
     (by_interrupt false j number h d slot was).joint.memory.ledger.clashed ≡ false → TurnsIn gave e e'' h' domain roots' memory' given j number d (by_interrupt false j number h d slot was)
-turns_stepping gave e e' e'' h h' domain roots roots' memory memory' stepped given j number d slot was view begins are steps goes none =
+turns_stepping gave e e' e'' h h' domain roots roots' memory memory' stepped given j number d slot was regime begins are steps goes none =
     let told = told_of j h d slot was in
     let after = stepped_joint j d told in
     let s : StepsDomain gave e e' memory domain stepped told = subst (λ (c : Cloak). is_clashed (domain_step slot was (Cloaked c)).world ≡ false → StepsDomain gave e e' memory domain stepped (domain_step slot was (Cloaked c))) begins steps (step_unclashed j number h d slot was none) in

@@ -20,8 +20,8 @@ use Rattle.cloak_pager.specs.State.{PagerState, IsWholePager, page_of, owed_unde
 use Rattle.cloak_pager.specs.Turns.{IsNewPager, HasBytes}
 use Rattle.cloak_pager.specs.Relation.{StandsForMemory, FrameStands, PageStands, vector_in}
 use Rattle.cloak_pager.specs.Asking.{none_wiped, StandsBlank}
-use Rattle.cloak_pager.specs.declared.held.Held.{Held}
-use Rattle.cloak_pager.specs.declared.held.Held.TheVariants.{Spent}
+use Rattle.cloak_pager.specs.declared.frame_right.FrameRight.{FrameRight}
+use Rattle.cloak_pager.specs.declared.frame_right.FrameRight.TheVariants.{Spent}
 use Rattle.shadow_fold.specs.Keeping.{Agrees}
 use Rattle.shadow_fold.specs.Table.{Table, empty_table}
 use Rattle.shadow_law.specs.Agreeing.{present}
@@ -84,7 +84,7 @@ frames_are a b frames frames' same has = subst (λ (x : List (List ℕ)). HasFra
 
 -- Bytes one after another.
 
--- of these bytes the first i are stored: what is left, stored behind them, is all
+-- of these bytes the first i are stored: once what is left is stored after them, all are
 pub record StoresFrom (old p : PagerState) (address i : ℕ) (bytes : List ℕ) : Type 0 where
   pub stays : HasFrames old p p.frames
   pub count : length p.frames ≡ length old.frames
@@ -179,7 +179,7 @@ loads_none n domains keys p rest segments new same = record {
 pub loads_outside : (n domains : ℕ) (keys : Keys) (old p : PagerState) (rest segments : List Segment) →
     IsNewPager n domains keys old → LoadsFrom old p rest segments → (k : ℕ) → held_in p k ≡ None
 loads_outside n domains keys old p rest segments new so_far k =
-    ap (λ (rights : List Held). page_of (slice_index_or rights k Spent)) so_far.stays.rights_are ∙ elim (cases_lt k n) [
+    ap (λ (rights : List FrameRight). page_of (slice_index_or rights k Spent)) so_far.stays.rights_are ∙ elim (cases_lt k n) [
       | inl inside ↦ ap page_of (new.outside k inside)
       | inr past ↦ ap page_of (get_or_past old.rights k Spent (let count = new.count in omega (arith, past, count)))
     ]
@@ -296,7 +296,7 @@ stores_back_more old p p' address n back rest first bytes so_far few has e =
       stays = frames_are old p' _ p'.frames (sym has.frames_are) (frames_then old p p' p.frames _ so_far.stays has);
       count = ap (λ (x : List (List ℕ)). length x) has.frames_are ∙ (length-with_bytes p.frames address piece ∙ count);
       pages = subst ArePages (sym has.frames_are) (pages_with_bytes p.frames address piece high room so_far.pages);
-      outside = λ k. ap (λ (rights : List Held). page_of (slice_index_or rights k Spent)) has.rights_are ∙ so_far.outside k;
+      outside = λ k. ap (λ (rights : List FrameRight). page_of (slice_index_or rights k Spent)) has.rights_are ∙ so_far.outside k;
       from_start = omega (arith, high);
       to_end = omega (arith, left, few, end);
       stored =
@@ -357,7 +357,7 @@ stands_blank p k keys stream blank = blank (blank_memory k keys stream) (record 
   plain = λ q. refl;
 })
 
--- what is so of a page has nothing to do with the frames
+-- what is true of a page has nothing to do with the frames
 page_still : (m : CloakedMemory) (ram : List (List ℕ)) (q : PageId) (t : Option Meta) → PageStands false m q t →
     PageStands false (record m { ram = ram }) q t
 page_still m ram q None stands = stands
@@ -377,10 +377,10 @@ loaded_stands old p k domains keys stream is =
       count = ap (λ (x : List (List ℕ)). length x) (sym has.frames_are);
       frames = λ f inside.
           let below : f < k.frames = rw (← loaded_count old p k domains keys is) inside in
-          subst (λ (h : Held). FrameStands p none_wiped m f h)
-          (sym (ap (λ (rights : List Held). slice_index_or rights f Spent) has.rights_are ∙ is.new.outside f below))
+          subst (λ (h : FrameRight). FrameStands p none_wiped m f h)
+          (sym (ap (λ (rights : List FrameRight). slice_index_or rights f Spent) has.rights_are ∙ is.new.outside f below))
           (ap (λ (x : List (List ℕ)). slice_index_or x f []) has.frames_are);
-      owed = s.owed ∙ ap (λ (rights : List Held). map owed_under rights) (sym has.rights_are);
+      owed = s.owed ∙ ap (λ (rights : List FrameRight). map owed_under rights) (sym has.rights_are);
       pages = λ q.
           subst (λ (x : Option Meta). PageStands false m q x) (sym (has.metas_are q))
           (page_still (blank_memory k keys stream) m.ram q (meta_at old.table q) (s.pages q));

@@ -24,8 +24,8 @@ use Rattle.shadow_fold.specs.Entries.{is_of_space, sees_space}
 use Rattle.shadow_fold.specs.Events as events
 use Rattle.shadow_fold.specs.Reads.{Asked}
 use Rattle.shadow_fold.specs.declared.entry.Entry.{Entry}
-use Rattle.shadow_fold.specs.declared.entry.ShadowView.{ShadowView}
-use Rattle.shadow_fold.specs.declared.entry.ShadowView.TheVariants.{Outside, Inside}
+use Rattle.shadow_fold.specs.declared.entry.Regime.{Regime}
+use Rattle.shadow_fold.specs.declared.entry.Regime.TheVariants.{Outside, Inside}
 use Rattle.space_law.specs.Mapping.{AreWhole, mapped_in, page_of}
 use Rattle.space_law.proofs.Births.{makes_mapped}
 use Rattle.space_law.proofs.Outside.{makes_outside}
@@ -104,14 +104,14 @@ eq_turned a b = elim (eqb_tells a b) [
 same_turned : (s x : SpaceId) → same_space s x ≡ same_space x s
 same_turned s x = λ i. eq_turned s.domain x.domain i && eq_turned s.number x.number i
 
--- an entry of a view of a space is left: the space did not change
-unchanged : (satp : ℕ) (sum mxr : Bool) (s : SpaceId) (e : Entry) (changed : List SpaceId) → e.view ≡ Inside satp sum mxr s →
+-- an entry of a regime of a space is left: the space did not change
+unchanged : (satp : ℕ) (sum mxr : Bool) (s : SpaceId) (e : Entry) (changed : List SpaceId) → e.regime ≡ Inside satp sum mxr s →
     AreAll (λ x. is_of_space x e ≡ false) changed → list_any (λ x. same_space x s) changed ≡ false
 unfolding is_of_space
 unchanged satp sum mxr s e [] at gone = refl
 unchanged satp sum mxr s e (x ∷ changed) at gone =
     ap (λ (b : Bool). b || list_any (λ y. same_space y s) changed)
-    (same_turned x s ∙ ap (λ (v : ShadowView). sees_space x v) (sym at) ∙ gone.0)
+    (same_turned x s ∙ ap (λ (v : Regime). sees_space x v) (sym at) ∙ gone.0)
     ∙ unchanged satp sum mxr s e changed at gone.1
 
 all_gone : (new : Memory) (changed : List SpaceId) → AreAll (IsGone new) changed → (e : Entry) → ((x : SpaceId) → IsGone new x → is_of_space x e ≡ false) →
@@ -126,14 +126,14 @@ entry_mapped j number e gone = by_page e.cloaked
     after : SpaceId → ℕ → Option PageId
     after = mapped_in (step_in j number).joint
 
-    by_view : (v : ShadowView) (q : PageId) → e.view ≡ v → HasInSpace (mapped_in j) v (4096 * e.page) q → HasInSpace after v (4096 * e.page) q
-    by_view (Outside satp mode sum mxr) q at has = has
-    by_view (Inside satp sum mxr s) q at has =
+    by_regime : (v : Regime) (q : PageId) → e.regime ≡ v → HasInSpace (mapped_in j) v (4096 * e.page) q → HasInSpace after v (4096 * e.page) q
+    by_regime (Outside satp mode sum mxr) q at has = has
+    by_regime (Inside satp sum mxr s) q at has =
         step_keeps_pages j number s (4096 * e.page) q has (unchanged satp sum mxr s e (events.asked_with_end j number).changed at gone)
 
-    by_page : (o : Option PageId) → IfSome o (HasInSpace (mapped_in j) e.view (4096 * e.page)) → IfSome o (HasInSpace after e.view (4096 * e.page))
+    by_page : (o : Option PageId) → IfSome o (HasInSpace (mapped_in j) e.regime (4096 * e.page)) → IfSome o (HasInSpace after e.regime (4096 * e.page))
     by_page None has = tt
-    by_page (Some q) has = by_view e.view q refl has
+    by_page (Some q) has = by_regime e.regime q refl has
 
 pub step_mapped : (old new : Memory) (j : model.Joint) (number : ℕ) → GoesBy old new (events.asked_with_end j number) →
     (let h = hart_in j number in MakesIn (mapped_in j) (events.asked_of j number h h.inside)) → AreMapped (mapped_in j) old →

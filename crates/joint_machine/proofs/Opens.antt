@@ -30,7 +30,7 @@ length-started_harts entry (suc n) =
     let more = length-append (started_harts entry n) (started entry n ∷ []) in
     omega (arith, before, more)
 
--- where no frame holds a page, none holds one of a free number
+-- if no frame holds a page, none holds one of a free number
 pub free_unused : (domains : List Domain) (p : PagerState) → ((k : ℕ) → held_in p k ≡ None) → AreFreeUnused domains p
 free_unused domains p none d n low domain at free = λ k q held. absurd (let no : None ≡ Some q = sym (none k) ∙ held in cc)
 

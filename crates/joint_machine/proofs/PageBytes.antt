@@ -19,7 +19,7 @@ use Rattle.cloak_model.specs.declared.resource.Resource.{Resource}
 use Rattle.frozen_state.specs.DomainPage.{IsProgram, domain_page, mark_bytes, slot_mark_bytes, state_string}
 use Rattle.frozen_state.specs.Limits.{IsContext}
 
--- so many bytes at most
+-- n bytes at most
 pub record Short (n : ℕ) (s : List ℕ) : Type 0 where
   pub few : length s ≤ n
   pub bytes : All (λ b. b < 256) s
@@ -52,7 +52,7 @@ joined n k s t first second = record {
 wider : (n k : ℕ) (s : List ℕ) → n ≤ k → Short n s → Short k s
 wider n k s le short = record { few = (let few = short.few in omega (arith, le, few)); bytes = short.bytes }
 
--- so many of at most so many bytes each
+-- the bytes of a list whose elements have at most n bytes each
 flat : {A : Type 0} (f : A → List ℕ) (n : ℕ) (xs : List A) → ((i : ℕ) (d : A) → i < length xs → Short n (f (slice_index_or xs i d))) →
     Short (length xs * n) (flat_map f xs)
 flat f n [] each = wider 0 (0 * n) [] (omega arith) none

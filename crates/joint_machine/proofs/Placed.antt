@@ -17,8 +17,8 @@ use Rattle.cloak_pager.specs.State.{PagerState, IsFresh, page_of, held_in}
 use Rattle.cloak_pager.specs.Turns.{PlaceTurns}
 use Rattle.cloak_pager.specs.Relation.{StandsForMemory}
 use Rattle.cloak_pager.specs.Asking.{FollowsCall, after_place}
-use Rattle.cloak_pager.specs.declared.held.Held.{Held}
-use Rattle.cloak_pager.specs.declared.held.Held.TheVariants.{Spent}
+use Rattle.cloak_pager.specs.declared.frame_right.FrameRight.{FrameRight}
+use Rattle.cloak_pager.specs.declared.frame_right.FrameRight.TheVariants.{Spent}
 use Rattle.cloak_pager.proofs.Pages.{with_page-other}
 use Rattle.shadow_fold.specs.Entries.{is_table}
 use Rattle.shadow_fold.specs.Keeping.{Agrees}
@@ -55,7 +55,7 @@ pub ready_next : (draw : Option (List ℕ × Random)) (stream left : Random) (ol
     (bytes : List ℕ) → PlaceTurns draw stream old new left (first_page d n) f bytes → new.rights ≡ old.rights →
     IsReady old d n → IsReady new d (n + 1)
 ready_next draw stream left old new d n f bytes turns rights ready = record {
-  outside = λ k. ap (λ (hs : List Held). page_of (slice_index_or hs k Spent)) rights ∙ ready.outside k;
+  outside = λ k. ap (λ (hs : List FrameRight). page_of (slice_index_or hs k Spent)) rights ∙ ready.outside k;
   rest = λ q here past.
       metas_kept draw stream left old new (first_page d n) f bytes turns q (λ same. absurd (let at : q.page ≡ n = ap (λ (x : PageId). x.page) same in omega (arith, at, past)))
       ∙ ready.rest q here (omega (arith, past));
@@ -106,7 +106,7 @@ pub keeps_ledger : (q : PageId) (f : ℕ) (bytes : List ℕ) (m : CloakedMemory)
 unfolding place
 keeps_ledger q f bytes m = keeps_with q f bytes (vector_of m.ledger q) m
 
--- the draws behind a placing
+-- the draws after a placing
 abbrev pub draws_if : Bool → ℕ → ℕ
 draws_if true n = min (n + 1) (2 ^ 64 - 1)
 draws_if false n = n
@@ -204,7 +204,7 @@ missed_on : (new : Memory) (next : CloakedMemory → Option CloakedMemory) (o : 
 missed_on new next None missed = tt
 missed_on new next (Some x) missed = absurd missed
 
--- where a draw was missing before, it is missing
+-- if a draw was missing before, it is missing
 pub pages_missed : (new : Memory) (d : ℕ) (p : Program) (m : CloakedMemory) (n i : ℕ) → i ≤ n →
     PlacesTo new false (place_pages d p i m) → PlacesTo new false (place_pages d p n m)
 pages_missed new d p m zero i before missed =

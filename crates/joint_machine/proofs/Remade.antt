@@ -26,12 +26,12 @@ use Rattle.frozen_state.specs.declared.frozen.FrozenDomain.{FrozenDomain}
 use Rattle.frozen_state.specs.declared.frozen.FrozenFrame.{FrozenFrame}
 use Rattle.frozen_state.specs.declared.frozen.FrozenHart.{FrozenHart}
 use Rattle.frozen_state.specs.declared.frozen.FrozenPage.{FrozenPage}
-use Rattle.outside_io.specs.Skipping.{skipped}
+use Rattle.io_traits.specs.Skipping.{skipped}
 use Rattle.cloak_pager.specs.State as pager
 use Rattle.cloak_pager.specs.State.{PagerState, IsFresh, IsWholePager, bytes_in, held_in, owed_at, page_of, right_at}
 use Rattle.cloak_pager.specs.Turns.{IsNewPager, frame_numbered}
-use Rattle.cloak_pager.specs.declared.held.Held.{Held}
-use Rattle.cloak_pager.specs.declared.held.Held.TheVariants.{Outside, Clean, Changed, Spent}
+use Rattle.cloak_pager.specs.declared.frame_right.FrameRight.{FrameRight}
+use Rattle.cloak_pager.specs.declared.frame_right.FrameRight.TheVariants.{Outside, Clean, Changed, Spent}
 use Rattle.hypercalls.specs.declared.domain.Domain.{Domain}
 use Rattle.hypercalls.specs.Standing.{control_of}
 use Rattle.joint_machine.specs.Freezing.{AreOwedOrOutside}
@@ -86,7 +86,7 @@ filled_fresh frames domains keys p p' xs new fills q = (
   fills.metas q ∙ new.no_metas q,
   λ k held.
       let none : held_in p' k ≡ None =
-      ap (λ (rights : List Held). page_of (slice_index_or rights k Spent)) fills.rights
+      ap (λ (rights : List FrameRight). page_of (slice_index_or rights k Spent)) fills.rights
       ∙ new_outside frames domains keys p new k in
       let clash : None ≡ Some q = sym none ∙ held in
       absurd (cc),
@@ -98,7 +98,7 @@ pub are_filled : (frames domains : ℕ) (keys : Keys) (p p' p'' : PagerState) (x
 are_filled frames domains keys p p' p'' xs recorded new counted fills restores = record {
   count = ap length (restores.rights ∙ fills.rights) ∙ (new.count ∙ counted);
   rights = λ f low.
-      ap (λ (rights : List Held). slice_index_or rights f Spent) (restores.rights ∙ fills.rights)
+      ap (λ (rights : List FrameRight). slice_index_or rights f Spent) (restores.rights ∙ fills.rights)
       ∙ new.outside f (omega (arith, low, counted));
   bytes = λ f frame there.
       ap (λ (l : List (List ℕ)). slice_index_or l f []) restores.frames ∙ fills.bytes f frame there;

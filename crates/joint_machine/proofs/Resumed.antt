@@ -1,4 +1,4 @@
--- Resuming a context, by what its parts came to.
+-- Resuming a context, by the results of its parts.
 use Rattle.std.proofs.Common.{◌≡◌, ◌≤◌, ◌∙◌, ℕ, Bool, true, false, List, [], ◌∷◌, Option, Some, None, Result, Ok, Err, length, slice_get, slice_set, refl, ap, sym, subst, if◌then◌else◌}
 use Rattle.std.specs.Prelude.{is_some, is_err, OnErr}
 use Rattle.std.proofs.lemmas.Bool.{false≢true}
@@ -127,7 +127,7 @@ module _ (j : model.Joint) (hart satp ctx reply : ℕ) (was : program.Domain) wh
       by_domain j hart satp ctx reply (Some was) ≡ by_root j satp ctx reply was resumed (admit (its_space space) satp j.memory.ledger.root) (Ok tt)
   is_granted space idle right = by_admitted space idle ∙ ap (λ (a : Result (Unit {0}) ResumeFault). by_root j satp ctx reply was resumed (admit (its_space space) satp j.memory.ledger.root) a) right
 
--- What the code's parts came to.
+-- What the code's parts resulted in.
 
 idle_of : (domain : Domain) (was : program.Domain) (slot : ℕ) (o : Option ℕ) → StandsFor domain was → o ≡ idle_space (context_at (control_of domain).contexts slot) → idle_space (context_at was.control.contexts slot) ≡ o
 idle_of domain was slot o stands is = ap (λ (k : program.Control). idle_space (context_at k.contexts slot)) stands.control ∙ sym is

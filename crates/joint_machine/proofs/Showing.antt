@@ -20,8 +20,8 @@ use Rattle.cloak_model.specs.Opening.{is_placed, numbers_below, opening_items, O
 use Rattle.cloak_pager.specs.State.{PagerState, bytes_in, page_of, right_at, held_in}
 use Rattle.cloak_pager.specs.Turns.{IsReadOnce}
 use Rattle.cloak_pager.specs.Relation.{StandsForMemory, FrameStands}
-use Rattle.cloak_pager.specs.declared.held.Held.{Held}
-use Rattle.cloak_pager.specs.declared.held.Held.TheVariants.{Outside, Clean, Changed, Spent}
+use Rattle.cloak_pager.specs.declared.frame_right.FrameRight.{FrameRight}
+use Rattle.cloak_pager.specs.declared.frame_right.FrameRight.TheVariants.{Outside, Clean, Changed, Spent}
 use Rattle.protect_meta.specs.Table.{domains_of}
 use Rattle.cloak_pager.proofs.Calls.{stands_read}
 use Rattle.cloaked_side.specs.Holding.{Holds, frames_of}
@@ -112,12 +112,12 @@ read_once a b once stream draws missed shadows marks = record {
 }
 
 pub read_outside : (a b : Memory) → IsReadOnly a b → (k : ℕ) → held_in b.pager k ≡ held_in a.pager k
-read_outside a b read k = ap (λ (hs : List Held). page_of (slice_index_or hs k Spent)) read.rights
+read_outside a b read k = ap (λ (hs : List FrameRight). page_of (slice_index_or hs k Spent)) read.rights
 
 -- The frames that are shown are those of RAM.
 
 -- a frame that holds nothing is as the kernel sees it
-outside_shows : (p : PagerState) (w : PageId → Bool) (m : CloakedMemory) (f : ℕ) (h : Held) → page_of h ≡ None →
+outside_shows : (p : PagerState) (w : PageId → Bool) (m : CloakedMemory) (f : ℕ) (h : FrameRight) → page_of h ≡ None →
     FrameStands p w m f h → bytes_in p f ≡ slice_index_or m.ram f []
 outside_shows p w m f (Outside r) none stands = stands
 outside_shows p w m f (Clean r) none stands = absurd (cc)

@@ -3,7 +3,7 @@ use Rattle.std.proofs.Common.{◌≡◌, ◌≢◌, ◌<◌, ◌∙◌, ◌^◌,
 use Rattle.std.specs.Option.{IfSome}
 use Rattle.std.proofs.lemmas.Bool.{lt-ltb}
 use Rattle.cloak_base.specs.declared.names.PageId.{PageId}
-use Rattle.cloak_model.specs.declared.view.View.{View}
+use Rattle.cloak_model.specs.declared.regime.InsideRegime.{InsideRegime}
 use Rattle.cloak_model.specs.World.{World, Flat, Cloaked, Alone, items_of, violation_of}
 use Rattle.cloak_model.specs.Asking.{Told}
 use Rattle.cloak_model.specs.Cloaking.{CloakedMemory}
@@ -28,16 +28,16 @@ use Rattle.joint_machine.specs.declared.stepping.Stepped.{Stepped}
 use Rattle.joint_machine.specs.Turning.{HoldsNoFree, HoldsNoOthers, StepsDomain, begun}
 
 -- a domain that the memory has is served under its number
-pub served_there : {E : Type 0} (side : Side E) → side.view.domain < domains_in side.memory.now → side.view.domain ≡ served side
-served_there side there = sym (ap (λ (b : Bool). cond b side.view.domain (2 ^ 32)) (lt-ltb side.view.domain (domains_in side.memory.now) there))
+pub served_there : {E : Type 0} (side : Side E) → side.regime.domain < domains_in side.memory.now → side.regime.domain ≡ served side
+served_there side there = sym (ap (λ (b : Bool). cond b side.regime.domain (2 ^ 32)) (lt-ltb side.regime.domain (domains_in side.memory.now) there))
 
 pages_in : (d : program.Domain) (c : Option Context) → IfSome c (λ x. (va : ℕ) (q : PageId) → page_at d.control.number d.control.resources x.space va ≡ Some q → pages_for d c va ≡ Some q)
 pages_in d None = tt
 pages_in d (Some c) = λ va q is. is
 
 -- as a step begins, the pages of the context's space lie where its regions have them
-pub pages_begun : (m : CloakedMemory) (view : View) (slot : ℕ) (d : program.Domain) (k : program.Control) → d.control ≡ k → HasPagesOf slot k (Cloaked (begun m view slot d))
-pages_begun m view slot d k same = subst (λ (k : program.Control). HasPagesOf slot k (Cloaked (begun m view slot d))) same (pages_in d (context_at d.control.contexts slot))
+pub pages_begun : (m : CloakedMemory) (regime : InsideRegime) (slot : ℕ) (d : program.Domain) (k : program.Control) → d.control ≡ k → HasPagesOf slot k (Cloaked (begun m regime slot d))
+pages_begun m regime slot d k same = subst (λ (k : program.Control). HasPagesOf slot k (Cloaked (begun m regime slot d))) same (pages_in d (context_at d.control.contexts slot))
 
 -- What a side saw, it saw of its memory and its emitter.
 
@@ -58,11 +58,11 @@ steps_told gave first now domain given went told memory e same_memory same_emitt
   stands = steps.domain_stands;
 }
 
--- what is unused in a side is so in the memory that it gave back
-pub unused_back : {E : Type 0} (side : Side E) (pager : PagerState) (view : View) (r : Resources) → pager ≡ side.memory.now.pager → side.view ≡ view → AreUnused (IsUnused side) r → HoldsNoFree view.domain r pager
-unused_back side pager view r same_pager same_view unused =
-    subst (λ (p : PagerState). HoldsNoFree view.domain r p) (sym same_pager)
-    (record { unused = subst (λ (v : View). AreUnused (IsNoneHeld side.memory.now.pager v.domain) r) same_view unused })
+-- what is unused in a side is unused in the memory that it gave back
+pub unused_back : {E : Type 0} (side : Side E) (pager : PagerState) (regime : InsideRegime) (r : Resources) → pager ≡ side.memory.now.pager → side.regime ≡ regime → AreUnused (IsUnused side) r → HoldsNoFree regime.domain r pager
+unused_back side pager regime r same_pager same_regime unused =
+    subst (λ (p : PagerState). HoldsNoFree regime.domain r p) (sym same_pager)
+    (record { unused = subst (λ (v : InsideRegime). AreUnused (IsNoneHeld side.memory.now.pager v.domain) r) same_regime unused })
 
 -- no page of another domain came into a frame of the memory that was given back
 pub others_back : (d : ℕ) (old back new : PagerState) → back ≡ new → ((k : ℕ) (q : PageId) → q.domain ≢ d → held_in new k ≡ Some q → held_in old k ≡ Some q) → HoldsNoOthers d old back

@@ -89,7 +89,7 @@ none_owned number n pages (Space space) rest none each = each
 none_owned number n pages (File file) rest none each =
     (λ same. absurd (one_not_none (file == number) ((Decides-eqb file number).1 same) none), each)
 
--- where no resource is the file of this number, no file has it
+-- if no resource is the file of this number, no file has it
 none_later : (number n : ℕ) (held : List (Option Resource)) → count_by (holds_file number) held ≡ 0 →
     Each (IsOther number) (places_in n held)
 none_later number n [] none = tt

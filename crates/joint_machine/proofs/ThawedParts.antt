@@ -34,7 +34,7 @@ use Rattle.frozen_state.specs.declared.frozen.FrozenDomain.{FrozenDomain}
 use Rattle.frozen_state.specs.declared.frozen.FrozenFrame.{FrozenFrame}
 use Rattle.frozen_state.specs.declared.frozen.FrozenHart.{FrozenHart}
 use Rattle.cloak_pager.specs.State.{PagerState, IsNoneHeld, IsWholePager, held_in, page_of, right_at}
-use Rattle.cloak_pager.specs.declared.held.Held.TheVariants.{Spent}
+use Rattle.cloak_pager.specs.declared.frame_right.FrameRight.TheVariants.{Spent}
 use Rattle.cloak_pager.proofs.Pages.{same_or_not}
 use Rattle.hypercalls.specs.declared.domain.Domain.{Domain}
 use Rattle.hypercalls.specs.Standing.{control_of, number_of}

@@ -21,8 +21,8 @@ use Rattle.page_states.specs.Opening.{IsPlain, OpensTo}
 use Rattle.cloak_pager.specs.State as pager
 use Rattle.cloak_pager.specs.State.{PagerState, IsFresh, bytes_in, held_in, key_for, owed_at, page_of, right_at}
 use Rattle.cloak_pager.specs.Turns.{HasBytes, HoldsNow, IsRestored, StaysBut, frame_numbered, holding}
-use Rattle.cloak_pager.specs.declared.held.Held.{Held}
-use Rattle.cloak_pager.specs.declared.held.Held.TheVariants.{Outside, Clean, Changed, Spent}
+use Rattle.cloak_pager.specs.declared.frame_right.FrameRight.{FrameRight}
+use Rattle.cloak_pager.specs.declared.frame_right.FrameRight.TheVariants.{Outside, Clean, Changed, Spent}
 use Rattle.cloak_pager.proofs.Pages.{same_or_not}
 use Rattle.joint_machine.specs.Thawing.{AreFilled, AreThawedFrames, FillsFrames, IsThawedFrame, Restores, meta_among}
 
@@ -105,7 +105,7 @@ fills_none p frames = record {
 pub fills_outside : (old p : PagerState) (frames : List FrozenFrame) (i : ℕ) → FillsBelow old p frames i →
     ((k : ℕ) → held_in old k ≡ None) → (k : ℕ) → held_in p k ≡ None
 fills_outside old p frames i so_far none k =
-    ap (λ (rights : List Held). page_of (slice_index_or rights k Spent)) so_far.rights ∙ none k
+    ap (λ (rights : List FrameRight). page_of (slice_index_or rights k Spent)) so_far.rights ∙ none k
 
 pub fills_next : (old p p' : PagerState) (frames : List FrozenFrame) (i : ℕ) (frame : FrozenFrame) →
     FillsBelow old p frames i → i < length p.frames → slice_get frames i ≡ Some frame → HasBytes p p' i frame.bytes →
@@ -232,7 +232,7 @@ pub next_fresh : (old p : PagerState) (recorded : List FrozenPage) (i : ℕ) (x 
     AllPairs Rises recorded → ((q : PageId) → IsFresh old q) → slice_get recorded i ≡ Some x → IsFresh p x.page
 next_fresh old p recorded i x so_far rises fresh is = (
   so_far.metas x.page ∙ next_unknown recorded i x rises is,
-  λ k held. (fresh x.page).1 k (sym (ap (λ (rights : List Held). page_of (slice_index_or rights k Spent)) so_far.rights) ∙ held),
+  λ k held. (fresh x.page).1 k (sym (ap (λ (rights : List FrameRight). page_of (slice_index_or rights k Spent)) so_far.rights) ∙ held),
 )
 
 pub restores_next : (old p p' : PagerState) (recorded : List FrozenPage) (i : ℕ) (x : FrozenPage) →
@@ -391,7 +391,7 @@ pub frame_quiet : (p : PagerState) (f : ℕ) (frame : FrozenFrame) → frame.owe
     right_at p f ≡ Outside (frame_numbered f) → bytes_in p f ≡ frame.bytes → IsThawedFrame p f frame frame.owed
 frame_quiet p f frame none right bytes = subst (IsThawedFrame p f frame) (sym none) (right, bytes)
 
-right_put : (rights : List Held) (f : ℕ) (q : PageId) (h : Held) → pager.owed_under (slice_index_or (slice_set rights f h) f Spent) ≡ Some q →
+right_put : (rights : List FrameRight) (f : ℕ) (q : PageId) (h : FrameRight) → pager.owed_under (slice_index_or (slice_set rights f h) f Spent) ≡ Some q →
     slice_index_or (slice_set rights f h) f Spent ≡ h
 right_put rights f q h owed = elim (cases_lt f (length rights)) [
   | inl low ↦ get_or-set_same rights f h Spent low
@@ -407,9 +407,9 @@ pub frame_opened : (p p' : PagerState) (f : ℕ) (frame : FrozenFrame) (q : Page
 frame_opened p p' f frame q meta is opens owed shown low =
     let turns = opens.2 in
     let right : right_at p' f ≡ Changed (holding f q) =
-    ap (λ (l : List Held). slice_index_or l f Spent) turns.rights_are
+    ap (λ (l : List FrameRight). slice_index_or l f Spent) turns.rights_are
     ∙ right_put p.rights f q (Changed (holding f q))
-    (ap (λ (l : List Held). pager.owed_under (slice_index_or l f Spent)) (sym turns.rights_are) ∙ owed) in
+    (ap (λ (l : List FrameRight). pager.owed_under (slice_index_or l f Spent)) (sym turns.rights_are) ∙ owed) in
     let bytes : bytes_in p' f ≡ opens.0 =
     ap (λ (l : List (List ℕ)). slice_index_or l f []) turns.frames_are ∙ get_or-set_same p.frames f opens.0 [] low in
     subst (IsThawedFrame p' f frame) (sym is) (

@@ -16,7 +16,7 @@ use Rattle.cloak_model.specs.Joint.{Turn, by_interrupt, cloak_of, cloak_outside,
 use Rattle.cloak_model.specs.KernelStep.{kernel_step, ticked}
 use Rattle.cloak_model.specs.Parts as model
 use Rattle.cloak_model.specs.World.{Cloak, Cloaked, events_of, items_of, is_clashed}
-use Rattle.cloak_model.specs.declared.view.View.{View}
+use Rattle.cloak_model.specs.declared.regime.InsideRegime.{InsideRegime}
 use Rattle.cloaked_side.specs.Tracking.{AreAll, Tracks, TracksBy, GoesBy, IsGone, spent_in}
 use Rattle.cloak_model.specs.Opening.{numbers_below}
 use Rattle.cloaked_side.proofs.Spending.{ending_misses, maps_ending, maps_still, spends_more, spends_none, spends_still, spends_then}
@@ -164,21 +164,21 @@ goes_then old mid new space es is changed first second =
       gone = second.gone;
     }
 
--- what is told of a program's step, where the slot has this context
+-- what is told of a program's step, if the slot has this context
 abbrev pub told_in : model.Joint → Hart → ℕ → ℕ → program.Domain → Option Context → Told DomainStepped
 told_in j h d slot was c = domain_step slot was (Cloaked (cloak_of j.memory h d (pages_for was c)))
 
 -- a context made its step, and then a space of its domain changed or ended, or none
-pub goes_stepped : (old mid new : Memory) (due : Bool) (j : model.Joint) (number : ℕ) (h : Hart) (d slot : ℕ) (was : program.Domain) (c : Context) (space : SpaceId) (view : View) (ended : Went) →
+pub goes_stepped : (old mid new : Memory) (due : Bool) (j : model.Joint) (number : ℕ) (h : Hart) (d slot : ℕ) (was : program.Domain) (c : Context) (space : SpaceId) (regime : InsideRegime) (ended : Went) →
     due ≡ false → context_at was.control.contexts slot ≡ Some c → record { domain = d; number = c.space } ≡ space →
-    begun j.memory view slot was ≡ cloak_of j.memory h d (pages_for was (context_at was.control.contexts slot)) →
-    (let told = domain_step slot was (Cloaked (begun j.memory view slot was)) in is_clashed told.world ≡ false →
+    begun j.memory regime slot was ≡ cloak_of j.memory h d (pages_for was (context_at was.control.contexts slot)) →
+    (let told = domain_step slot was (Cloaked (begun j.memory regime slot was)) in is_clashed told.world ≡ false →
     (ended ≡ told.answer.went) ×
     GoesBy old mid (record { space = Some space; events = events_of told.world; items = items_of told.world; changed = [] })) →
     ((s : Option SpaceId) → GoesBy mid new (record { space = s; events = []; items = []; changed = events.changed_by d ended })) →
     (by_interrupt due j number h d slot was).joint.memory.ledger.clashed ≡ false →
     GoesBy old new (events.asked_if due j h d slot was (context_at was.control.contexts slot))
-goes_stepped old mid new due j number h d slot was c space view ended is there here begins steps ends none =
+goes_stepped old mid new due j number h d slot was c space regime ended is there here begins steps ends none =
     subst (λ (b : Bool). GoesBy old new (events.asked_if b j h d slot was (context_at was.control.contexts slot))) (sym is)
     (subst (λ (o : Option Context). GoesBy old new (events.asked_if false j h d slot was o)) (sym there) program)
   where

@@ -1,4 +1,4 @@
--- The step of a hart, by what its parts came to.
+-- The step of a hart, by the results of its parts.
 use Rattle.std.proofs.Common.{◌≡◌, ◌<◌, ◌∙◌, ℕ, false, List, [], ◌∷◌, ◌++◌, Option, Some, None, length, slice_get, slice_set, slice_index_or, ap, sym, subst}
 use Rattle.std.proofs.lemmas.Option.{get_or_from_slice_get, slice_get-get_or}
 use Rattle.cloak_base.specs.declared.causes.Violation.{Violation}

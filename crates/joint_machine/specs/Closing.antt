@@ -1,4 +1,4 @@
--- What the closing comes to.
+-- What the closing results in.
 use Rattle.std.specs.Prelude.{List}
 use Rattle.cloak_model.specs.Exchange.{Piece, Emits, item_pieces}
 use Rattle.cloak_model.specs.World.{Cloak}

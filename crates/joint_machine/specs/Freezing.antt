@@ -76,8 +76,8 @@ pub record TellsDomains (p : PagerState) (roots : List (List (Option ℕ))) (end
 
 -- Room.
 
--- Nothing is in these lists yet, and there is room for so many harts, frames and programs, and for each page that so many
--- programs can have.
+-- Nothing is in these lists yet, and there is room for this many harts, frames and programs, and for each page that
+-- this many programs can have.
 pub record HasRoom (harts frames domains : ℕ) (room : FrozenRoom) : Type 0 where
   pub no_domain : room.domains.items ≡ []
   pub no_hart : room.harts.items ≡ []

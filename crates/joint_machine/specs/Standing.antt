@@ -62,7 +62,7 @@ abbrev pub shown_byte : Option ℕ → List ℕ
 shown_byte None = []
 shown_byte (Some b) = b ∷ []
 
--- The step was this one: what was emitted, what it answers, and what the machine then stands for.
+-- The step was this one: what was emitted, what it returns, and what the machine then stands for.
 pub record TakesTurn {E : Type 0} (gave : E → E → List Piece → Type 0) (e e' : E) (joint : Joint) (given : Turned) (t : Turn) : Type 0 where
   pub emits : Emits gave e e' (item_pieces t.items)
   pub console : shown_byte given.console ≡ t.console
@@ -112,7 +112,7 @@ pub record ShowsAs {E : Type 0} (gave : E → E → List Piece → Type 0) (e e'
 abbrev pub AllOutside : Joint → Type 0
 AllOutside joint = (k : ℕ) → held_in joint.memory.pager k ≡ None
 
--- The pager is that of this memory. The newest bytes of a page are lost only where a draw was missing.
+-- The pager is that of this memory. The newest bytes of a page are lost only if a draw was missing.
 pub record LendsPager (pager : PagerState) (m : CloakedMemory) : Type 0 where
   pub wiped : PageId → Bool
   pub stands : StandsForMemory pager wiped m

@@ -26,7 +26,7 @@ use Rattle.frozen_state.specs.declared.frozen.FrozenHart.{FrozenHart}
 use Rattle.frozen_state.specs.declared.frozen.FrozenPage.{FrozenPage}
 use Rattle.cloak_pager.specs.State.{PagerState, bytes_in, key_for, right_at}
 use Rattle.cloak_pager.specs.Turns.{frame_numbered, holding}
-use Rattle.cloak_pager.specs.declared.held.Held.TheVariants.{Outside, Changed}
+use Rattle.cloak_pager.specs.declared.frame_right.FrameRight.TheVariants.{Outside, Changed}
 use Rattle.hypercalls.specs.declared.domain.Domain.{Domain}
 use Rattle.hypercalls.specs.Standing.{StandsFor, control_of, number_of}
 use Rattle.joint_machine.specs.declared.joint.Joint.{Joint}

@@ -1,11 +1,11 @@
--- What the parts of a hart's step come to.
+-- What the parts of a hart's step result in.
 use Rattle.std.specs.Prelude.{ℕ, ◌≡◌, ◌≢◌, Bool, false, not, List, [], ◌++◌, map, Option, Some, None, slice_set, is_some, if◌then◌else◌}
 use Rattle.cloak_base.specs.declared.names.PageId.{PageId}
 use Rattle.cloak_base.specs.declared.names.SpaceId.{SpaceId}
 use Rattle.cloak_base.specs.declared.causes.Violation.{Violation}
 use Rattle.cloak_model.specs.declared.item.Item.{Item}
 use Rattle.cloak_model.specs.declared.outcome.Kernel.{Kernel}
-use Rattle.cloak_model.specs.declared.view.View.{View}
+use Rattle.cloak_model.specs.declared.regime.InsideRegime.{InsideRegime}
 use Rattle.cloak_model.specs.Hart.{Hart}
 use Rattle.cloak_model.specs.Cloaking.{CloakedMemory}
 use Rattle.cloak_model.specs.World.{Cloak, items_of, violation_of}
@@ -106,19 +106,19 @@ abbrev pub running_space : ℕ → Option Context → Option ℕ
 running_space hart None = None
 running_space hart (Some c) = if is_hart hart c.on then Some c.space else None
 
--- so of the context of this number, in its program
+-- the same for the context of this number, in its program
 abbrev pub running_in : ℕ → ℕ → Option Domain → Option ℕ
 running_in hart ctx None = None
 running_in hart ctx (Some d) = running_space hart (context_at (control_of d).contexts (slot_of ctx))
 
 -- the memory as the step of a slot's context begins
-abbrev pub begun : CloakedMemory → View → ℕ → program.Domain → Cloak
-begun m view slot d = record {
+abbrev pub begun : CloakedMemory → InsideRegime → ℕ → program.Domain → Cloak
+begun m regime slot d = record {
   memory = m;
   items = [];
   events = [];
   violation = None;
-  view = view;
+  regime = regime;
   pages = pages_for d (context_at d.control.contexts slot);
 }
 

@@ -5,7 +5,7 @@ ghost use Rattle.cloak_model.specs.Opening.{drawn_keys, filled_up, key_count};
 ghost use Rattle.joint_machine.specs.Starting.{DrawsKeys};
 
 use cloak_model::Program;
-use outside_io::Stream;
+use io_traits::Stream;
 
 /// How many keys a run of these programs draws: one for each number up to the greatest that a program has, and one
 /// without programs.

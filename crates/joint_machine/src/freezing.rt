@@ -22,7 +22,7 @@ use cloak_pager::Pager;
 use frozen_state::{Frozen, FrozenDomain, FrozenFrame, FrozenHart, FrozenPage, FrozenRoom};
 use host_calls::{Hart, Reservations};
 use hypercalls::Domain;
-use outside_io::Stream;
+use io_traits::Stream;
 use sha2::{Digest, Sha256};
 use thread_context::Roots;
 
@@ -266,7 +266,7 @@ fn freeze_recorded(pager: &Pager, domains: u32, room: Vec<FrozenPage>) -> Vec<Fr
     frozen
 }
 
-/// These lists are empty, and have room for a machine of so many harts, frames and programs.
+/// These lists are empty, and have room for a machine of this many harts, frames and programs.
 fn has_room(harts: usize, frames: usize, domains: usize, room: &FrozenRoom) -> bool
     requires few { domains ≤ 4 }
     ensures enough { IsTrue result → HasRoom harts frames domains room.now }
@@ -285,10 +285,11 @@ fn has_room(harts: usize, frames: usize, domains: usize, room: &FrozenRoom) -> b
 impl Joint {
     ghost use Rattle.joint_machine.specs.Standing.{StandsForJoint};
 
-    /// The state of the machine after so many steps, under these vectors: one for each program by rising number, and then
-    /// one for each frame that is owed a page. None if there are too few, or no room. Frames that are owed nothing are
-    /// resealed before, and nothing is drawn of the run's stream. No memory is taken: the state has the memory of the room
-    /// and of the disk. After a draw that was missing nothing is told, since newest bytes of a page were lost.
+    /// The state of the machine after this many steps, under these vectors: one for each program by rising number, and
+    /// then one for each frame that is owed a page. None if there are too few, or no room. Frames that are owed nothing
+    /// are resealed before that, and nothing is drawn from the run's stream. No memory is taken: the state has the
+    /// memory of the room and of the disk. After a draw that was missing nothing is told, since the newest bytes of a
+    /// page were lost.
     pub fn freeze(self, steps: u32, ivs: &mut Stream, room: FrozenRoom) -> Option<Frozen>
         ensures state { (j : model.Joint) → StandsForJoint self j → j.memory.ledger.missed ≡ false →
             HasRoom (length j.harts) (length j.memory.ram) (length j.domains) room →

@@ -46,8 +46,8 @@ pub fn leave_stopped<E: Emit>(h: &mut Hart, number: u32, ctx: u32, memory: &mut 
     leave_context(h, number, &shown, memory, e);
 }
 
-/// A context of this domain goes on or leaves the hart of this number after its step. Answers what the kernel presented in
-/// place of what is recorded, where that stopped the step.
+/// A context of this domain goes on or leaves the hart of this number after its step. Returns what the kernel presented
+/// in place of what is recorded, if that stopped the step.
 pub fn go_on<E: Emit>(
     h: &mut Hart,
     number: u32,

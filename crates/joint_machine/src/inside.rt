@@ -26,7 +26,7 @@ use crate::joint::Joint;
 use crate::stepping::{Stepped, step_domain};
 use cloak_base::{SpaceId, Violation};
 use cloak_model::{Emit, Item, Went};
-use cloaked_side::{KeptItems, Memory, view_of};
+use cloaked_side::{KeptItems, Memory, regime_of};
 use host_calls::{Hart, tick};
 use hypercalls::Domain;
 use thread_context::Roots;
@@ -139,7 +139,7 @@ fn step_context<E: Emit>(
         return None;
     }
     domain.whole(space);
-    let view = view_of(h, d);
+    let regime = regime_of(h, d);
     let space = SpaceId {
         domain: d as u32,
         number: space,
@@ -148,7 +148,7 @@ fn step_context<E: Emit>(
         went: Went::Stay,
         violation: None,
     };
-    step_domain(domain, slot, view, space, memory, items, e, &mut stepped);
+    step_domain(domain, slot, regime, space, memory, items, e, &mut stepped);
     end_space(memory, d as u32, &stepped.went);
     go_on(h, number, d as u32, roots, &stepped, memory, e)
 }

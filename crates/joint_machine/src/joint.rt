@@ -13,12 +13,12 @@ use thread_context::Roots;
 pub struct Joint {
     pub(crate) harts: Vec<Hart>,
     pub(crate) memory: Memory,
-    /// Each program in the place of its number.
+    /// Each program at the place of its number.
     pub(crate) domains: Vec<Domain>,
     /// The page table that each space was first resumed with.
     pub(crate) roots: Roots,
     pub(crate) disk: Disk,
-    /// What the answers to programs are written as.
+    /// An item that is written again and again, and so is kept.
     pub(crate) items: KeptItems,
     /// For each number of a domain, what ended it.
     pub(crate) ended: [Option<Violation>; 4],

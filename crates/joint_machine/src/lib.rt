@@ -7,8 +7,8 @@
 //! shown, is known above. After the opening no call takes memory.
 //!
 //! The layer above may rely on this: for every state of the joint machine that this one stands for
-//! (`specs/Standing`), a call emits exactly the items of the definition and answers what it tells, and the machine then
-//! stands for the state after it; a step unless two different pages with one digest were compared.
+//! (`specs/Standing`), a call emits exactly the items of the definition and returns what it tells, and the machine then
+//! stands for the state after it; for a step, unless two different pages with one digest were compared.
 #![tactic(auto)]
 
 mod closing;

@@ -13,8 +13,8 @@ use cloak_model::{KernelImage, Segment};
 use cloak_pager::Pager;
 use cloaked_side::Memory;
 use host_calls::{Disk, Reservations};
+use io_traits::Stream;
 use multi_shadow::Shadows;
-use outside_io::Stream;
 use std::alloc::Global;
 
 /// How many bytes a segment gives back at a time.
@@ -35,7 +35,8 @@ fn store(pager: &mut Pager, address: u32, bytes: &[u8])
     }
 }
 
-/// Stores the last bytes of a list, the last one first, from an address on. The list gives them back. Answers how many they are.
+/// Stores the last bytes of a list, the last one first, from an address on. The list gives them back. Returns how many
+/// they are.
 fn store_piece(pager: &mut Pager, address: u32, bytes: &mut Vec<u8>) -> u32
     requires from_start { ram_start ≤ address }
     requires to_end { address + length bytes.old.items ≤ ram_end (length pager.old.frames) }

@@ -19,10 +19,10 @@ use crate::starting::{joint_of, start_parts};
 use cloak_base::Frame;
 use cloak_model::{Emit, KernelImage, Program, Sequence};
 use cloaked_side::Memory;
-use outside_io::Stream;
+use io_traits::Stream;
 use std::alloc::Global;
 
-/// Emits a frame where a page of a program is placed in it.
+/// Emits a frame if a page of a program is placed in it.
 fn show_frame<E: Emit>(memory: &mut Memory, placings: &[Placing], f: Frame, e: &mut E)
     requires inside { f.0 < frames_of memory.old }
     requires outside { held_in memory.old.pager f.0 ≡ None }
@@ -78,8 +78,8 @@ impl Joint {
         Ok(joint_of(parts))
     }
 
-    /// Emits what the kernel is shown as the run begins: each frame that holds a page of a program, where the programs
-    /// are placed so.
+    /// Emits what the kernel is shown as the run begins: each frame that holds a page of a program, if the programs are
+    /// placed so.
     pub fn show_opening<E: Emit>(&mut self, placings: &[Placing], e: &mut E)
         requires outside { AllOutside self.old }
         ensures outside { AllOutside self.new }

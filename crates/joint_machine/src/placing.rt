@@ -28,7 +28,7 @@ fn take_page(bytes: &mut Vec<u8>) -> [u8; 4096]
     page
 }
 
-/// Places a page of a program, whose first one is placed in this frame, by the next draw. False where there is none.
+/// Places a page of a program, whose first page is placed in this frame, by the next draw. False if there is none.
 fn place_page(memory: &mut Memory, domain: u32, first: u32, page: u32, bytes: &[u8; 4096]) -> bool
     requires domain { domain < domains_in memory.old }
     requires page { page < 1024 }
@@ -57,8 +57,8 @@ fn place_page(memory: &mut Memory, domain: u32, first: u32, page: u32, bytes: &[
     true
 }
 
-/// Places all pages of a program, by rising number, and gives each one's bytes back as it is placed. False where a draw
-/// is missing.
+/// Places all pages of a program, by rising number, and gives each one's bytes back as it is placed. False if a draw is
+/// missing.
 fn place_pages(memory: &mut Memory, domain: u32, p: Program) -> bool
     requires domain { domain < domains_in memory.old }
     requires program { IsProgramIn (frames_of memory.old) p }
@@ -86,7 +86,7 @@ fn place_pages(memory: &mut Memory, domain: u32, p: Program) -> bool
     true
 }
 
-/// Places the pages of all programs, in order, and gives their bytes back. False where a draw is missing.
+/// Places the pages of all programs, in order, and gives their bytes back. False if a draw is missing.
 pub(crate) fn place_programs(memory: &mut Memory, programs: Sequence<Program>) -> bool
     requires domains { domains_in memory.old ≡ length programs }
     requires programs { All (IsProgramIn (frames_of memory.old)) programs }

@@ -5,7 +5,7 @@ ghost use Rattle.joint_machine.specs.Placings.{covers, placing};
 use arrayvec::ArrayVec;
 use cloak_model::Program;
 
-/// Where the pages of a program are placed as a run begins: in frames one behind another.
+/// Where the pages of a program are placed as a run begins: in frames one after another.
 #[derive(Clone, Copy, Debug, Default, PartialEq, Eq)]
 pub struct Placing {
     /// The frame of its first page.

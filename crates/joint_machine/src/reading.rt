@@ -11,7 +11,7 @@ use multi_shadow::ShadowCounts;
 pub struct JointParts {
     pub harts: Vec<Hart>,
     pub memory: Memory,
-    /// Each program in the place of its number.
+    /// Each program at the place of its number.
     pub domains: Vec<Domain>,
     pub disk: Disk,
     /// For each number of a domain, what ended it.
@@ -63,7 +63,7 @@ impl Joint {
         self.disk.bytes()
     }
 
-    /// Ends the machine, and gives its parts.
+    /// Ends the machine, and returns its parts.
     pub fn into_parts(self) -> JointParts
         ensures harts { result.harts ≡ self.harts }
         ensures memory { result.memory ≡ self.memory }

@@ -15,7 +15,7 @@ use cloak_model::{Emit, Item};
 use hypercalls::Domain;
 use thread_context::Roots;
 
-/// The space of the context of a slot, where it is there and runs on no hart.
+/// The space of the context of a slot, if it is there and runs on no hart.
 fn idle_space(domain: &Domain, slot: u32) -> Option<u32>
     ensures value { result ≡ idle_space (context_at (control_of domain.now).contexts slot) }
     ensures below_eight { IfSome result (λ space. space < 8) }
@@ -28,7 +28,8 @@ fn idle_space(domain: &Domain, slot: u32) -> Option<u32>
 }
 
 /// Resumes a context of a program on a hart with this page table: the context is there and runs on no hart, and the
-/// table is the one of its space, or there was none yet and it is recorded. Answers the violation, where it is not so.
+/// table is the one of its space, or there was none yet and it is recorded. Returns the violation, if this does not
+/// hold.
 fn resume_in<E: Emit>(
     domain: &mut Domain,
     roots: &mut Roots,
@@ -75,7 +76,7 @@ impl Joint {
     ghost use Rattle.joint_machine.specs.Standing.{StandsForJoint, harts_of};
     ghost use Rattle.joint_machine.specs.Turning.{ResumesJoint};
 
-    /// This hart resumes a context with an answer. Answers the violation, where it may not.
+    /// This hart resumes a context with an answer. Returns the violation, if it may not.
     pub(crate) fn resume<E: Emit>(
         &mut self,
         number: usize,

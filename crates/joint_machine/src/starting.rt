@@ -19,7 +19,7 @@ use cloak_model::{KernelImage, Program};
 use cloaked_side::KeptItems;
 use host_calls::Hart;
 use hypercalls::Domain;
-use outside_io::Stream;
+use io_traits::Stream;
 use std::alloc::Global;
 use thread_context::Roots;
 

@@ -12,7 +12,7 @@ ghost use Rattle.hypercalls.specs.Standing.{StandsFor, control_of, number_of};
 ghost use Rattle.joint_machine.specs.Turning.{HoldsNoFree, HoldsNoOthers, StepsDomain, begun};
 
 use cloak_base::{Frame, SpaceId, Violation};
-use cloak_model::{Emit, View, Went};
+use cloak_model::{Emit, InsideRegime, Went};
 use cloaked_side::{KeptItems, Memory, Side};
 use hypercalls::Domain;
 
@@ -24,7 +24,7 @@ pub struct Stepped {
     pub violation: Option<Violation>,
 }
 
-/// Keeps what was presented in place of what is recorded. Where nothing was, nothing is moved.
+/// Keeps what was presented in place of what is recorded. If nothing was, nothing is moved.
 #[inline(always)]
 fn keep(into: &mut Option<Violation>, violation: Option<Violation>)
     requires { into.old ≡ None }
@@ -36,11 +36,11 @@ fn keep(into: &mut Option<Violation>, violation: Option<Violation>)
 }
 
 /// Makes one step of the context of a slot, which runs in this space on a hart that sees memory so. How it ended is written
-/// to `stepped`, of which nothing is moved where the context stays.
+/// to `stepped`, of which nothing is moved if the context stays.
 pub fn step_domain<E: Emit>(
     domain: &mut Domain,
     slot: u32,
-    view: View,
+    regime: InsideRegime,
     space: SpaceId,
     memory: &mut Memory,
     items: &mut KeptItems,
@@ -49,21 +49,21 @@ pub fn step_domain<E: Emit>(
 )
     requires staying { stepped.old ≡ record { went = Went.Stay; violation = None } }
     requires runs { IsSome (context_at (control_of domain.old).contexts slot) }
-    requires number { number_of domain.old ≡ view.domain }
-    requires there { view.domain < domains_in memory.old }
-    requires unused { HoldsNoFree view.domain (control_of domain.old).resources memory.old.pager }
+    requires number { number_of domain.old ≡ regime.domain }
+    requires there { regime.domain < domains_in memory.old }
+    requires unused { HoldsNoFree regime.domain (control_of domain.old).resources memory.old.pager }
     ensures number { number_of domain.new ≡ number_of domain.old }
     ensures size { SameSize memory.old memory.new }
     ensures counting { memory.new.counting ≡ memory.old.counting }
     ensures emits_some { EmitsSome E.gave e.old e.new }
-    ensures others { HoldsNoOthers view.domain memory.old.pager memory.new.pager }
-    ensures unused { HoldsNoFree view.domain (control_of domain.new).resources memory.new.pager }
+    ensures others { HoldsNoOthers regime.domain memory.old.pager memory.new.pager }
+    ensures unused { HoldsNoFree regime.domain (control_of domain.new).resources memory.new.pager }
     ensures steps { (m : CloakedMemory) (d : model.Domain) → Holds memory.old m → StandsFor domain.old d →
-        is_clashed (domain_step slot d (Cloaked (begun m view slot d))).world ≡ false →
+        is_clashed (domain_step slot d (Cloaked (begun m regime slot d))).world ≡ false →
         StepsDomain E.gave e.old e.new memory.new domain.new stepped.new
-        (domain_step slot d (Cloaked (begun m view slot d))) }
+        (domain_step slot d (Cloaked (begun m regime slot d))) }
     ensures goes { (m : CloakedMemory) (d : model.Domain) → Holds memory.old m → StandsFor domain.old d →
-        let told = domain_step slot d (Cloaked (begun m view slot d)) in is_clashed told.world ≡ false →
+        let told = domain_step slot d (Cloaked (begun m regime slot d)) in is_clashed told.world ≡ false →
         GoesBy memory.old memory.new
         (record { space = Some space; events = events_of told.world; items = items_of told.world; changed = [] }) }
 {
@@ -72,7 +72,7 @@ pub fn step_domain<E: Emit>(
         emitter: e,
         items,
         violation: None,
-        view,
+        regime,
         space: Some(space),
         reached: Frame(0),
     };

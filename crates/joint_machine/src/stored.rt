@@ -9,7 +9,7 @@ use crate::opened::StoredFault;
 use crate::placing::place_programs;
 use crate::starting::{joint_of, start_parts};
 use cloak_model::{KernelImage, Program, Sequence};
-use outside_io::Stream;
+use io_traits::Stream;
 use protect_meta::FileTable;
 use std::alloc::Global;
 

@@ -24,7 +24,7 @@ ghost use Rattle.frozen_state.specs.declared.frozen.FrozenHart.{FrozenHart as An
 ghost use Rattle.frozen_state.specs.declared.frozen.FrozenPage.{FrozenPage as AnyRecord};
 ghost use Rattle.cloak_pager.specs.State.{bytes_in, held_in, right_at, IsFresh};
 ghost use Rattle.cloak_pager.specs.Turns.{StaysBut};
-ghost use Rattle.cloak_pager.specs.declared.held.Held.TheVariants as Held;
+ghost use Rattle.cloak_pager.specs.declared.frame_right.FrameRight.TheVariants as FrameRight;
 ghost use Rattle.hypercalls.specs.Standing.{control_of};
 ghost use Rattle.joint_machine.specs.Freezing.{AreOwedOrOutside};
 ghost use Rattle.joint_machine.specs.Thawing.{AreFilled, AreHarts, AreNumberedHarts, AreThawedDomains, AreThawedFrames};
@@ -42,8 +42,8 @@ use cloaked_side::{KeptItems, Memory};
 use frozen_state::{Frozen, FrozenDomain, FrozenFrame, FrozenHart, FrozenPage};
 use host_calls::{Disk, Hart, Reservations};
 use hypercalls::Domain;
+use io_traits::Stream;
 use multi_shadow::Shadows;
-use outside_io::Stream;
 use rv_traps::Csrs;
 use sha2::{Digest, Sha256};
 use std::alloc::Global;
@@ -97,7 +97,7 @@ fn restore_recorded(pager: &mut Pager, recorded: &[FrozenPage])
 /// A frame that is owed a page holds it again. False if what it shows has not its digest.
 fn thaw_frame(pager: &mut Pager, f: Frame, from: &FrozenFrame) -> bool
     requires inside { f.0 < length pager.old.frames }
-    requires outside { right_at pager.old f.0 ≡ Held.Outside f }
+    requires outside { right_at pager.old f.0 ≡ FrameRight.Outside f }
     requires bytes { bytes_in pager.old f.0 ≡ from.now.bytes }
     requires page { IfSome (owed_page from.now) (IsIn (domains_of pager.old.table)) }
     requires nowhere { IfSome (owed_page from.now) (λ q. (k : ℕ) → held_in pager.old k ≢ Some q) }

@@ -49,7 +49,7 @@ impl Joint {
     }
 
     /// Makes the next step of a hart, and ends the domain of a violation that it met. What it shows and answers is emitted
-    /// as it comes about, but for the console's byte, which is returned.
+    /// as it comes about, except for the console's byte, which is returned.
     #[inline(always)]
     pub fn turn<E: Emit>(&mut self, number: usize, e: &mut E) -> Turned
         requires { number < harts_of self.old }

@@ -92,7 +92,7 @@ pub Accounts-either : {A : Type 0} (b : Bool) (m n : Told A) (w : World) → Acc
 Accounts-either true m n w p q = p
 Accounts-either false m n w p q = q
 
--- of no other world anything has to be said
+-- nothing must be said of any other world
 no_flat : (ram : Seen) (v : World) → Accounts (Flat ram) v
 no_flat ram v = record { by = λ joint. absurd (false≢true joint.form) }
 
@@ -222,7 +222,7 @@ inward_account c d answer.Stopped = record {
 accounts_replies : (a : Answer) (w : World) → Accounts w (replies a w).world
 unfolding replies
 accounts_replies a (Flat ram) = no_flat ram _
-accounts_replies a (Cloaked c) = inward_account c c.view.domain a
+accounts_replies a (Cloaked c) = inward_account c c.regime.domain a
 accounts_replies a (Alone h) = no_alone h _
 
 accounts_drawn : (ask : Asking Answer) (w : World) → Accounts w (ask w).world → Accounts w (if_drawn ask w).world
@@ -294,8 +294,8 @@ put_account : (pa width value : ℕ) (c : Cloak) → is_in_ram c.memory.ram pa �
 unfolding put_at replies
 put_account pa width value c inside aligned is = record {
   by = λ joint. record {
-    items = item.Put pa width (value % 2 ^ (8 * width)) ∷ (item.Ok c.view.domain ∷ []);
-    written = append_assoc c.items (item.Put pa width (value % 2 ^ (8 * width)) ∷ []) (item.Ok c.view.domain ∷ []);
+    items = item.Put pa width (value % 2 ^ (8 * width)) ∷ (item.Ok c.regime.domain ∷ []);
+    written = append_assoc c.items (item.Put pa width (value % 2 ^ (8 * width)) ∷ []) (item.Ok c.regime.domain ∷ []);
     within = (and_from _ _ inside aligned, (refl, tt));
     seen = ap (λ (ram : List (List ℕ)). let x : Seen =
         record { ram = ram; marks = (stored pa width value (seen_in c.memory)).marks } in x)

@@ -13,19 +13,19 @@ pub record KernelRests (s : KernelAlone) (n : ℕ) (k : KernelPart) : Type 0 whe
   pub place : s.place ≡ Between
   pub fits : s.unfit ≡ None
 
--- The last of them halted only where it stopped the run.
+-- The last of them halted only if it stopped the run.
 pub record KernelGoesOn (s : KernelAlone) (n : ℕ) (k : KernelPart) (stops : Bool) : Type 0 where
   pub rests : KernelRests s n k
   pub halted : stops ≡ false → s.halted ≡ false
 
--- Behind n steps, the marker and the items of the next step, and its end, give the kernel's part after it.
+-- After n steps, the marker and the items of the next step, and its end, give the kernel's part after it.
 abbrev pub KernelStepIsAlone : List ℕ → ℕ → KernelPart → List Item → KernelPart → Bool → Type 0
 KernelStepIsAlone schedule n before items after stops =
     (s : KernelAlone) → KernelGoesOn s n before false →
     let s' = kernel_taken schedule s (item.Step (suc n) ∷ items) in
     KernelGoesOn (kernel_step_ended s'.place s') (suc n) after stops
 
--- the hart of the step behind n others, as the kernel alone has it
+-- the hart of the step after n others, as the kernel alone has it
 abbrev pub hart_behind : List ℕ → ℕ → ℕ
 hart_behind schedule n = slice_index schedule ((suc n - 1) % length schedule)
 
@@ -45,7 +45,7 @@ ended_between (Outside number) s e = absurd cc
 ended_between (Inside number ctx) s e = absurd cc
 ended_between Left s e = absurd cc
 
--- a marker is read from where the step before it has not been made yet, or from behind its end
+-- a marker is read from where the step before it has not been made yet, or from after its end
 
 step_taken_same : (schedule : List ℕ) (n : ℕ) (s : KernelAlone) → s.unfit ≡ None →
     (kernel_step_ended s.place s).place ≡ Between →
@@ -72,7 +72,7 @@ unfolding kernel_taken kernel_takes
 close_taken schedule n rest s fits =
     ap (λ t. kernel_taken schedule t rest) (taken_fit schedule s (item.Close n) fits)
 
--- Where the last step is not made yet, its end is as it is told.
+-- If the last step is not made yet, its end is as it is told.
 pub record HasRead (s : KernelAlone) (n : ℕ) (k : KernelPart) (stops : Bool) : Type 0 where
   pub fits : s.unfit ≡ None
   pub goes : KernelGoesOn (kernel_step_ended s.place s) n k stops

@@ -15,13 +15,13 @@ unfolding kernel_taken
 kernel_append schedule s [] b = refl
 kernel_append schedule s (i ∷ a) b = kernel_append schedule (take_kernel_item schedule s i) a b
 
--- an item that is read where none was unfit
+-- an item that is read when none was unfit
 pub taken_fit : (schedule : List ℕ) (s : KernelAlone) (i : Item) → s.unfit ≡ None →
     take_kernel_item schedule s i ≡ kernel_takes schedule i s
 unfolding take_kernel_item
 taken_fit schedule s i fits = rw fits refl
 
-either_same : {A : Type 0} (b : Bool) (x y : A) → y ≡ x → cond b x y ≡ x
+pub either_same : {A : Type 0} (b : Bool) (x y : A) → y ≡ x → cond b x y ≡ x
 either_same true x y e = refl
 either_same false x y e = e
 

@@ -1,4 +1,4 @@
--- A step of a hart inside is the kernel alone's where RAM is what its items say.
+-- A step of a hart inside is the kernel alone's if RAM is what its items say.
 use Rattle.std.proofs.Common.{◌≡◌, ℕ, suc, ◌<◌, Bool, true, false, cond, eqb, List, [], ◌∷◌, ◌++◌, length, Option, Some, None, refl, sym, ap, subst, ◌∙◌}
 use Rattle.std.proofs.lemmas.Bool.{eq-eqb}
 use Rattle.std.proofs.lemmas.List.{get_or-set_same, set-set}
@@ -58,7 +58,7 @@ step_taken schedule n ctx s none place halted inside =
     ∙ ap (take_kernel_step schedule (suc n)) (ended_between s.place s place)
     ∙ begins schedule n ctx s (kernel_hart s.kernel (hart_behind schedule n)).inside s.halted halted inside
 
--- the state behind the items of a step inside
+-- the state after the items of a step inside
 abbrev behind_items : ℕ → ℕ → ℕ → List Item → KernelAlone → KernelAlone
 behind_items hart ctx n items s = with_ram (with_items items (kernel_seen s.kernel)) (begun_inside hart ctx n s)
 
@@ -114,7 +114,7 @@ leave_taken schedule hart ctx shown s none place same =
     ∙ ap (λ p. take_leave p shown s) place
     ∙ fits (eqb shown.ctx ctx) s _ (eq-eqb _ _ same)
 
--- the state behind a step that left
+-- the state after a step that left
 abbrev behind_leave : ℕ → Shown → ℕ → List Item → KernelAlone → KernelAlone
 behind_leave hart shown n items s = record s {
   kernel = left_inside hart (leave (ticked_hart hart s.kernel) shown) items s.kernel;

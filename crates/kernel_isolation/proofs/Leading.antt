@@ -31,10 +31,10 @@ kept_ok va walked keeps = record {
 kept_err : (va cause : ℕ) → KeepsPlace va (Err cause)
 kept_err va cause = record { kept = λ w is. absurd cc }
 
-first_place : (x va : ℕ) → (4194304 * x + bits va 21 0) % 4 ≡ va % 4
+pub first_place : (x va : ℕ) → (4194304 * x + bits va 21 0) % 4 ≡ va % 4
 first_place x va = omega arith
 
-second_place : (x va : ℕ) → (4096 * x + bits va 11 0) % 4 ≡ va % 4
+pub second_place : (x va : ℕ) → (4096 * x + bits va 11 0) % 4 ≡ va % 4
 second_place x va = omega arith
 
 keeps_first_leaf : (a : Access) (at1 e : ℕ) → KeepsPlace a.va (first_leaf a at1 e)

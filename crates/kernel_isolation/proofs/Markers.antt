@@ -67,7 +67,7 @@ pub within_of_step : (ram : List (List ℕ)) (items : List Item) → AreWithin r
 within_of_step ram [] all = tt
 within_of_step ram (i ∷ items) all = (one_within ram i all.0, within_of_step ram items all.1)
 
--- What stands before the marker of the step behind n others, or before Close.
+-- What stands before the marker of the step after n others, or before Close.
 
 abbrev begins_behind : ℕ → Item → Bool
 begins_behind n (item.Step number) = number == suc n

@@ -32,7 +32,7 @@ use Rattle.cloak_model.specs.KernelAlone.{kernel_seen, with_kernel_seen}
 use Rattle.cloak_base.specs.Constants.{frame_of}
 
 -- the bytes of a frame
-abbrev frame_in : List (List ℕ) → ℕ → List ℕ
+abbrev pub frame_in : List (List ℕ) → ℕ → List ℕ
 frame_in ram f = slice_index_or ram f []
 
 -- Placing.
@@ -41,7 +41,7 @@ frame_in ram f = slice_index_or ram f []
 abbrev AreNone : ℕ → List (Option ℕ) → Type 0
 AreNone n marks = marks ≡ replicate n None
 
--- a write ends none where there is none
+-- a write ends none if there is none
 still_none : (gone : ℕ → Bool) (n : ℕ) → map (unless_written gone) (replicate n None) ≡ replicate n None
 still_none gone zero = refl
 still_none gone (suc n) = ap (λ (l : List (Option ℕ)). None ∷ l) (still_none gone n)
@@ -60,7 +60,7 @@ none_shown (c ∷ ciphers) n seen none = none_shown ciphers n (filled c.0 c.1 se
 record PlacesApart (apart : ℕ → Type 0) (m after : CloakedMemory) : Type 0 where
   pub count : length after.ram ≡ length m.ram
   pub owed : after.ledger.owed ≡ m.ledger.owed
-  -- where no hart had a reservation, none has
+  -- if no hart had a reservation, none has
   pub marks : (n : ℕ) → AreNone n m.marks → AreNone n after.marks
   pub others : (f : ℕ) → apart f → frame_in after.ram f ≡ frame_in m.ram f
 
@@ -117,14 +117,14 @@ unfolding place
 place_apart q f bytes m = one_places q f bytes (vector_of m.ledger q) m
 
 -- a frame is none of the first n of a program
-abbrev IsApart : Program → ℕ → ℕ → Type 0
+abbrev pub IsApart : Program → ℕ → ℕ → Type 0
 IsApart p n f = (f < p.place) ⊎ (p.place + n ≤ f)
 
-apart_less : (p : Program) (n f : ℕ) → IsApart p (suc n) f → IsApart p n f
+pub apart_less : (p : Program) (n f : ℕ) → IsApart p (suc n) f → IsApart p n f
 apart_less p n f (inl low) = inl low
 apart_less p n f (inr high) = inr (omega arith)
 
-apart_last : (p : Program) (n f : ℕ) → IsApart p (suc n) f → f ≢ p.place + n
+pub apart_last : (p : Program) (n f : ℕ) → IsApart p (suc n) f → f ≢ p.place + n
 apart_last p n f (inl low) same = absurd (omega arith)
 apart_last p n f (inr high) same = absurd (omega arith)
 

@@ -30,7 +30,7 @@ use Rattle.cloak_model.specs.HartStep.{SteppedHart, with_word, gone_on, stays, r
 use Rattle.cloak_model.specs.HostCalls.{SteppedKernel, is_transfer, ends, put_call, timer_call, halt_call, read_block, write_block, read_call, write_call, host_call, resumed, ecall_in, ecall}
 use Rattle.cloak_model.specs.KernelStep.{access, extended, is_ecall, misaligned, or_trap, carried_out, atomic_access, atomic_executed, executed, instruction_step, ticked, ends_reservation, released, kernel_step}
 use Rattle.cloak_model.proofs.FlatWalk.{ask_walk-flat}
-use Rattle.kernel_isolation.proofs.Settlings.{unmarked}
+use Rattle.settling_ahead.proofs.Planning.{unmarked}
 
 abbrev pub is_resume : Kernel → Bool
 is_resume Stay = false
@@ -43,11 +43,11 @@ is_resume (Resume ctx answer) = true
 abbrev pub marked : List (Option ℕ) → Seen → Seen
 marked marks seen = record seen { marks = marks }
 
--- what was told, with this memory behind it
+-- what was told, with this memory after it
 abbrev told_with : {A : Type 0} → Told A → Seen → Told A
 told_with told seen = record { answer = told.answer; world = Flat seen }
 
--- where it resumes a context, so it does with other reservations, and memory is as it was
+-- if it resumes a context, it does so with other reservations too, and memory is as it was
 abbrev Keeps : Asking SteppedKernel → Type 0
 Keeps ask =
     (seen : Seen) (marks : List (Option ℕ)) → is_resume (ask (Flat seen)).answer.ending ≡ true →
@@ -239,7 +239,7 @@ ReadsFrames ask =
     (seen : Seen) (marks : List (Option ℕ)) →
     ask (Flat (marked marks seen)) ≡ told_with (ask (Flat seen)) (marked marks seen)
 
--- the world behind it
+-- the world after it
 world_behind : {A : Type 0} (ask : Asking A) → ReadsFrames ask → (seen : Seen) → (ask (Flat seen)).world ≡ Flat seen
 world_behind ask reads seen = ap (λ (told : Told _). told.world) (reads seen seen.marks)
 

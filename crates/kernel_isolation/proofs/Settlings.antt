@@ -14,7 +14,8 @@ use Rattle.cloak_model.specs.Hart.{Hart}
 use Rattle.cloak_model.specs.Ledger.{vector_of}
 use Rattle.cloak_model.specs.Touched.{touched}
 use Rattle.kernel_isolation.proofs.Shown.{AreFrames, either, frames_stay}
-use Rattle.cloak_model.specs.Memory.{Seen, filled, unless_written, with_mark}
+use Rattle.cloak_model.specs.Memory.{Seen, filled, unless_written}
+use Rattle.settling_ahead.proofs.Planning.{unmarked}
 
 -- each frame of RAM has its place among what is owed
 abbrev pub HasPlaces : CloakedMemory → Type 0
@@ -35,10 +36,6 @@ pub with_shown-append : (a b : List (ℕ × List ℕ)) (seen : Seen) →
     with_shown (a ++ b) seen ≡ with_shown b (with_shown a seen)
 with_shown-append [] b seen = refl
 with_shown-append (c ∷ a) b seen = with_shown-append a b (filled c.0 c.1 seen)
-
--- a hart's reservation ends
-abbrev pub unmarked : ℕ → Seen → Seen
-unmarked hart seen = record seen { marks = with_mark hart None seen.marks }
 
 filled_unmarked : (hart f : ℕ) (bytes : List ℕ) (seen : Seen) →
     filled f bytes (unmarked hart seen) ≡ unmarked hart (filled f bytes seen)

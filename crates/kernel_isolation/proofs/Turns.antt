@@ -41,7 +41,8 @@ use Rattle.settling_ahead.specs.Touching.{Agrees}
 use Rattle.kernel_isolation.proofs.Between.{KernelStepIsAlone, hart_behind}
 use Rattle.kernel_isolation.proofs.Shown.{AreFrames, frames_stay}
 use Rattle.kernel_isolation.proofs.OutsideSteps.{AreInward, HaltsAsStops, shown_part, plain_told, plain_part, outside_step_is_alone}
-use Rattle.kernel_isolation.proofs.Settlings.{HasPlaces, ShownBy, length-with_shown, with_shown-append, unmarked, shown_unmarked, frames-append, touched_shown}
+use Rattle.kernel_isolation.proofs.Settlings.{HasPlaces, ShownBy, length-with_shown, with_shown-append, shown_unmarked, frames-append, touched_shown}
+use Rattle.settling_ahead.proofs.Planning.{unmarked}
 use Rattle.kernel_isolation.proofs.Resumes.{is_resume, marked, resume_keeps}
 use Rattle.kernel_isolation.proofs.Ends.{AreOwed, with_shown-apart, find_none, EndsIn, end_shows}
 use Rattle.kernel_isolation.proofs.Items.{AreWithin, with_items, with_items-append, length-with_items, within-append, ciphers_within, with_ciphers}
@@ -57,7 +58,8 @@ pub record IsSteady (j : Joint) : Type 0 where
   pub places : HasPlaces j.memory
   pub programs : AreFrom 0 j.domains
 
--- with these Ciphers and the end of a domain behind it, and whether or not it stops the run, a step is the kernel alone's
+-- with these Ciphers and the end of a domain after it, and whether or not it stops the run, a step is the kernel
+-- alone's
 abbrev pub Extends : List ℕ → ℕ → KernelPart → Turn → Type 0
 Extends schedule n k t =
     (ciphers : List (ℕ × List ℕ)) (d : ℕ) (stops : Bool) → AreFrames t.joint.memory.ram ciphers →
@@ -71,7 +73,7 @@ pub record TurnIsAlone (schedule : List ℕ) (n : ℕ) (j : Joint) (t : Turn) : 
   -- none of its items is a marker
   pub items : AreOfStep t.items
   pub steady : IsSteady t.joint
-  -- where it met a violation, it is the kernel alone's too with what is shown behind it in frames that are owed a page
+  -- if it met a violation, it is the kernel alone's too with what is shown after it in frames that are owed a page
   pub extends : (v : Violation) → t.violation ≡ Some v → Extends schedule n (kernel_part j) t
 
 -- the same step, told in other words
@@ -217,15 +219,15 @@ outside_for schedule n k ciphers others stops number same outside frames inward 
     KernelStepIsAlone schedule n k (cipher_items ciphers ++ others) (plain_part x (shown_part ciphers k)) stops) same
     (λ out ends. outside_step_is_alone schedule n k ciphers others stops out frames inward ends) outside halts
 
--- A resuming that is refused: what is shown behind it may as well be shown before its step, which does not touch these
--- frames, writes none, and ends its hart's reservation alone.
+-- A resuming that is refused: what is shown after it may as well be shown before its step, which does not touch these
+-- frames, writes none, and ends only its hart's reservation.
 
 record IsRefused (j : Joint) (number : ℕ) (s : AfterSettling) (ctx reply : ℕ) : Type 0 where
   pub paid : find (is_owed s.memory) (touched (hart_in j number) s.memory.ram j.disk) ≡ None
   pub shown : ShownBy j.memory s.ciphers s.memory
   pub ends : (kernel_step (hart_in j number) j.disk (Flat (seen_in s.memory))).answer.ending ≡ Resume ctx reply
 
--- what the step tells behind what is shown
+-- what the step tells after what is shown
 refused_later : (j : Joint) (number : ℕ) (s : AfterSettling) (ctx reply : ℕ) (c : List (ℕ × List ℕ)) →
     IsRefused j number s ctx reply → AreOwed s.memory c →
     let a = (kernel_step (hart_in j number) j.disk (Flat (seen_in s.memory))).answer in
@@ -678,7 +680,7 @@ turn_by schedule n j number None same steady is = outside_turn schedule n j numb
 turn_by schedule n j number (Some ctx) same steady is =
     inside_turn schedule n j number ctx _ (record { turn = same; inside = is }) steady refl
 
--- The end of a domain behind a step.
+-- The end of a domain after a step.
 
 refused_alone : (schedule : List ℕ) (n : ℕ) (j : Joint) (t : Turn) → TurnIsAlone schedule n j t → (v : Violation) →
     t.violation ≡ Some v → TurnIsAlone schedule n j (refuses t)

@@ -13,16 +13,16 @@ use Rattle.cloak_model.specs.Parts.{Joint, KernelPart, kernel_part}
 use Rattle.cloak_model.specs.Record.{IsExchange}
 use Rattle.cloak_model.specs.Run.{Run, run_from, joint_after, exchange, run_outward_half}
 
--- what each of these steps wrote behind its marker
+-- what each of these steps wrote after its marker
 abbrev pub items_by_step : List Turn → List (List Item)
 items_by_step turns = map (λ (t : Turn). t.items) turns
 
--- what a run wrote in its opening and its first n steps, with their markers, and a Close behind it
+-- what a run wrote in its opening and its first n steps, with their markers, and a Close after it
 abbrev pub items_until : ℕ → Run → List Item
 items_until n r =
     r.opened.items ++ (steps_items 1 (items_by_step (take n r.turns)) ++ item.Close n ∷ [])
 
--- the joint machine behind the opening and the first n steps
+-- the joint machine after the opening and the first n steps
 abbrev pub joint_until : ℕ → Run → Joint
 joint_until n r = joint_after r.opened.joint (take n r.turns)
 

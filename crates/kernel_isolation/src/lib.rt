@@ -5,7 +5,7 @@
 //! the outward items alone. The laws hold of the run of every bundle, also of one that no file spells, and of every
 //! beginning (`specs/Beginning`): of a run from a random stream alone, and of one over any files, whatever they hold.
 //!
-//! No body turns a law, so there is no wrong body to refuse here. These changed definitions were tried on a copy, and
+//! No body changes a law, so there is no wrong body to refuse here. These changed definitions were tried on a copy, and
 //! with none of them did the proofs go through. Of the kernel alone: the timer of a hart inside does not count; a Put
 //! must be at a multiple of 4; a Cipher outside steps is unfit; Close ends no step; a Put is inward; a hart that leaves
 //! keeps its reservation; a Cipher ends no reservation. Of the run: the last page of a program is not shown in the

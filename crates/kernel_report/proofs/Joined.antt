@@ -3,7 +3,7 @@ use Rattle.std.proofs.Common.{◌≡◌, ℕ, ◌+◌, ◌<◌, List, [], ◌∷
 use Rattle.std.proofs.lemmas.List.{append-nil, take_more}
 use Rattle.std.specs.List.{concat}
 
--- one list more behind them
+-- one more list after them
 pub concat-last : (xss : List (List ℕ)) (xs : List ℕ) → concat (xss ++ xs ∷ []) ≡ concat xss ++ xs
 concat-last [] xs = append-nil xs
 concat-last (ys ∷ xss) xs = ap (λ (l : List ℕ). ys ++ l) (concat-last xss xs) ∙ sym (append_assoc ys (concat xss) xs)

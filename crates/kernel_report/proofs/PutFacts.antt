@@ -7,9 +7,9 @@ use Rattle.std.proofs.lemmas.List.{append-nil, take_more, take_all}
 use Rattle.cloak_model.specs.Hart.{Hart}
 use Rattle.cloak_model.specs.Report.{hexadecimal, words_text, hart_lines, harts_lines}
 use Rattle.cloak_base.specs.declared.causes.Failed.{Failed}
-use Rattle.outside_io.specs.Told.{Grows, GrowsByFront, Counts, Puts}
-use Rattle.outside_io.proofs.ToldFacts.{Grows-none, Grows-append, GrowsByFront-append, GrowsByFront-first}
-use Rattle.outside_io.proofs.ToldFacts.{Rose-after}
+use Rattle.io_traits.specs.Told.{Grows, GrowsByFront, Counts, Puts}
+use Rattle.io_traits.proofs.ToldFacts.{Grows-none, Grows-append, GrowsByFront-append, GrowsByFront-first}
+use Rattle.io_traits.proofs.ToldFacts.{Rose-after}
 use Rattle.kernel_report.specs.Putting.{Putting, PutsMore}
 
 -- one text after another
@@ -27,7 +27,7 @@ PutsMore-none at = record {
       subst (λ (whole : List ℕ). Puts told at.taken count at.faults whole at.so_far) (sym (append-nil texts)) before;
 }
 
--- a text behind those that were put
+-- a text after those that were put
 PutsMore-put : (a b : Option (List ℕ)) (m n : ℕ) (u : Unit) (s : Result Unit Failed) (text : List ℕ) →
     OnOk s (Grows a b text) → OnErr s (GrowsByFront a b text) → Counts m n s →
     PutsMore (record { taken = a; faults = m; so_far = Ok u }) (record { taken = b; faults = n; so_far = s }) text
@@ -40,14 +40,14 @@ PutsMore-put a b m n u (Err e) text grows front counts = record {
       (GrowsByFront-append told a b texts text before.0 front, Rose-after count m n before.1 counts);
 }
 
--- the same, where all is well so far
+-- the same, if all is well so far
 pub put_behind : {a b : Option (List ℕ)} {m n : ℕ} {u : Unit} {r s : Result Unit Failed} {text : List ℕ} → r ≡ Ok u →
     OnOk s (Grows a b text) → OnErr s (GrowsByFront a b text) → Counts m n s →
     PutsMore (record { taken = a; faults = m; so_far = r }) (record { taken = b; faults = n; so_far = s }) text
 put_behind {a} {b} {m} {n} {u} {r} {s} {text} well grows front counts =
     rw well (PutsMore-put a b m n u s text grows front counts)
 
--- no text where something failed before
+-- no text if something failed before
 pub PutsMore-failed : (a : Option (List ℕ)) (n : ℕ) (e : Failed) (text : List ℕ) →
     let at : Putting = record { taken = a; faults = n; so_far = Err e } in PutsMore at at text
 PutsMore-failed a n e text =

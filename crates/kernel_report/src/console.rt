@@ -32,7 +32,7 @@ impl Console {
         }
     }
 
-    /// Makes room for a byte: where there is none, the bytes that wait are hashed.
+    /// Makes room for a byte: if there is none, the bytes that wait are hashed.
     fn make_room(&mut self)
         ensures room { self.new.waiting < GATHERED }
         ensures count { self.new.count ≡ self.old.count }

@@ -7,7 +7,7 @@ ghost use Rattle.kernel_report.specs.Putting.{PutsMore, putting};
 use crate::lines::{SoFar, decimal, digest, hexadecimal, text};
 use cloak_base::Mode;
 use host_calls::Hart;
-use outside_io::Sink;
+use io_traits::Sink;
 
 /// What the report says of console, memory, disk and harts.
 #[derive(Drop)]
@@ -29,7 +29,7 @@ fn put_digest<O: Sink>(out: &mut O, so_far: SoFar, name: &[u8], bytes: &[u8; 32]
     text(out, so_far, b"\n")
 }
 
-/// Each word behind a space.
+/// Each word after a space.
 fn put_words<O: Sink>(out: &mut O, so_far: SoFar, words: &[u32]) -> SoFar
     ensures { PutsMore (putting O.Sink out.old so_far) (putting O.Sink out.new result) (spec.words_text words.now) }
 {

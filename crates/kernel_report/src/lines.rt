@@ -1,11 +1,11 @@
-//! The parts of the report's lines. Each is put behind what was put so far, unless that failed.
+//! The parts of the report's lines. Each is put after what was put so far, unless that failed.
 ghost use Rattle.std.specs.Prelude.{decimal};
 ghost use Rattle.hex.specs.Hex.{encode_lower};
 ghost use Rattle.cloak_model.specs.Report as spec;
 ghost use Rattle.kernel_report.specs.Putting.{PutsMore, putting};
 
 use cloak_base::Failed;
-use outside_io::{Sink, put_all};
+use io_traits::{Sink, put_all};
 
 /// What was put so far: all, or a front of it and a fault.
 pub type SoFar = Result<(), Failed>;

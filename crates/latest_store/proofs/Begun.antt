@@ -22,7 +22,7 @@ use Rattle.cloak_model.specs.Resources.{Resources, resource_at, first_free}
 use Rattle.cloak_model.specs.StoredFiles.{PageContent, FileContents, IsSealedIfShown, HasSealedPages}
 use Rattle.kernel_isolation.proofs.FilesAdded.{IsGiven, file_made, files_carry}
 use Rattle.resource_map.proofs.Lists.{none_from_test}
-use Rattle.store_law.proofs.Given.{ComesBy, WasThere, IsNew, comes_by, new_at, after_set}
+use Rattle.page_law.proofs.Given.{ComesBy, WasThere, IsNew, comes_by, new_at, after_set}
 use Rattle.latest_store.specs.Moves.{Move, Makes, latest, loads_of}
 use Rattle.latest_store.specs.LatestStore.{resource_of_file, made_contents, made_file, made_files, IsThere}
 use Rattle.latest_store.proofs.Fits.{FreeZero}
@@ -75,23 +75,23 @@ contents_latest d resource page (Some c ∷ contents) history q at other =
 
 -- Which resource a file is.
 
-holds_itself : (number pages : ℕ) → holds_file number (Some (record { owner = File number; pages = pages })) ≡ true
+pub holds_itself : (number pages : ℕ) → holds_file number (Some (record { owner = File number; pages = pages })) ≡ true
 holds_itself number pages = eq-eqb number number refl
 
 -- the place of the first that passes
-place_is : {A : Type 0} (p : A → Bool) (xs : List A) (n : ℕ) → position_or_len p xs ≡ n → n < length xs →
+pub place_is : {A : Type 0} (p : A → Bool) (xs : List A) (n : ℕ) → position_or_len p xs ≡ n → n < length xs →
     position p xs ≡ Some n
 place_is p xs n is less =
     ap (λ (b : Bool). cond b (Some (position_or_len p xs)) None)
     (lt-ltb (position_or_len p xs) (length xs) (omega (arith, is, less)))
     ∙ ap (λ (k : ℕ). Some k) is
 
-none_by : (test : Bool) (n : ℕ) → ◌≡◌ {A = Option ℕ} (cond test (Some n) None) None → test ≡ false
+pub none_by : (test : Bool) (n : ℕ) → ◌≡◌ {A = Option ℕ} (cond test (Some n) None) None → test ≡ false
 none_by true n none = absurd cc
 none_by false n none = refl
 
 -- if none passes, none does at any place
-fails_all : {A : Type 0} (p : A → Bool) (xs : List A) (k : ℕ) (d : A) → position p xs ≡ None → k < length xs →
+pub fails_all : {A : Type 0} (p : A → Bool) (xs : List A) (k : ℕ) (d : A) → position p xs ≡ None → k < length xs →
     p (get_or xs k d) ≡ false
 fails_all p xs k d none less = elim (cases_lt (position_or_len p xs) (length xs)) [
   | inl inside ↦
@@ -101,7 +101,7 @@ fails_all p xs k d none less = elim (cases_lt (position_or_len p xs) (length xs)
 ]
 
 -- the file is the resource that it was given
-given_place : (number pages n : ℕ) (r r' : Resources) → ComesBy number pages r n r' →
+pub given_place : (number pages n : ℕ) (r r' : Resources) → ComesBy number pages r n r' →
     position (holds_file number) r'.held ≡ Some n
 given_place number pages n r r' (WasThere found same) =
     ap (λ (x : Resources). position (holds_file number) x.held) same ∙ found
@@ -119,7 +119,7 @@ given_place number pages n r r' (IsNew none made same) =
     (omega (arith, inside, long))
 
 -- another resource is no other file
-new_place : (test : Bool) (number other pages k n : ℕ) (r : Resources) → (other == number) ≡ test →
+pub new_place : (test : Bool) (number other pages k n : ℕ) (r : Resources) → (other == number) ≡ test →
     position (holds_file other) r.held ≡ None → first_free r.held ≡ Some k →
     position (holds_file number) r.held ≡ Some n →
     position (holds_file number) (slice_set r.held k (Some (record { owner = File other; pages = pages }))) ≡ Some n
@@ -138,7 +138,7 @@ new_place false number other pages k n r is none free found =
     (Some (position_or_len (holds_file number) r.held)) None) long ∙ found)
 
 -- a file that was there stays the same resource
-place_stays : (number other pages k n : ℕ) (r r' : Resources) → ComesBy other pages r k r' →
+pub place_stays : (number other pages k n : ℕ) (r r' : Resources) → ComesBy other pages r k r' →
     position (holds_file number) r.held ≡ Some n → position (holds_file number) r'.held ≡ Some n
 place_stays number other pages k n r r' (WasThere there same) found =
     ap (λ (x : Resources). position (holds_file number) x.held) same ∙ found
@@ -149,7 +149,7 @@ place_stays number other pages k n r r' (IsNew none made same) found =
 
 -- Domains.
 
-get_other : (domains : List Domain) (e d : ℕ) (made : Domain) → d ≢ e →
+pub get_other : (domains : List Domain) (e d : ℕ) (made : Domain) → d ≢ e →
     slice_get (slice_set domains e made) d ≡ slice_get domains d
 get_other [] e d made other = refl
 get_other (x ∷ domains) zero zero made other = absurd (other refl)
@@ -158,7 +158,7 @@ get_other (x ∷ domains) (suc e) zero made other = refl
 get_other (x ∷ domains) (suc e) (suc d) made other =
     get_other domains e d made (λ same. other (ap (λ (k : ℕ). suc k) same))
 
-get_same : (domains : List Domain) (e : ℕ) (found made : Domain) → slice_get domains e ≡ Some found →
+pub get_same : (domains : List Domain) (e : ℕ) (found made : Domain) → slice_get domains e ≡ Some found →
     slice_get (slice_set domains e made) e ≡ Some made
 get_same [] zero found made there = absurd cc
 get_same [] (suc e) found made there = absurd cc

@@ -23,7 +23,7 @@ abbrev pub FreeZero : List Move → ℕ → Resources → Type 0
 FreeZero history d r =
     (q : PageId) → q.domain ≡ d → resource_at r q.resource ≡ None → (at : ℕ) → latest history q at ≡ 0
 
--- these moves leave them so, where regions are of resources that are there, and leave that so
+-- these moves leave that true if regions are of resources that are there, and leave this true too
 pub record Fits (d : ℕ) (r : Resources) (moves : List Move) (r' : Resources) : Type 0 where
   pub maps : MapsHeld r → MapsHeld r'
   pub few : HasFew r → HasFew r'

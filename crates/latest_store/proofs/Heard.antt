@@ -8,7 +8,7 @@ use Rattle.cloak_model.specs.declared.context.WordPlace.{WordPlace}
 use Rattle.cloak_model.specs.declared.item.Item.{Item}
 use Rattle.cloak_model.specs.declared.item.Item.TheVariants as item
 use Rattle.cloak_model.specs.Halves.{inward_half}
-use Rattle.cloak_model.specs.World.{World, Flat, Cloaked, Alone, plain_of, view_of, items_of, with_plain}
+use Rattle.cloak_model.specs.World.{World, Flat, Cloaked, Alone, plain_of, regime_of, items_of, with_plain}
 use Rattle.cloak_model.specs.Asking.{Told}
 use Rattle.cloak_model.specs.AskPages.{answer_item}
 use Rattle.cloak_model.specs.DomainState.{Domain}
@@ -22,10 +22,10 @@ use Rattle.latest_store.proofs.Moved.{moved_by, given_by}
 use Rattle.latest_store.proofs.Numbers.{Follows}
 use Rattle.latest_store.proofs.Fits.{Fits, fits_none}
 
--- A world in a step of domain d, in which pages have these bytes, behind these answers.
+-- A world in a step of domain d, in which pages have these bytes, after these answers.
 pub record Heard (d : ℕ) (plain : PageId → List ℕ) (answers : List Item) (w : World) : Type 0 where
   pub form : is_cloaked w ≡ true
-  pub view : (view_of w).domain ≡ d
+  pub regime : (regime_of w).domain ≡ d
   pub pages : plain_of w ≡ plain
   pub told : inward_half d (items_of w) ≡ answers
 
@@ -45,11 +45,11 @@ heard_asked d plain answers question w heard =
     let r = (question_answered question w heard.form).replied in
     record {
       form = r.form ∙ heard.form;
-      view = ap (λ (view : _). view.domain) r.view ∙ heard.view;
+      regime = ap (λ (regime : _). regime.domain) r.regime ∙ heard.regime;
       pages = r.plain ∙ heard.pages;
       told = r.items d
-          ∙ ap (λ (l : List Item). l ++ inward_half d (answer_item (view_of w).domain t.answer ∷ [])) heard.told
-          ∙ ap (λ (n : ℕ). answers ++ inward_half d (answer_item n t.answer ∷ [])) heard.view
+          ∙ ap (λ (l : List Item). l ++ inward_half d (answer_item (regime_of w).domain t.answer ∷ [])) heard.told
+          ∙ ap (λ (n : ℕ). answers ++ inward_half d (answer_item n t.answer ∷ [])) heard.regime
           ∙ ap (λ (l : List Item). answers ++ l) (own_item d t.answer);
     }
 
@@ -109,23 +109,23 @@ written_did plain was moves (Some place) t did = record {
   fits = did.fits;
 }
 
--- moves that are made where the first question was granted
+-- moves that are made if the first question was granted
 abbrev pub if_fetched : (List Item → List Move) → List Item → List Move
 if_fetched moves answers = if first_granted answers then moves answers else []
 
--- moves that are made where both questions were granted
+-- moves that are made if both questions were granted
 abbrev pub if_granted : List Move → List Item → List Move
 if_granted moves answers = if both_granted answers then moves else []
 
 -- other bytes in the pages
 pub record Rewrites (w v : World) (plain : PageId → List ℕ) : Type 0 where
   pub form : is_cloaked v ≡ true
-  pub view : view_of v ≡ view_of w
+  pub regime : regime_of v ≡ regime_of w
   pub pages : plain_of v ≡ plain
   pub items : items_of v ≡ items_of w
 
 pub with_plain_rewrites : (d : ℕ) (plain : PageId → List ℕ) (w : World) → is_cloaked w ≡ true →
     Rewrites w (with_plain d plain w) plain
 with_plain_rewrites d plain (Flat seen) form = absurd cc
-with_plain_rewrites d plain (Cloaked c) form = record { form = refl; view = refl; pages = refl; items = refl }
+with_plain_rewrites d plain (Cloaked c) form = record { form = refl; regime = refl; pages = refl; items = refl }
 with_plain_rewrites d plain (Alone h) form = absurd cc

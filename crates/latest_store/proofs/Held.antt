@@ -14,19 +14,17 @@ use Rattle.cloak_model.specs.declared.item.Item.TheVariants as item
 use Rattle.cloak_model.specs.Cloaking.{CloakedMemory}
 use Rattle.cloak_model.specs.Contexts.{domain_of, slot_of}
 use Rattle.cloak_model.specs.DomainState.{Domain}
-use Rattle.cloak_model.specs.Ending.{all_marked, settled_for, ask_end, cloak_for, ended_domain}
-use Rattle.cloak_model.specs.AskPages.{settled_if_marked}
+use Rattle.cloak_model.specs.Ending.{settled_for, ask_end, cloak_for, ended_domain}
 use Rattle.cloak_model.specs.Halves.{is_inward, inward_half}
 use Rattle.cloak_model.specs.Joint.{Moment, Turn, next_hart, hart_in, memory_of, turn_of, domain_met, end_domain, refuses, ends_once, ends_resumed, ends_asked, answers_violation, joint_step}
 use Rattle.cloak_model.specs.Opening.{numbers_below}
 use Rattle.cloak_model.specs.Parts.{Joint}
 use Rattle.cloak_model.specs.Resources.{Resources}
 use Rattle.cloak_model.specs.World.{World, Cloaked, items_of}
-use Rattle.domain_isolation.proofs.Endings.{end_world, end_leaves}
+use Rattle.domain_isolation.proofs.Endings.{end_world, end_leaves, steady_for}
 use Rattle.domain_isolation.proofs.InOrder.{decided}
-use Rattle.domain_isolation.proofs.Steady.{Steady, Steady-refl, Steady-trans, steady_if_marked}
 use Rattle.kernel_isolation.proofs.Numbers.{AreFrom}
-use Rattle.store_law.specs.OwnPages.{is_end_of, ends_in}
+use Rattle.page_law.specs.OwnPages.{is_end_of, ends_in}
 use Rattle.latest_store.specs.Moves.{Move, Drops, loads_of, with_moves}
 use Rattle.latest_store.specs.Deeds.{step_moves, ending_moves, end_moves, program_moves}
 use Rattle.latest_store.specs.LatestStore.{IsLatest}
@@ -35,7 +33,8 @@ use Rattle.latest_store.proofs.Numbers.{MapsHeld, HasFew, no_resources, ended_ma
 use Rattle.latest_store.proofs.Fits.{FreeZero, Fits, drops_zero, others_latest}
 use Rattle.latest_store.proofs.HypercallDeeds.{drop_moves, drops_made}
 use Rattle.latest_store.proofs.Told.{EndsNone, StoppedLast, TurnTold, unheard_ends, ended_same, turn_told}
-use Rattle.latest_store.proofs.Turned.{FreeInAll, TurnDid, set_same, set_other, memory_plain, turn_did}
+use Rattle.latest_store.proofs.Turned.{FreeInAll, TurnDid, set_same, set_other, turn_did}
+use Rattle.page_law.proofs.OwnPages.{memory_plain}
 
 -- The joint machine has the pages and the loads of a history, and the pages under free numbers are zeros in it.
 pub record Holds (history : List Move) (j : Joint) : Type 0 where
@@ -128,12 +127,6 @@ listed (suc n) k low =
 -- what it does
 abbrev dropped : ℕ → List Move
 dropped e = drop_moves e (numbers_below 16)
-
-steady_for : (d f n : ℕ) (w : World) → Steady w (settled_for d f n w)
-unfolding settled_for
-steady_for d f zero w = Steady-refl w
-steady_for d f (suc n) w =
-    Steady-trans _ _ _ (steady_if_marked d all_marked f w) (steady_for d (f + 1) n (settled_if_marked d all_marked f w))
 
 end_pages : (e : ℕ) (m : CloakedMemory) → (memory_of (end_world e m) m).plain ≡ moved_by (dropped e) m.plain
 unfolding ask_end

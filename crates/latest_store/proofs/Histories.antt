@@ -1,11 +1,9 @@
 -- A run from its opening on, and the law.
 use Rattle.std.proofs.Common.{◌≡◌, ◌≢◌, ◌∙◌, ℕ, zero, suc, ◌+◌, ◌-◌, ◌*◌, ◌%◌, true, ◌<◌, ◌≤◌, cond, List, [], ◌∷◌, length, take, drop, slice_get, slice_index, Option, Some, None, Ok, refl, sym, ap, subst, arith, length-drop, take_all, All, Bool, false}
-use Rattle.std.specs.Prelude.{option_and_then}
 use Rattle.std.proofs.lemmas.List.{length-take}
 use Rattle.std.proofs.lemmas.List.Elements.{All-nil, All-head, All-tail}
 use Rattle.cloak_base.specs.Random.{Random}
 use Rattle.cloak_base.proofs.Pages.{same_page-other}
-use Rattle.cloak_base.specs.Pages.{with_page}
 use Rattle.cloak_base.specs.declared.names.PageId.{PageId}
 use Rattle.cloak_model.specs.declared.image.Bundle.{Bundle}
 use Rattle.cloak_model.specs.declared.image.Program.{Program}
@@ -14,9 +12,9 @@ use Rattle.cloak_model.specs.Bundle.{IsInGrammar, IsProgramIn}
 use Rattle.cloak_model.specs.Cloaking.{CloakedMemory}
 use Rattle.cloak_model.specs.DomainState.{Domain, started_control, started_domain}
 use Rattle.cloak_model.specs.Joint.{Moment, Turn, hart_in, joint_step}
-use Rattle.cloak_model.specs.Ledger.{Keys, vector_of}
+use Rattle.cloak_model.specs.Ledger.{Keys}
 use Rattle.cloak_model.specs.Opening.{program_page, place_pages, place_programs, started_domains, started_memory, started_joint, Opened}
-use Rattle.cloak_model.specs.PageMoves.{place, place_with}
+use Rattle.cloak_model.specs.PageMoves.{place}
 use Rattle.cloak_model.specs.Parts.{Joint}
 use Rattle.cloak_model.specs.Resources.{Resources, resource_at, started_resources}
 use Rattle.cloak_model.specs.Run.{Run, turns_from, run_from, joint_after, first_moment, run_of, closing}
@@ -24,13 +22,12 @@ use Rattle.cloak_model.specs.StoredFiles.{HasSealedPages}
 use Rattle.kernel_isolation.specs.Isolation.{joint_until}
 use Rattle.kernel_isolation.proofs.FilesAdded as added
 use Rattle.kernel_isolation.proofs.FilesAdded.{opens_over}
-use Rattle.kernel_isolation.proofs.Isolated.{until_read}
+use Rattle.kernel_isolation.proofs.Isolated.{until_read, of_opened}
 use Rattle.kernel_isolation.proofs.Numbers.{AreFrom}
 use Rattle.resource_map.proofs.Lists.{get_or-replicate_none}
-use Rattle.store_law.specs.Ciphers.{items_of_turn}
-use Rattle.store_law.specs.OwnPages.{context_of_step, program_of_step, ends_in}
-use Rattle.store_law.proofs.Ciphers.{of_opened}
-use Rattle.store_law.proofs.OwnPages.{moment_behind, step_is, steps_keep_pages, closing_keeps_pages}
+use Rattle.page_law.specs.Ciphers.{items_of_turn}
+use Rattle.page_law.specs.OwnPages.{context_of_step, program_of_step, ends_in}
+use Rattle.page_law.proofs.OwnPages.{moment_behind, step_is, steps_keep_pages, closing_keeps_pages}
 use Rattle.latest_store.specs.Moves.{Move, Makes, latest, loads_of}
 use Rattle.latest_store.specs.LatestStore.{files_of, made_pages, made_programs, history_until, IsLatest, IsThere, StaysOver, RunsGiveLatest}
 use Rattle.latest_store.proofs.Begun.{Opens, files_open}
@@ -39,31 +36,10 @@ use Rattle.latest_store.proofs.Moved.{Agrees, move_agrees}
 use Rattle.latest_store.proofs.Numbers.{HasFew, MapsHeld, no_resources, started_few, started_maps, started_free}
 use Rattle.latest_store.proofs.Held.{Holds, HoldsAfter, step_holds}
 use Rattle.latest_store.proofs.Over.{IsOver, OverFrom, GoesOver, step_over, step_goes_over}
+use Rattle.page_law.proofs.Opened.{same_some}
+use Rattle.domain_isolation.proofs.Opened.{placed, before}
 
 -- The opening.
-
-same_some : {A : Type 0} (x y : A) → Some x ≡ Some y → x ≡ y
-same_some x y is = cc
-
-record Before {A B : Type 0} (f : A → Option B) (o : Option A) (b : B) : Type 0 where
-  pub value : A
-  pub was : o ≡ Some value
-  pub next : f value ≡ Some b
-
-before : {A B : Type 0} (f : A → Option B) (o : Option A) (b : B) → option_and_then f o ≡ Some b → Before f o b
-before f None b is = absurd cc
-before f (Some a) b is = record { value = a; was = refl; next = is }
-
-placed_with : (q : PageId) (f : ℕ) (bytes : List ℕ) (draw : Option (List ℕ × Random)) (m m' : CloakedMemory) →
-    place_with q f bytes draw m ≡ Some m' → m'.plain ≡ with_page m.plain q bytes
-unfolding place_with
-placed_with q f bytes None m m' is = absurd cc
-placed_with q f bytes (Some draw) m m' is = ap (λ (x : CloakedMemory). x.plain) (sym (same_some _ m' is))
-
-placed : (q : PageId) (f : ℕ) (bytes : List ℕ) (m m' : CloakedMemory) → place q f bytes m ≡ Some m' →
-    m'.plain ≡ with_page m.plain q bytes
-unfolding place
-placed q f bytes m m' is = placed_with q f bytes (vector_of m.ledger q) m m' is
 
 page_whole : (bytes : List ℕ) (pages n : ℕ) → length bytes ≡ 4096 * pages → n < pages →
     length (program_page bytes n) ≡ 4096
@@ -152,7 +128,7 @@ pages_latest d p (suc n) history q at other =
     (same_page-other q page (λ same. other (ap (λ (x : PageId). x.resource) same)))
     ∙ pages_latest d p n history q at other
 
-programs_latest : (d : ℕ) (programs : List Program) (history : List Move) (q : PageId) (at : ℕ) → q.resource ≢ 0 →
+pub programs_latest : (d : ℕ) (programs : List Program) (history : List Move) (q : PageId) (at : ℕ) → q.resource ≢ 0 →
     latest (made_programs d programs history) q at ≡ latest history q at
 programs_latest d [] history q at other = refl
 programs_latest d (p ∷ programs) history q at other =
@@ -219,17 +195,17 @@ opened_there b from budget o opens fits begins = (opened_holds b from o fits beg
 -- The steps.
 
 -- the step after n steps, if there is one
-record HasStep (turns : List Turn) (n : ℕ) : Type 0 where
+pub record HasStep (turns : List Turn) (n : ℕ) : Type 0 where
   pub turn : Turn
   pub is : slice_get turns n ≡ Some turn
 
-has_step : (turns : List Turn) (n : ℕ) → n < length turns → HasStep turns n
+pub has_step : (turns : List Turn) (n : ℕ) → n < length turns → HasStep turns n
 has_step [] n less = absurd (omega (arith, less))
 has_step (t ∷ turns) zero less = record { turn = t; is = refl }
 has_step (t ∷ turns) (suc n) less =
     let rest = has_step turns n (omega (arith, less)) in record { turn = rest.turn; is = rest.is }
 
-after_step : (j : Joint) (turns : List Turn) (n : ℕ) (t : Turn) → slice_get turns n ≡ Some t →
+pub after_step : (j : Joint) (turns : List Turn) (n : ℕ) (t : Turn) → slice_get turns n ≡ Some t →
     joint_after j (take (suc n) turns) ≡ t.joint
 unfolding joint_after
 after_step j [] zero t is = absurd cc

@@ -47,16 +47,16 @@ use Rattle.latest_store.proofs.HypercallDeeds.{hypercall_did}
 abbrev pub ended : ℕ → Domain → Asking AfterInstruction → Asking DomainStepped
 ended slot d ask w = then_ask ask (λ made. instruction_ended slot d made.context made.ending) w
 
--- it does these moves, where the first question was granted
+-- it does these moves, if the first question was granted
 abbrev pub DoesIf : ℕ → Domain → (PageId → List ℕ) → (List Item → List Move) → Asking AfterInstruction → World → Type 0
 DoesIf slot d plain moves ask w =
     Did plain d (if_fetched moves) (ended slot d ask w)
 
 -- the answers so far
-abbrev first_answer : ℕ → Answer → List Item
+abbrev pub first_answer : ℕ → Answer → List Item
 first_answer n a = answer_item n a ∷ []
 
-abbrev second_answer : ℕ → Answer → List Item
+abbrev pub second_answer : ℕ → Answer → List Item
 second_answer n a = item.Ok n ∷ answer_item n a ∷ []
 
 load_reached_did : (slot : ℕ) (d : Domain) (plain : PageId → List ℕ) (c : Context) (q : PageId) (rd va width : ℕ)

@@ -44,7 +44,7 @@ abbrev pub given_by : List Move → (PageId → List ℕ) → List (ℕ × ℕ)
 given_by [] plain = []
 given_by (m ∷ moves) plain = given m plain ++ given_by moves (moved m plain)
 
--- Moves of a domain behind a history, with whole pages and places inside pages; what is made as zeros was zeros.
+-- Moves of a domain after a history, with whole pages and places inside pages; what is made as zeros was zeros.
 abbrev pub IsSound : ℕ → List Move → Move → Type 0
 IsSound d history (Makes p bytes) = (p.domain ≡ d) × (length bytes ≡ 4096)
 IsSound d history (Stores p from width value) = (p.domain ≡ d) × IsPlace from width

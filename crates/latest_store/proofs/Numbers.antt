@@ -117,7 +117,7 @@ other_number : (held : List (Option Resource)) (space i m : ℕ) → get_or held
 other_number held space i m free may same =
     false≢true (ap (may_map space) (sym free) ∙ ap (λ (k : ℕ). may_map space (get_or held k None)) (sym same) ∙ may)
 
--- where it is there already, one more place changes nothing
+-- if the resource of each region is there already, one more place changes nothing
 put_maps : (r : Resources) (i : ℕ) (x : Resource) → resource_at r i ≡ None → MapsHeld r →
     MapsHeld (record r { held = slice_set r.held i (Some x) })
 put_maps r i x free maps space =

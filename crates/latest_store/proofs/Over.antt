@@ -27,7 +27,7 @@ use Rattle.domain_isolation.proofs.Endings.{end_world, end_leaves}
 use Rattle.domain_isolation.proofs.InOrder.{same_some, decided, get_set_same, get_set_other}
 use Rattle.kernel_isolation.proofs.Numbers.{AreFrom}
 use Rattle.resource_map.proofs.Lists.{get_or-replicate_none}
-use Rattle.store_law.specs.OwnPages.{is_end_of, ends_in}
+use Rattle.page_law.specs.OwnPages.{is_end_of, ends_in}
 use Rattle.latest_store.proofs.Numbers.{no_resources}
 use Rattle.latest_store.proofs.Told.{EndsNone, unheard_ends, turn_told}
 

@@ -106,7 +106,7 @@ effect_inside (instr.Sh rs1 rs2 imm) r pc = store_if _ _ 2 _ (λ test. two_place
 effect_inside (instr.Sw rs1 rs2 imm) r pc = store_if _ _ 4 _ (λ test. four_place _ (eqb-true _ 0 test))
 effect_inside _ r pc = no_store _ (λ va width value x. cc)
 
--- The moves, behind a history in which the pages under free numbers are zeros.
+-- The moves, after a history in which the pages under free numbers are zeros.
 
 load_sound : (n va width : ℕ) (history : List Move) (place : Option PageId) → IsOwn n place →
     AreSound n history (load_at va width place)

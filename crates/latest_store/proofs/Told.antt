@@ -1,4 +1,4 @@
--- What a step told programs: no domain ends in it, but for the end after it; and where it met a violation, the last
+-- What a step told programs: no domain ends in it, but for the end after it; and if it met a violation, the last
 -- answer of its context was that it stops. So the end of the domain takes nothing back that the step did.
 use Rattle.std.proofs.Common.{◌≡◌, ◌∙◌, ◌%◌, ℕ, Bool, true, false, ◌||◌, cond, List, [], ◌∷◌, ◌++◌, slice_get, Option, Some, None, Result, Ok, Err, refl, sym, ap, subst, append-nil, eq-eqb}
 use Rattle.std.specs.Prelude.{is_some, ◌==◌}
@@ -49,7 +49,7 @@ use Rattle.domain_isolation.proofs.Scripts.{played}
 use Rattle.domain_isolation.proofs.Steady.{ciphers_told}
 use Rattle.domain_isolation.proofs.StepScripts.{of_domain, step_scripted}
 use Rattle.kernel_isolation.proofs.Numbers.{AreFrom, number_at}
-use Rattle.store_law.specs.OwnPages.{is_end_of, ends_in}
+use Rattle.page_law.specs.OwnPages.{is_end_of, ends_in}
 use Rattle.latest_store.specs.Moves.{Move, latest_value}
 use Rattle.latest_store.specs.Deeds.{first_granted, both_granted, page_for, hypercall_moves, ecall_moves, effect_moves, atomic_moves, word_moves, fetched_moves, byte_moves, phase_moves, context_moves, program_moves}
 
@@ -217,7 +217,7 @@ stepped_told j number h ctx found pages own =
     let n = found.control.number in
     let w : World = Cloaked (cloak_of j.memory h e pages) in
     let s = step_scripted (slot_of ctx) found in
-    let serving : IsServing n w = record { form = refl; view = sym own } in
+    let serving : IsServing n w = record { form = refl; regime = sym own } in
     let t : Told DomainStepped = played s.script w in
     let j' : Joint = record (with_domain e t.answer.domain j) { memory = memory_of t.world j.memory } in
     let answers = answers_of s.script w in

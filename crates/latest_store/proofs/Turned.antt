@@ -16,7 +16,6 @@ use Rattle.cloak_model.specs.declared.outcome.Kernel.{Kernel}
 use Rattle.cloak_model.specs.declared.outcome.Kernel.TheVariants.{Stay, Put, Halt, Resume, Trapped}
 use Rattle.cloak_model.specs.Ahead.{settled_step, made_after}
 use Rattle.cloak_model.specs.Asking.{Told}
-use Rattle.cloak_model.specs.Cloaking.{CloakedMemory}
 use Rattle.cloak_model.specs.Contexts.{Context, Admitted, context_at, domain_of, slot_of}
 use Rattle.cloak_model.specs.DomainState.{Control, Domain}
 use Rattle.cloak_model.specs.DomainStep.{DomainStepped, domain_step, answer_taken, resume_told, resume_slot, interrupt_if, interrupt}
@@ -26,11 +25,10 @@ use Rattle.cloak_model.specs.Joint.{Turn, cloak_of, memory_of, outside_ended, af
 use Rattle.cloak_model.specs.KernelStep.{ticked}
 use Rattle.cloak_model.specs.Parts.{Joint}
 use Rattle.cloak_model.specs.Resuming.{by_root, by_context, by_domain, resume}
-use Rattle.cloak_model.specs.World.{World, Cloak, Flat, Cloaked, Alone, plain_of, items_of}
+use Rattle.cloak_model.specs.World.{World, Cloak, Cloaked, items_of}
 use Rattle.domain_isolation.proofs.InOrder.{decided}
-use Rattle.domain_isolation.proofs.Steady.{is_cloaked}
 use Rattle.kernel_isolation.proofs.Numbers.{AreFrom, number_at}
-use Rattle.store_law.proofs.Settlings.{touched_draws}
+use Rattle.page_law.proofs.Settlings.{touched_draws}
 use Rattle.latest_store.specs.Moves.{Move}
 use Rattle.latest_store.specs.Deeds.{phase_moves, context_moves, program_moves, step_moves}
 use Rattle.latest_store.proofs.Moved.{Agrees, moved_by, given_by, AreSound}
@@ -39,6 +37,7 @@ use Rattle.latest_store.proofs.Fits.{FreeZero, Fits, fits_none}
 use Rattle.latest_store.proofs.Heard.{Heard, Did}
 use Rattle.latest_store.proofs.CopyDeeds.{step_did}
 use Rattle.latest_store.proofs.Sound.{context_sound}
+use Rattle.page_law.proofs.OwnPages.{memory_plain}
 
 -- Programs.
 
@@ -258,7 +257,7 @@ built history j e slot found made t answers there own told pages domains loads f
 
 -- an interrupt is told of by one item, and nothing is done
 
-timer_phase : (p : Phase) (history : List Move) (d : Control) (c : Context) (e : ℕ) →
+pub timer_phase : (p : Phase) (history : List Move) (d : Control) (c : Context) (e : ℕ) →
     phase_moves p history d c (item.Timer e ∷ []) ≡ []
 unfolding phase_moves
 timer_phase Plain history d c e = refl
@@ -274,7 +273,7 @@ timer_none (Some c) history d e = timer_phase c.phase history d c e
 
 -- nothing is told of, and nothing is done
 
-silent_phase : (p : Phase) (history : List Move) (d : Control) (c : Context) → phase_moves p history d c [] ≡ []
+pub silent_phase : (p : Phase) (history : List Move) (d : Control) (c : Context) → phase_moves p history d c [] ≡ []
 unfolding phase_moves
 silent_phase Plain history d c = refl
 silent_phase (CopyIn done) history d c = refl
@@ -286,13 +285,8 @@ unfolding context_moves
 silent_none None history d = refl
 silent_none (Some c) history d = silent_phase c.phase history d c
 
-timer_told : (e : ℕ) → inward_half e (item.Timer e ∷ []) ≡ item.Timer e ∷ []
+pub timer_told : (e : ℕ) → inward_half e (item.Timer e ∷ []) ≡ item.Timer e ∷ []
 timer_told e = ap (λ (b : Bool). cond b (item.Timer e ∷ []) []) (eq-eqb e e refl)
-
-pub memory_plain : (w : World) (m : CloakedMemory) → is_cloaked w ≡ true → plain_of w ≡ (memory_of w m).plain
-memory_plain (Flat seen) m form = absurd cc
-memory_plain (Cloaked c) m form = refl
-memory_plain (Alone h) m form = absurd cc
 
 interrupt_if_same : (o : Option Context) (slot : ℕ) (d : Control) →
     (interrupt_if o slot d).control.resources ≡ d.resources
@@ -342,7 +336,7 @@ by_did true history j number h e slot found there own zeros agrees =
 by_did false history j number h e slot found there own zeros agrees =
     let c : Cloak = cloak_of j.memory h e (pages_for found (context_at found.control.contexts slot)) in
     let heard : Heard found.control.number j.memory.plain [] (Cloaked c) =
-    record { form = refl; view = sym own; pages = refl; told = refl } in
+    record { form = refl; regime = sym own; pages = refl; told = refl } in
     stepped_did history j number h e slot found (domain_step slot found (Cloaked c)) there own zeros
     (step_did slot found history j.memory.plain (Cloaked c) agrees heard)
 

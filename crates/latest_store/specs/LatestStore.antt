@@ -12,8 +12,8 @@ use Rattle.cloak_model.specs.Opening.{program_page}
 use Rattle.cloak_model.specs.Run.{Run, run_from}
 use Rattle.cloak_model.specs.StoredFiles.{PageContent, FileContents}
 use Rattle.kernel_isolation.specs.Isolation.{joint_until}
-use Rattle.store_law.specs.Ciphers.{items_of_turn}
-use Rattle.store_law.specs.OwnPages.{context_of_step, program_of_step, ends_in}
+use Rattle.page_law.specs.Ciphers.{items_of_turn}
+use Rattle.page_law.specs.OwnPages.{context_of_step, program_of_step, ends_in}
 use Rattle.latest_store.specs.Moves.{Move, Makes, latest, loads_of, with_moves}
 use Rattle.latest_store.specs.Deeds.{step_moves, end_moves}
 

@@ -28,7 +28,7 @@ pub data Move : Type 0 where
 abbrev pub covers : ℕ → ℕ → ℕ → Bool
 covers from width at = nat_le from at && nat_lt at (from + width)
 
--- the bytes from a place on, where each place has this one
+-- the bytes from a place on, with this one at each place
 abbrev pub bytes_from : (ℕ → ℕ) → ℕ → ℕ → List ℕ
 bytes_from byte at zero = []
 bytes_from byte at (suc n) = byte at ∷ bytes_from byte (at + 1) n
@@ -37,8 +37,8 @@ bytes_from byte at (suc n) = byte at ∷ bytes_from byte (at + 1) n
 abbrev pub value_from : (ℕ → ℕ) → ℕ → ℕ → ℕ
 value_from byte at width = from_le_bytes w32 (bytes_from byte at width)
 
--- The byte that was stored last at a place of a page since the page was made; where there was none, the byte with which
--- it was made. Where there is no page there are zeros.
+-- The byte that was stored last at a place of a page since the page was made; if there was none, the byte with which
+-- it was made. If there is no page, there are zeros.
 unfoldable pub latest : List Move → PageId → ℕ → ℕ
 latest [] q at = 0
 latest (Makes p bytes ∷ earlier) q at = if same_page q p then slice_index bytes at else latest earlier q at

@@ -37,8 +37,8 @@ OnlyAdd q at moves = All (λ m. writes_in q at m ≡ is_some (addend q at m)) mo
 abbrev pub added : PageId → ℕ → List Move → ℕ
 added q at moves = sum_by (λ m. unwrap_or (addend q at m) 0) moves
 
--- At each moment of a run: where, since some place of its history, what wrote in a word was additions to it alone, the
--- latest value of the word is the value there plus the sum of their operands, modulo 2 ^ 32.
+-- At each moment of a run: if, since some place of its history, only additions to a word wrote in it, the latest value
+-- of the word is the value there plus the sum of their operands, modulo 2 ^ 32.
 abbrev pub AddsUp : Bundle → Beginning → Run → Type 0
 AddsUp b from r =
     (n : ℕ) → n ≤ length r.turns → (since before : List Move) → history_until b from n r ≡ since ++ before →

@@ -7,10 +7,10 @@
 //! that stood, and then stores what it makes of this word and its operand. So additions to a word add up, whatever the
 //! schedule (`specs/Sums`). After its end a domain completes no load, and its pages are zeros.
 //!
-//! Both laws hold of both beginnings. The first asks that the files of a beginning are such of which a table can tell,
-//! and that each of their ciphertexts is that of its page (`IsBeginning`). That is nothing if there are none.
+//! Both laws hold of both beginnings. The first asks that the files of a beginning are such that a table can tell of
+//! them, and that each of their ciphertexts is that of its page (`IsBeginning`). That is nothing if there are none.
 //!
-//! No body turns the laws, so there is no wrong body to refuse here. With these changed definitions, tried on a copy,
+//! No body changes the laws, so there is no wrong body to refuse here. With these changed definitions, tried on a copy,
 //! the proofs did not go through: a fork makes pages of zeros; the end of a domain drops only 15 of its 16 numbers; SC
 //! stores without a reservation; an operation loads after it has stored; LR is no load; an operation takes the word
 //! and its operand the other way round; a store that begins before a word and runs into it does not write in it; a

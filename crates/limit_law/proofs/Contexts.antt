@@ -60,7 +60,7 @@ pub record AfterOne (c : Context) (a : AfterInstruction) : Type 0 where
   pub on : a.context.on ≡ c.on
   pub calls : a.ending ≡ ran.Ecall → a.context ≡ c
 
-next_word : (pc : ℕ) → pc % 4 ≡ 0 → ((pc + 4) % 2 ^ 32) % 4 ≡ 0
+pub next_word : (pc : ℕ) → pc % 4 ≡ 0 → ((pc + 4) % 2 ^ 32) % 4 ≡ 0
 next_word pc is = omega (arith, is)
 
 -- a plain context with other registers, another program counter and another reservation

@@ -17,10 +17,10 @@ use Rattle.cloak_model.specs.Parts.{Joint}
 use Rattle.cloak_model.specs.Record.{IsWord}
 use Rattle.cloak_model.specs.Resources.{resource_at, started_resources}
 use Rattle.cloak_model.specs.StoredFiles.{FileContents, IsFile, stored_file, table_of}
-use Rattle.item_law.specs.Writing.{IsOfBytes, IsBeginningOfBytes}
-use Rattle.item_law.proofs.Adding.{all_files_keep}
-use Rattle.item_law.proofs.Controls.{slot_fits}
-use Rattle.item_law.proofs.Turns.{ProgramFits, JointFits, turn_fits}
+use Rattle.range_law.specs.Writing.{IsOfBytes, IsBeginningOfBytes}
+use Rattle.range_law.proofs.Adding.{all_files_keep}
+use Rattle.range_law.proofs.Controls.{slot_fits}
+use Rattle.range_law.proofs.Turns.{ProgramFits, JointFits, turn_fits}
 use Rattle.kernel_isolation.proofs.FilesAdded.{IsGiven, files_of, opens_over}
 use Rattle.resource_map.proofs.Lists.{get_or-replicate_none}
 use Rattle.frozen_state.specs.Words.{HasOwnerWord, AreFileWords}

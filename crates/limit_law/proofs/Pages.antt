@@ -32,12 +32,12 @@ place_there q va is =
 
 -- what is found passes the test
 
-found_step : (t : Bool) (p : Region → Bool) (x g : Region) (rest : Option Region) → p x ≡ t →
+pub found_step : (t : Bool) (p : Region → Bool) (x g : Region) (rest : Option Region) → p x ≡ t →
     (rest ≡ Some g → p g ≡ true) → cond t (Some x) rest ≡ Some g → p g ≡ true
 found_step true p x g rest is later found = let same : x ≡ g = cc in subst (λ (y : Region). p y ≡ true) same is
 found_step false p x g rest is later found = later found
 
-found_passes : (p : Region → Bool) (xs : List Region) (g : Region) → find p xs ≡ Some g → p g ≡ true
+pub found_passes : (p : Region → Bool) (xs : List Region) (g : Region) → find p xs ≡ Some g → p g ≡ true
 found_passes p [] g found = absurd cc
 found_passes p (x ∷ xs) g found = found_step (p x) p x g (find p xs) refl (found_passes p xs g) found
 

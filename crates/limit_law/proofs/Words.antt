@@ -9,11 +9,11 @@ use Rattle.cloak_model.specs.DomainState.{Domain}
 use Rattle.cloak_model.specs.Hart.{Hart}
 use Rattle.cloak_model.specs.Opening.{Opened}
 use Rattle.cloak_model.specs.Parts.{Joint}
-use Rattle.item_law.specs.Writing.{IsOfBytes, IsBeginningOfBytes}
-use Rattle.item_law.proofs.Controls.{SlotFits}
-use Rattle.item_law.proofs.Harts.{HartFits}
-use Rattle.item_law.proofs.Opened.{opened_fits}
-use Rattle.item_law.proofs.Turns.{ProgramFits, JointFits, turn_fits}
+use Rattle.range_law.specs.Writing.{IsOfBytes, IsBeginningOfBytes}
+use Rattle.range_law.proofs.Controls.{SlotFits}
+use Rattle.range_law.proofs.Harts.{HartFits}
+use Rattle.range_law.proofs.Opened.{opened_fits}
+use Rattle.range_law.proofs.Turns.{ProgramFits, JointFits, turn_fits}
 use Rattle.frozen_state.specs.Words.{HasSlotWords}
 use Rattle.limit_law.proofs.Moments.{at_every_moment}
 use Rattle.limit_law.specs.Words.{HasHartWords, HasProgramWords, HasWords, RunsHaveWords}

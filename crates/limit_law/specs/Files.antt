@@ -6,7 +6,7 @@ use Rattle.cloak_model.specs.Bundle.{IsInGrammar}
 use Rattle.cloak_model.specs.DomainState.{Domain}
 use Rattle.cloak_model.specs.Run.{Run, run_from}
 use Rattle.frozen_state.specs.Words.{AreFileWords}
-use Rattle.item_law.specs.Writing.{IsOfBytes, IsBeginningOfBytes}
+use Rattle.range_law.specs.Writing.{IsOfBytes, IsBeginningOfBytes}
 use Rattle.kernel_isolation.specs.Isolation.{joint_until}
 
 -- The law, of the run of an image in the grammar whose bytes are bytes, from a beginning of bytes.

@@ -10,7 +10,7 @@ use Rattle.cloak_model.specs.Parts.{Joint}
 use Rattle.cloak_model.specs.Record.{IsWord}
 use Rattle.cloak_model.specs.Run.{Run, run_from}
 use Rattle.frozen_state.specs.Words.{AreWords, HasSlotWords}
-use Rattle.item_law.specs.Writing.{IsOfBytes, IsBeginningOfBytes}
+use Rattle.range_law.specs.Writing.{IsOfBytes, IsBeginningOfBytes}
 use Rattle.kernel_isolation.specs.Isolation.{joint_until}
 
 -- A hart has words in its registers, in its control and status registers (listed by their numbers), and as its program

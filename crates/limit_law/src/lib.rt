@@ -8,8 +8,8 @@
 //! earlier run; those on owed pages and on refusals are of all images, and those on words are of images and beginnings of
 //! bytes.
 //!
-//! No body turns a law, so there is no wrong body to refuse here. These changes were tried on a copy, and with none of
-//! them did the proofs go through. Of the limits: 15 regions in a space; harts below 3; program counters that are
+//! No body changes a law, so there is no wrong body to refuse here. These changes were tried on a copy, and with none
+//! of them did the proofs go through. Of the limits: 15 regions in a space; harts below 3; program counters that are
 //! multiples of 8; no context waits; reservations in 15 resources, in 1023 pages, or at multiples of 8. Of the
 //! definitions: THREAD does not test its program counter; EXIT ends its space though another context is in it; an offer
 //! does not settle the frame that is owed the page; the page table of a space that ended stays recorded; a reservation

@@ -1,7 +1,7 @@
 -- Files that are only read.
 use Rattle.std.proofs.Common.{◌≡◌, ◌∙◌, ℕ, List, Option, Result, Ok, Err, IsErrAnd, refl, sym, subst}
-use Rattle.outside_io.specs.Told.{SameFiles}
-use Rattle.program_parts.specs.Outside.{FilesOutside, OnlyRead}
+use Rattle.io_traits.specs.Told.{SameFiles}
+use Rattle.command_parts.specs.Outside.{FilesOutside, OnlyRead}
 use Rattle.asm_text.specs.Making.{FailsToRead}
 use Rattle.manifest.specs.Reading.{ReadsParts}
 use Rattle.manifest.specs.declared.fault.PackFault.{PackFault}

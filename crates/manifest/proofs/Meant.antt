@@ -1,6 +1,6 @@
 -- The bundle of a document is that of the manifest that the document is read from.
 use Rattle.std.proofs.Common.{◌≡◌, ℕ, List, Option, Some, Result, Ok, Err, IfOk, BTreeMap, String, Global, subst}
-use Rattle.outside_io.specs.Told.{Tells}
+use Rattle.io_traits.specs.Told.{Tells}
 use Rattle.cloak_model.specs.declared.image.Bundle.{Bundle}
 use Rattle.toml.specs.Data.{Data}
 use Rattle.toml.specs.Parse.{parse_document}

@@ -1,7 +1,7 @@
 -- What a manifest means: an image of which each part is told by a table of the TOML document, and by the files that this names.
 use Rattle.std.specs.Prelude.{ℕ, ◌≡◌, ◌+◌, ◌*◌, ◌-◌, ◌%◌, ◌/◌, ◌^◌, ◌<◌, ◌≤◌, ◌⊎◌, ◌==◌, Bool, true, false, max, pos, List, [], ◌∷◌, ◌++◌, length, take, drop, replicate, slice_index, EachIndex, Option, Some, None}
 use Rattle.std.specs.Str.{NoCharPasses}
-use Rattle.outside_io.specs.Told.{Tells}
+use Rattle.io_traits.specs.Told.{Tells}
 use Rattle.cloak_base.specs.Constants.{ram_start}
 use Rattle.cloak_model.specs.declared.image.Segment.{Segment as KernelSegment}
 use Rattle.cloak_model.specs.declared.image.KernelImage.{KernelImage}
@@ -14,12 +14,12 @@ use Rattle.manifest.specs.Keys.{stands_at}
 
 -- ---- values
 
--- the number that stands here, or another one where nothing does
+-- the number that stands here, or another one if nothing does
 abbrev pub IsNumberOr : Option Data → ℕ → ℕ → Type 0
 IsNumberOr None otherwise n = n ≡ otherwise
 IsNumberOr (Some value) otherwise n = value ≡ integer (pos n)
 
--- the list that stands here; where nothing does, it is empty
+-- the list that stands here; if nothing does, it is empty
 abbrev pub IsList : Option Data → Items → Type 0
 IsList None values = values ≡ no_items
 IsList (Some value) values = value ≡ array values
@@ -31,13 +31,13 @@ EachMeans Means no_items (x ∷ xs) = ⊥
 EachMeans Means (item value values) [] = ⊥
 EachMeans Means (item value values) (x ∷ xs) = Means value x × EachMeans Means values xs
 
--- the turns of a schedule; where none is given, the harts in order
+-- the turns of a schedule; if none is given, the harts in order
 abbrev pub IsSchedule : Option Data → (harts : ℕ) → List ℕ → Type 0
 IsSchedule None harts turns = (length turns ≡ harts) × EachIndex turns (λ turn. slice_index turns turn ≡ turn)
 IsSchedule (Some value) harts turns =
     (values : Items) × (value ≡ array values) × EachMeans (λ v turn. v ≡ integer (pos turn)) values turns
 
--- as many pages as so many bytes need, and one at least
+-- as many pages as this many bytes need, and at least one
 abbrev pub pages_needed : ℕ → ℕ
 pages_needed count = max 1 ((count + 4095) / 4096)
 
@@ -46,7 +46,7 @@ pages_needed count = max 1 ((count + 4095) / 4096)
 abbrev pub HasNoSlash : List ℕ → Type 0
 HasNoSlash text = NoCharPasses (λ c. c == 47) text
 
--- A file is named from the manifest's folder on, but where its name begins with a slash.
+-- A file is named from the manifest's folder on, unless its name begins with a slash.
 abbrev pub IsBeside : (manifest name path : List ℕ) → Type 0
 IsBeside manifest name path =
     (HasNoSlash manifest × (path ≡ name))

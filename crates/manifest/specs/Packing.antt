@@ -1,10 +1,10 @@
 -- What `pack` makes of a manifest.
 use Rattle.std.specs.Prelude.{ℕ, ◌≡◌, List, Option, Some}
-use Rattle.outside_io.specs.Told.{Tells}
+use Rattle.io_traits.specs.Told.{Tells}
 use Rattle.cloak_model.specs.declared.image.Bundle.{Bundle}
 use Rattle.cloak_model.specs.Bundle.{IsBundleIn}
-use Rattle.program_parts.specs.Outside.{Outside}
-use Rattle.program_parts.specs.declared.status.Status.{Status}
+use Rattle.command_parts.specs.Outside.{Outside}
+use Rattle.command_parts.specs.declared.status.Status.{Status}
 use Rattle.asm_text.specs.Making.{MakesAs}
 use Rattle.toml.specs.Data.{Members, table}
 use Rattle.toml.specs.Parse.{parse_document}
@@ -30,7 +30,7 @@ pub record IsPacked (held : List ℕ → Option (List ℕ)) (manifest bytes : Li
 abbrev pub TellsPackFault : List ℕ → List ℕ → Type 0
 TellsPackFault manifest shown = (fault : PackFault) × (shown ≡ pack_text manifest fault)
 
--- what `pack` answers
+-- the answer of `pack`
 abbrev pub PackAnswers : {S O : Type 0} → (manifest bundle_name : List ℕ) → Outside S O → Outside S O → Status → Type 0
 PackAnswers manifest bundle_name before after answer =
     MakesAs (IsPacked before.files.held manifest) (TellsPackFault manifest) bundle_name before after answer

@@ -42,7 +42,7 @@ abbrev pub faulty_text_line : Part → (name text : List ℕ) → TextFault → 
 faulty_text_line at name text fault =
     part_text at ++ (codes "text: the file is no assembler text\n" ++ fault_text name text fault)
 
--- what is said behind the manifest's name
+-- what is said after the manifest's name
 abbrev pub pack_fault_line : PackFault → List ℕ
 pack_fault_line fault.NoMemory = codes "there is not enough memory\n"
 pack_fault_line fault.TooLong = codes "the file has more than 1048576 bytes\n"

@@ -1,7 +1,7 @@
 //! The disk of an image.
 ghost use Rattle.std.specs.Prelude.{◌≡◌, ◌≤◌, ◌+◌, ◌*◌, ◌%◌, ◌++◌, ℕ, List, [], Option, IfOk, OnOk, length, take, drop, replicate};
 ghost use Rattle.toml.specs.View.{view, items_view};
-ghost use Rattle.program_parts.specs.Outside.{files};
+ghost use Rattle.command_parts.specs.Outside.{files};
 ghost use Rattle.manifest.specs.declared.key.Key.TheVariants as keys;
 ghost use Rattle.manifest.specs.Keys.{stands_at};
 ghost use Rattle.manifest.specs.Manifest.{IsDisk, IsDiskOf, IsSource, StoresFile, StoresFiles};
@@ -11,7 +11,7 @@ use crate::fault::{PackError, PackFault, Wrong};
 use crate::fields::Place;
 use crate::key::{Key, Part};
 use crate::sources::source;
-use outside_io::Shelf;
+use io_traits::Shelf;
 use std::alloc::Global;
 use toml::Value;
 

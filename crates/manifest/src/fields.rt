@@ -34,7 +34,7 @@ impl<'a> Place<'a> {
         self.table.get(key.name())
     }
 
-    /// The number from `least` to `most` at a key, where something stands there.
+    /// The number from `least` to `most` at a key, if something stands there.
     pub fn number(self, key: Key, least: u32, most: u32) -> Result<Option<u32>, PackFault>
         ensures range { IfOk result (λ found. IfSome found (λ n. (least ≤ n) × (n ≤ most))) }
         ensures value { IfOk result (λ found.
@@ -60,7 +60,7 @@ impl<'a> Place<'a> {
         }
     }
 
-    /// The number at a key, or another one where nothing stands there.
+    /// The number at a key, or another one if nothing stands there.
     pub fn number_or(
         self,
         key: Key,
@@ -79,7 +79,7 @@ impl<'a> Place<'a> {
         }
     }
 
-    /// The name of a file at a key, where something stands there.
+    /// The name of a file at a key, if something stands there.
     pub fn file_name(self, key: Key) -> Result<Option<&'a str>, PackFault>
         ensures { IfOk result (λ found. stands_at key (view self.entry.table.now) ≡ option_map (λ name. string name.now) found) }
     {
@@ -92,7 +92,7 @@ impl<'a> Place<'a> {
         }
     }
 
-    /// The elements of the list at a key; none where nothing stands there.
+    /// The elements of the list at a key; none if nothing stands there.
     pub fn list(self, key: Key) -> Result<&'a [Value], PackFault>
         ensures { IfOk result (λ values. IsList (stands_at key (view self.entry.table.now)) (items_view values.now)) }
     {
@@ -105,7 +105,7 @@ impl<'a> Place<'a> {
         }
     }
 
-    /// The elements of the list at a key, at most so many.
+    /// The elements of the list at a key, at most `most`.
     pub fn short_list(self, key: Key, most: u32) -> Result<&'a [Value], PackFault>
         ensures list { IfOk result (λ values. IsList (stands_at key (view self.entry.table.now)) (items_view values.now)) }
         ensures short { IfOk result (λ values. length values.now ≤ most) }

@@ -1,7 +1,7 @@
 //! The bundle that a document means.
 ghost use Rattle.std.specs.Prelude.{◌≤◌, IfOk, length};
 ghost use Rattle.toml.specs.View.{view};
-ghost use Rattle.program_parts.specs.Outside.{files};
+ghost use Rattle.command_parts.specs.Outside.{files};
 ghost use Rattle.cloak_base.specs.Constants.{largest_bundle};
 ghost use Rattle.cloak_model.specs.Bundle.{IsInGrammar, bundle_bytes};
 ghost use Rattle.manifest.specs.Manifest.{IsImageOf};
@@ -14,7 +14,7 @@ use crate::key::{Key, Part};
 use crate::programs::programs;
 use crate::room::room_behind;
 use cloak_model::{Bundle, Sequence};
-use outside_io::Shelf;
+use io_traits::Shelf;
 use std::alloc::Global;
 use toml::Value;
 

@@ -2,7 +2,7 @@
 ghost use Rattle.std.specs.Prelude.{◌≡◌, ◌≤◌, ◌<◌, ◌%◌, ◌^◌, ◌*◌, All, EachIndex, IfOk, length, pos, slice_index};
 ghost use Rattle.toml.specs.Data.{integer};
 ghost use Rattle.toml.specs.View.{view, items_view};
-ghost use Rattle.program_parts.specs.Outside.{files};
+ghost use Rattle.command_parts.specs.Outside.{files};
 ghost use Rattle.cloak_base.specs.Constants.{ram_start};
 ghost use Rattle.cloak_model.specs.Bundle.{IsKernelImage};
 ghost use Rattle.manifest.specs.declared.key.Key.TheVariants as keys;
@@ -17,7 +17,7 @@ use crate::key::Key;
 use crate::segments::segments;
 use cloak_base::RAM_START;
 use cloak_model::{KernelImage, Sequence};
-use outside_io::Shelf;
+use io_traits::Shelf;
 use std::alloc::Global;
 use toml::Value;
 
@@ -59,7 +59,7 @@ fn given_schedule(
     Ok(schedule)
 }
 
-/// The schedule of a document for so many harts: 1 to 64 turns, or the harts in order where none is given.
+/// The schedule of a document for this many harts: 1 to 64 turns, or the harts in order if none is given.
 fn schedule(alloc: Global, place: Place<'_>, harts: u32) -> Result<Vec<u8>, PackFault>
     requires some { 1 ≤ harts }
     requires few { harts ≤ 4 }

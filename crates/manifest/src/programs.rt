@@ -2,7 +2,7 @@
 ghost use Rattle.std.specs.Prelude.{◌≡◌, ◌+◌, ◌*◌, ◌-◌, ◌%◌, ◌^◌, ◌≤◌, ◌<◌, ◌++◌, ℕ, List, Option, length, replicate, pos, All, Some, IfOk, OnOk};
 ghost use Rattle.toml.specs.Data.{integer};
 ghost use Rattle.toml.specs.View.{view, items_view};
-ghost use Rattle.program_parts.specs.Outside.{files};
+ghost use Rattle.command_parts.specs.Outside.{files};
 ghost use Rattle.cloak_model.specs.Bundle.{IsProgramIn};
 ghost use Rattle.manifest.specs.declared.key.Key.TheVariants as keys;
 ghost use Rattle.manifest.specs.Keys.{stands_at};
@@ -15,7 +15,7 @@ use crate::key::{Key, Part};
 use crate::sources::source;
 use cloak_base::Start;
 use cloak_model::{Program, Sequence};
-use outside_io::Shelf;
+use io_traits::Shelf;
 use std::alloc::Global;
 use toml::Value;
 
@@ -43,7 +43,7 @@ fn expect_multiple(place: Place<'_>, key: Key, of: u32, number: u32) -> Result<(
     }
 }
 
-/// These bytes with zeros behind them, in so many pages.
+/// These bytes with zeros after them, in this many pages.
 fn padded(bytes: Vec<u8>, pages: u32) -> Result<Vec<u8>, PackFault>
     requires few { pages ≤ 1024 }
     requires inside { length bytes.items ≤ 4096 * pages }
@@ -54,7 +54,7 @@ fn padded(bytes: Vec<u8>, pages: u32) -> Result<Vec<u8>, PackFault>
     Ok(bytes)
 }
 
-/// Where a program of so many pages begins.
+/// Where a program of this many pages begins.
 fn start(place: Place<'_>, pages: u32) -> Result<Start, PackFault>
     requires { pages ≤ 1024 }
     ensures pages { IfOk result (λ s. s.pages ≡ pages) }

@@ -7,7 +7,7 @@ ghost use Rattle.cloak_model.specs.Bundle.{bundle_bytes, program_bytes, segment_
 use cloak_base::LARGEST_BUNDLE;
 use cloak_model::{Bundle, Program, Segment};
 
-/// What some bytes leave of some room, where there is enough.
+/// What some bytes leave of some room, if there is enough.
 fn taken(room: u64, size: usize) -> Option<u64>
     ensures { IfSome result (λ left. size + left ≡ room) }
 {
@@ -19,14 +19,14 @@ fn taken(room: u64, size: usize) -> Option<u64>
     }
 }
 
-/// What bytes leave of some room, where there is enough.
+/// What bytes leave of some room, if there is enough.
 fn behind_bytes(room: u64, bytes: &[u8]) -> Option<u64>
     ensures { IfSome result (λ left. length bytes.now + left ≡ room) }
 {
     taken(room, bytes.len())
 }
 
-/// What segments leave of some room, where there is enough.
+/// What segments leave of some room, if there is enough.
 fn behind_segments(room: u64, segments: &[Segment]) -> Option<u64>
     ensures { IfSome result (λ left. length (flat_map segment_bytes segments.now) + left ≡ room) }
 {
@@ -38,7 +38,7 @@ fn behind_segments(room: u64, segments: &[Segment]) -> Option<u64>
     Some(left)
 }
 
-/// What programs leave of some room, where there is enough.
+/// What programs leave of some room, if there is enough.
 fn behind_programs(room: u64, programs: &[Program]) -> Option<u64>
     ensures { IfSome result (λ left. length (flat_map (program_bytes 2) programs.now) + left ≡ room) }
 {

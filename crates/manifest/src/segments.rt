@@ -1,7 +1,7 @@
 //! The segments of an image.
 ghost use Rattle.std.specs.Prelude.{◌≡◌, ◌≤◌, ◌+◌, ◌*◌, All, IfOk, IsTrue, length};
 ghost use Rattle.toml.specs.View.{view, items_view};
-ghost use Rattle.program_parts.specs.Outside.{files};
+ghost use Rattle.command_parts.specs.Outside.{files};
 ghost use Rattle.cloak_base.specs.Constants.{ram_end};
 ghost use Rattle.cloak_model.specs.Bundle.{IsSegmentIn};
 ghost use Rattle.manifest.specs.Manifest.{EachMeans, IsSegmentOf};
@@ -13,7 +13,7 @@ use crate::key::{Key, Part};
 use crate::sources::source;
 use cloak_base::{RAM_START, ram_end};
 use cloak_model::{Segment, Sequence};
-use outside_io::Shelf;
+use io_traits::Shelf;
 use std::alloc::Global;
 use toml::Value;
 

@@ -1,10 +1,10 @@
 //! The bytes that a table of a manifest names: those of a file, or of the words of an assembler text.
 ghost use Rattle.std.specs.Prelude.{◌≡◌, ◌<◌, ◌≤◌, IfOk, IfSome, length, string_bytes};
 ghost use Rattle.std.specs.Str.{IsUtf8};
-ghost use Rattle.outside_io.specs.Told.{Tells};
+ghost use Rattle.io_traits.specs.Told.{Tells};
 ghost use Rattle.toml.specs.Data.{string};
 ghost use Rattle.toml.specs.View.{view};
-ghost use Rattle.program_parts.specs.Outside.{OnlyRead, files};
+ghost use Rattle.command_parts.specs.Outside.{OnlyRead, files};
 ghost use Rattle.asm_text.specs.Assembling.{IsAssembled, FailsToAssemble};
 ghost use Rattle.manifest.specs.Keys.{stands_at};
 ghost use Rattle.manifest.specs.Manifest.{IsNamedFile, IsPath, IsSource};
@@ -15,8 +15,8 @@ use crate::fields::Place;
 use crate::key::{Key, Part};
 use asm_text::{TextFault, assembled, shown_text};
 use cloak_base::LARGEST_BUNDLE;
-use outside_io::Shelf;
-use program_parts::{Refusal, read_front};
+use command_parts::{Refusal, read_front};
+use io_traits::Shelf;
 use rv_asm::AsmFault;
 use std::alloc::Global;
 
@@ -34,7 +34,7 @@ fn path_of(alloc: Global, manifest: &str, name: &str) -> Result<String, PackFaul
     Ok(path)
 }
 
-/// All bytes of a file; none where it has more than `limit`.
+/// All bytes of a file; none if it has more than `limit`.
 pub fn read_whole<S: Shelf>(
     alloc: Global,
     shelf: &mut S,

@@ -1,4 +1,4 @@
--- Entries of which no two are of one view, page and kind, as entries come and go.
+-- Entries of which no two are of one regime, page and kind, as entries come and go.
 use Rattle.std.proofs.Common.{◌≡◌, ◌≤◌, ◌+◌, Bool, true, false, ◌||◌, cond, List, [], ◌∷◌, ◌++◌, filter, count_by, if◌then◌else◌, refl, sym, subst, arith, ◌∙◌}
 use Rattle.std.specs.List.{list_any}
 use Rattle.std.specs.List.Sorted.{IsPermutation}
@@ -16,9 +16,9 @@ Test = Entry → Bool
 
 -- without those in front
 pub behind_apart : (xs ys : List Entry) → AreApart (xs ++ ys) → AreApart ys
-behind_apart xs ys apart view page kind =
-    let few = apart view page kind in
-    let all = sum_by-append (λ (e : Entry). cond (is_for view page kind e) 1 0) xs ys in
+behind_apart xs ys apart regime page kind =
+    let few = apart regime page kind in
+    let all = sum_by-append (λ (e : Entry). cond (is_for regime page kind e) 1 0) xs ys in
     omega (arith, few, all)
 
 fewer_counted : (p q : Test) (es : List Entry) → count_by p (filter q es) ≤ count_by p es
@@ -33,8 +33,8 @@ fewer_counted p q (e ∷ es) = by_test (q e) (fewer_counted p q es)
 
 -- entries end
 pub fewer_apart : (q : Test) (es : List Entry) → AreApart es → AreApart (filter q es)
-fewer_apart q es apart view page kind =
-    let few = apart view page kind in let less = fewer_counted (is_for view page kind) q es in omega (arith, few, less)
+fewer_apart q es apart regime page kind =
+    let few = apart regime page kind in let less = fewer_counted (is_for regime page kind) q es in omega (arith, few, less)
 
 none_counted : (p : Test) (es : List Entry) → list_any p es ≡ false → count_by p es ≡ 0
 none_counted p [] none = refl
@@ -46,22 +46,22 @@ none_counted p (e ∷ es) none = count_first p e es ∙ by_test (p e) none (none
     by_test false none rest = let zero = rest none in omega (arith, zero)
 
 -- an entry comes that was not known
-pub more_apart : (e : Entry) (es : List Entry) → list_any (is_for e.view e.page e.kind) es ≡ false → AreApart es
+pub more_apart : (e : Entry) (es : List Entry) → list_any (is_for e.regime e.page e.kind) es ≡ false → AreApart es
     → AreApart (e ∷ es)
-more_apart e es none apart view page kind =
-    subst (λ n. n ≤ 1) (sym (count_first (is_for view page kind) e es)) (by_test (is_for view page kind e) refl)
+more_apart e es none apart regime page kind =
+    subst (λ n. n ≤ 1) (sym (count_first (is_for regime page kind) e es)) (by_test (is_for regime page kind e) refl)
   where
-    by_test : (b : Bool) → is_for view page kind e ≡ b → cond b 1 0 + count_by (is_for view page kind) es ≤ 1
+    by_test : (b : Bool) → is_for regime page kind e ≡ b → cond b 1 0 + count_by (is_for regime page kind) es ≤ 1
     by_test true is =
-        let key = is_for-key view page kind e is in
-        let other = none_counted (is_for view page kind) es
+        let key = is_for-key regime page kind e is in
+        let other = none_counted (is_for regime page kind) es
         (sym (λ i. list_any (is_for (key.0 i) (key.1 i) (key.2 i)) es) ∙ none) in
         omega (arith, other)
-    by_test false is = let few = apart view page kind in omega (arith, few)
+    by_test false is = let few = apart regime page kind in omega (arith, few)
 
 -- the order is no matter
 pub same_apart : (xs ys : List Entry) → IsPermutation xs ys → AreApart xs → AreApart ys
-same_apart xs ys same apart view page kind =
-    let few = apart view page kind in
-    let all = sum_by-IsPermutation (λ (e : Entry). cond (is_for view page kind e) 1 0) xs ys same in
+same_apart xs ys same apart regime page kind =
+    let few = apart regime page kind in
+    let all = sum_by-IsPermutation (λ (e : Entry). cond (is_for regime page kind e) 1 0) xs ys same in
     omega (arith, few, all)

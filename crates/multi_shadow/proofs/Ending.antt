@@ -88,7 +88,7 @@ pub frame_hangs : (f : Frame) (o : Option Frame) â†’ is_head f.0 (number_of o) â
 frame_hangs f None = refl
 frame_hangs f (Some g) = refl
 
--- Where there is no entry.
+-- When there is no entry.
 
 pub no_kind : AreOfKind no_recent
 no_kind Fetch = tt
@@ -101,7 +101,7 @@ no_within n Load = tt
 no_within n Store = tt
 
 pub none_apart : AreApart []
-none_apart view page kind = omega arith
+none_apart regime page kind = omega arith
 
 -- All entries end.
 

@@ -1,18 +1,18 @@
--- Entries for loads of a bare view, as the tests make them.
+-- Entries for loads of a bare regime, as the tests make them.
 use Rattle.std.proofs.Common.{◌≡◌, ◌<◌, ◌&&◌, ℕ, true, false, None, inl, inr, ap, subst, sym, arith}
 use Rattle.std.proofs.lemmas.Bool.Decides.{eqb_tells}
 use Rattle.cloak_base.specs.declared.names.Kind.TheVariants.{Load}
 use Rattle.cloak_base.specs.declared.names.Mode.TheVariants.{S}
 use Rattle.shadow_fold.specs.declared.entry.Entry.{Entry}
-use Rattle.shadow_fold.specs.declared.entry.ShadowView.{ShadowView}
-use Rattle.shadow_fold.specs.declared.entry.ShadowView.TheVariants.{Outside}
+use Rattle.shadow_fold.specs.declared.entry.Regime.{Regime}
+use Rattle.shadow_fold.specs.declared.entry.Regime.TheVariants.{Outside}
 use Rattle.shadow_fold.specs.Entries.{is_for, IsWithin}
 
-abbrev pub bare : ShadowView
+abbrev pub bare : Regime
 bare = Outside 0 S false false
 
 abbrev pub load : ℕ → Entry
-load page = record { view = bare; page = page; kind = Load; frame = record { 0 = 3 }; pt1 = None; pt0 = None; cloaked = None }
+load page = record { regime = bare; page = page; kind = Load; frame = record { 0 = 3 }; pt1 = None; pt0 = None; cloaked = None }
 
 -- another page's entry is not for this page
 pub other_page : (page k : ℕ) → page < k → is_for bare k Load (load page) ≡ false

@@ -54,7 +54,7 @@ long_entered A c None s long within d = long d
 long_entered A c (Some h) s long within d =
     long_hooked A c h s (subst (λ k. h < k) (sym (long c)) within) d ∙ long d ∙ sym (heads_entered A c (Some h) s)
 
--- the chain of one head, where the slot is put in or not
+-- the chain of one head, whether the slot is put in or not
 chain_here : (A : Arena Entry) (c : Chain) (o : Option ℕ) (s : ℕ) → ((d : Chain) → length (chains A d) ≡ A.heads) → IfSome o (λ h. h < A.heads) → (h : ℕ)
     → chain_at (entered A c o s) c h ≡ joined (is_head h o) s (chain_at A c h)
 chain_here A c None s long within h = refl
@@ -98,7 +98,7 @@ within_at n h None w e = absurd (none-some h e)
 within_at n h (Some g) w e = subst (λ k. k < n) (same_Some g h e) w
 
 module _ (A : Arena Entry) (long : (d : Chain) → length (chains A d) ≡ A.heads) (s : ℕ) (e : Entry)
-    (bucket : bucket_of A.heads e.view e.page e.kind < A.heads) (within : IsWithin A.heads e) where
+    (bucket : bucket_of A.heads e.regime e.page e.kind < A.heads) (within : IsWithin A.heads e) where
   abbrev n : ℕ
   n = A.heads
 
@@ -163,7 +163,7 @@ module _ (A : Arena Entry) (long : (d : Chain) → length (chains A d) ≡ A.hea
   to_all : (d : Chain) (h : ℕ) → chain_at (all_entered A s e) d h ≡ joined (same_chain chain.Second d && is_head h (head_of n chain.Second e)) s (chain_at a3 d h)
   to_all = entered_chain a3 chain.Second (head_of n chain.Second e) s long3 within3
 
-  -- each chain has the slot first where its head is the entry's
+  -- each chain has the slot first if its head is the entry's
   pub all_chain : (d : Chain) (h : ℕ) → chain_at (all_entered A s e) d h ≡ joined (is_head h (head_of n d e)) s (chain_at A d h)
   all_chain chain.Bucket h = to_all chain.Bucket h ∙ to_a3 chain.Bucket h ∙ to_a2 chain.Bucket h ∙ to_a1 chain.Bucket h
   all_chain chain.Target h = to_all chain.Target h ∙ to_a3 chain.Target h ∙ to_a2 chain.Target h
@@ -251,7 +251,7 @@ pub out_on : (A B : Arena Entry) (c d : Chain) (o : Option ℕ) (s : ℕ) → No
     → Not (Stands B d s)
 out_on A B c d o s n now out st = apart_entered A c d o s n out (subst (λ (D : Arena Entry). Stands D d s) now st)
 
-bucket_below : (n : ℕ) (e : Entry) → 0 < n → bucket_of n e.view e.page e.kind < n
+bucket_below : (n : ℕ) (e : Entry) → 0 < n → bucket_of n e.regime e.page e.kind < n
 unfolding bucket_of
 bucket_below n e some = omega arith
 
@@ -275,5 +275,5 @@ put_placed A T B s e placed free taken entered tidy some within =
     long : (d : Chain) → length (chains P d) ≡ P.heads
     long d = ap length (chains_paid A s (Some e) d) ∙ placed.tidy.heads d
 
-    bucket : bucket_of P.heads e.view e.page e.kind < P.heads
+    bucket : bucket_of P.heads e.regime e.page e.kind < P.heads
     bucket = bucket_below A.heads e some

@@ -25,3 +25,10 @@ power_over n r over few =
     let more : 2 ^ (r + 1) ≡ 2 ^ r * 2 = pow_more 2 r in
     let least : n ≤ 2 ^ (r + 1) = omega (arith, over, more) in
     (subst (λ m. n ≤ m) (sym (shifted r few)) least, (r + 1, shifted r few))
+
+-- above 2^31 there is none of 32 digits
+pub power_past : (n r : ℕ) → 2 ^ r ≤ n - 1 → r < 32 → 31 < r + 1 → 2 ^ 31 < n
+power_past n r under few more =
+    let last : r ≡ 31 = omega (arith, few, more) in
+    let least : 2 ^ 31 ≤ n - 1 = subst (λ k. 2 ^ k ≤ n - 1) last under in
+    omega (arith, least)

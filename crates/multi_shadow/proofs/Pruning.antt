@@ -110,17 +110,17 @@ not_true false n = refl
 
 -- Over all buckets, by rising number.
 
--- what does not hang on a bucket that is not before it hangs on a later one
-pub past_head : (n h : ℕ) (space : Option SpaceId) (e : Entry) → (is_wanted space e ≡ true → h ≤ bucket_of n e.view e.page e.kind)
-    → is_hit n chain.Bucket h space e ≡ false → is_wanted space e ≡ true → h + 1 ≤ bucket_of n e.view e.page e.kind
+-- what hangs on no bucket before this one, and not on this one, hangs on a later one
+pub past_head : (n h : ℕ) (space : Option SpaceId) (e : Entry) → (is_wanted space e ≡ true → h ≤ bucket_of n e.regime e.page e.kind)
+    → is_hit n chain.Bucket h space e ≡ false → is_wanted space e ≡ true → h + 1 ≤ bucket_of n e.regime e.page e.kind
 past_head n h space e later miss wanted =
-    let b = bucket_of n e.view e.page e.kind in let more = later wanted in
+    let b = bucket_of n e.regime e.page e.kind in let more = later wanted in
     elim (cases_eq b h) [
       | inl same ↦ absurd (false≢true (sym miss ∙ (λ i. wanted i && eq-eqb b h same i)))
       | inr other ↦ omega (arith, more, other)
     ]
 
-pub not_yet : (n h : ℕ) (space : Option SpaceId) (e : Entry) → (is_wanted space e ≡ true → h + 1 ≤ bucket_of n e.view e.page e.kind)
+pub not_yet : (n h : ℕ) (space : Option SpaceId) (e : Entry) → (is_wanted space e ≡ true → h + 1 ≤ bucket_of n e.regime e.page e.kind)
     → is_hit n chain.Bucket h space e ≡ false
 not_yet n h space e later = not_true _ (λ hit.
     let both = and_true (is_wanted space e) (hangs_on n chain.Bucket h e) hit in

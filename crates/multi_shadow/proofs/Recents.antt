@@ -7,7 +7,7 @@ use Rattle.chain_arena.specs.Arena.{Arena}
 use Rattle.cloak_base.specs.declared.names.Kind.{Kind}
 use Rattle.cloak_base.specs.declared.names.Kind.TheVariants.{Fetch, Load, Store}
 use Rattle.shadow_fold.specs.declared.entry.Entry.{Entry}
-use Rattle.shadow_fold.specs.declared.entry.ShadowView.{ShadowView}
+use Rattle.shadow_fold.specs.declared.entry.Regime.{Regime}
 use Rattle.shadow_fold.specs.Entries.{is_for}
 use Rattle.shadow_fold.proofs.Keys.{is_for-key}
 use Rattle.multi_shadow.specs.declared.recent.Recent.{Recent}
@@ -35,34 +35,34 @@ module _ (p : Entry → Bool) where
   none_passes r fetch load store =
       skip r.fetch (r.load ∷ r.store ∷ []) fetch ∙ skip r.load (r.store ∷ []) load ∙ skip r.store [] store
 
-module _ (r : Recent) (of_kind : AreOfKind r) (view : ShadowView) (page : ℕ) where
+module _ (r : Recent) (of_kind : AreOfKind r) (regime : Regime) (page : ℕ) where
   -- an entry in the place of another kind does not pass
-  other : (kind k : Kind) → (k ≡ kind → ⊥) → IfSome (place_of k r) (λ e. is_for view page kind e ≡ false)
+  other : (kind k : Kind) → (k ≡ kind → ⊥) → IfSome (place_of k r) (λ e. is_for regime page kind e ≡ false)
   other kind k differs = by_place (place_of k r) (of_kind k)
     where
-      by_place : (o : Option Entry) → IfSome o (λ e. e.kind ≡ k) → IfSome o (λ e. is_for view page kind e ≡ false)
+      by_place : (o : Option Entry) → IfSome o (λ e. e.kind ≡ k) → IfSome o (λ e. is_for regime page kind e ≡ false)
       by_place None is = is
-      by_place (Some e) is = not_true _ (λ passes. differs (sym is ∙ (is_for-key view page kind e passes).2))
+      by_place (Some e) is = not_true _ (λ passes. differs (sym is ∙ (is_for-key regime page kind e passes).2))
 
-  pub recent_hit : (kind : Kind) (e : Entry) → place_of kind r ≡ Some e → is_for view page kind e ≡ true
-      → find (is_for view page kind) (recent_entries r) ≡ Some e
-  recent_hit Fetch e is passes = here (is_for view page Fetch) r.fetch (r.load ∷ r.store ∷ []) e is passes
+  pub recent_hit : (kind : Kind) (e : Entry) → place_of kind r ≡ Some e → is_for regime page kind e ≡ true
+      → find (is_for regime page kind) (recent_entries r) ≡ Some e
+  recent_hit Fetch e is passes = here (is_for regime page Fetch) r.fetch (r.load ∷ r.store ∷ []) e is passes
   recent_hit Load e is passes =
-      skip (is_for view page Load) r.fetch (r.load ∷ r.store ∷ []) (other Load Fetch (λ k. cc))
-      ∙ here (is_for view page Load) r.load (r.store ∷ []) e is passes
+      skip (is_for regime page Load) r.fetch (r.load ∷ r.store ∷ []) (other Load Fetch (λ k. cc))
+      ∙ here (is_for regime page Load) r.load (r.store ∷ []) e is passes
   recent_hit Store e is passes =
-      skip (is_for view page Store) r.fetch (r.load ∷ r.store ∷ []) (other Store Fetch (λ k. cc))
-      ∙ skip (is_for view page Store) r.load (r.store ∷ []) (other Store Load (λ k. cc))
-      ∙ here (is_for view page Store) r.store [] e is passes
+      skip (is_for regime page Store) r.fetch (r.load ∷ r.store ∷ []) (other Store Fetch (λ k. cc))
+      ∙ skip (is_for regime page Store) r.load (r.store ∷ []) (other Store Load (λ k. cc))
+      ∙ here (is_for regime page Store) r.store [] e is passes
 
-  pub recent_miss : (kind : Kind) → IfSome (place_of kind r) (λ e. is_for view page kind e ≡ false)
-      → find (is_for view page kind) (recent_entries r) ≡ None
+  pub recent_miss : (kind : Kind) → IfSome (place_of kind r) (λ e. is_for regime page kind e ≡ false)
+      → find (is_for regime page kind) (recent_entries r) ≡ None
   recent_miss Fetch miss =
-      none_passes (is_for view page Fetch) r miss (other Fetch Load (λ k. cc)) (other Fetch Store (λ k. cc))
+      none_passes (is_for regime page Fetch) r miss (other Fetch Load (λ k. cc)) (other Fetch Store (λ k. cc))
   recent_miss Load miss =
-      none_passes (is_for view page Load) r (other Load Fetch (λ k. cc)) miss (other Load Store (λ k. cc))
+      none_passes (is_for regime page Load) r (other Load Fetch (λ k. cc)) miss (other Load Store (λ k. cc))
   recent_miss Store miss =
-      none_passes (is_for view page Store) r (other Store Fetch (λ k. cc)) (other Store Load (λ k. cc)) miss
+      none_passes (is_for regime page Store) r (other Store Fetch (λ k. cc)) (other Store Load (λ k. cc)) miss
 
 -- Some end.
 
@@ -118,7 +118,7 @@ displaced kind e r A B put =
     (IsPermutation-append_right now _ _
     (subst (λ l. IsPermutation l (live_in B.payloads)) (split_first (place_of kind r) A.payloads) put)))
   where
-    -- what is in front goes behind some others
+    -- what is in front goes after some others
     behind : (o : Option Entry) (os : List (Option Entry)) (es : List Entry)
         → IsPermutation (live_in (o ∷ os) ++ es) (live_in os ++ (live_in (o ∷ []) ++ es))
     behind None os es = IsPermutation-refl (live_in os ++ es)

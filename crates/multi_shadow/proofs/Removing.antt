@@ -65,7 +65,7 @@ gone_chain A s chain.Second h = get_or-without s A.seconds h
 module _ (A : Arena Entry) (placed : ArePlaced A) (s : ℕ) (e : Entry) (used : LiesAt A s e) where
   pub in_bucket : Stands A chain.Bucket s
   in_bucket =
-      let h = bucket_of A.heads e.view e.page e.kind in let p = placed.there chain.Bucket s h e used refl in
+      let h = bucket_of A.heads e.regime e.page e.kind in let p = placed.there chain.Bucket s h e used refl in
       (h, p.0, p.1)
 
   pub in_target : Stands A chain.Target s

@@ -1,4 +1,4 @@
--- What a walk over a chain has left, as slots are taken out behind it.
+-- What is left of a walk over a chain, as slots that it has passed are taken out.
 use Rattle.std.proofs.Common.{◌≡◌, ℕ, inl, inr, Bool, true, false, cond, List, [], ◌∷◌, length, slice_get, Option, Some, None, refl, sym, ap, ◌∙◌, subst, arith}
 use Rattle.std.proofs.lemmas.Bool.{cases_eq, eq-eqb, ne_eqb}
 use Rattle.chain_arena.specs.Chains.{IsMemberOf, IsOnce, without}
@@ -18,7 +18,7 @@ not_from x xs (Some t) other = ap (λ b. cond b (x ∷ xs) (from_slot t xs)) (ne
 not_first : (x t : ℕ) (xs : List ℕ) → IsOnce (x ∷ xs) → IsMemberOf t xs → Not (t ≡ x)
 not_first x t xs once p e = once.0 (subst (λ k. IsMemberOf k xs) e p)
 
--- a walk goes on the same where the slot that it leaves is taken out
+-- a walk goes on the same if the slot that it leaves is taken out
 pub rest_without : (xs : List ℕ) (s : ℕ) → IsOnce xs → IsMemberOf s xs
     → chain_rest (next_behind s xs) (without s xs) ≡ chain_rest (next_behind s xs) xs
 rest_without [] s once p = absurd p
@@ -45,7 +45,7 @@ pub rest_if : (wanted : Bool) (xs : List ℕ) (s : ℕ) → IsOnce xs → IsMemb
 rest_if true xs s once p = rest_without xs s once p
 rest_if false xs s once p = refl
 
--- what stands behind a slot is another
+-- what stands after a slot is another
 pub behind_other : (xs : List ℕ) (s t : ℕ) → IsOnce xs → IsMemberOf s xs → next_behind s xs ≡ Some t → Not (t ≡ s)
 behind_other xs s t once p next same =
     let more : from_slot s xs ≡ s ∷ from_slot s xs =

@@ -29,7 +29,7 @@ module _ {A : Type 0} where
       IsPermutation-trans _ _ _ (swap_first x e (lying os)) (IsPermutation-trans _ _ _
       (IsPermutation-cons x _ _ (exchange os s (Some y) e was)) (swap_first y x (lying (slice_set os s (Some e)))))
 
-  -- a slot that is emptied where its entry passes, before others
+  -- a slot that is emptied if its entry passes, before others
   pub left_first : (ends : A → Bool) (o : Option A) (now os : List (Option A))
       → lying now ≡ filter (λ x. not (ends x)) (lying os)
       → lying (left_in ends o ∷ now) ≡ filter (λ x. not (ends x)) (lying (o ∷ os))
@@ -41,7 +41,7 @@ module _ {A : Type 0} where
       by_test true = e
       by_test false = ap (λ l. x ∷ l) e
 
-  -- where each entry that passes the test left its slot, and the others stayed, the passing ones are ended
+  -- if each entry that passes the test left its slot, and the others stayed, the passing ones are ended
   pub ended : (ends : A → Bool) (os now : List (Option A)) → length now ≡ length os → ((s : ℕ) (o : Option A) → slice_get os s ≡ Some o → slice_get now s ≡ Some (left_in ends o)) → lying now ≡ filter (λ x. not (ends x)) (lying os)
   ended ends [] [] long each = refl
   ended ends [] (n ∷ now) long each = absurd (omega (arith, long))
@@ -52,7 +52,7 @@ module _ {A : Type 0} where
       ap (λ q. lying (q ∷ now)) (same_Some _ _ (each zero (Some x) refl))
       ∙ left_first ends (Some x) now os (ended ends os now (omega (arith, long)) (λ s. each (suc s)))
 
-  -- where no slot has an entry that passes, none is found
+  -- if no slot has an entry that passes, none is found
   pub none_found : (p : A → Bool) (os : List (Option A)) → ((s : ℕ) (x : A) → slice_get os s ≡ Some (Some x) → p x ≡ false) → find p (lying os) ≡ None
   none_found p [] none = refl
   none_found p (None ∷ os) none = none_found p os (λ s. none (suc s))
@@ -75,7 +75,7 @@ module _ {A : Type 0} where
   counted p (Some x ∷ os) (suc s) e there passes =
       let all = count_first p x (lying os) in let more = counted p os s e there passes in omega (arith, all, more)
 
-  -- where one entry passes at most, one that passes is found
+  -- if at most one entry passes, one that passes is found
   pub found : (p : A → Bool) (os : List (Option A)) (s : ℕ) (e : A) → slice_get os s ≡ Some (Some e) → p e ≡ true
       → count_by p (lying os) ≤ 1 → find p (lying os) ≡ Some e
   found p [] s e there passes few = absurd (none-some (Some e) there)

@@ -1,4 +1,4 @@
--- Live entries in the slots of an arena. The slot of an entry stands in a chain of each kind: by view, page and kind in
+-- Live entries in the slots of an arena. The slot of an entry stands in a chain of each kind: by regime, page and kind in
 -- that of its bucket, and in those of its target and of its table frames.
 use Rattle.std.specs.Prelude.{◌≡◌, ℕ, ◌+◌, ◌*◌, ◌%◌, ◌^◌, ◌<◌, ◌≤◌, ◌==◌, Bool, true, false, ◌&&◌, List, length, count_by, slice_get, slice_set, Option, Some, None}
 use Rattle.std.specs.List.{filter_map}
@@ -11,7 +11,7 @@ use Rattle.cloak_base.specs.declared.names.Kind.{Kind}
 use Rattle.cloak_base.specs.declared.names.Kind.TheVariants.{Fetch, Load, Store}
 use Rattle.cloak_base.specs.declared.names.SpaceId.{SpaceId}
 use Rattle.shadow_fold.specs.declared.entry.Entry.{Entry}
-use Rattle.shadow_fold.specs.declared.entry.ShadowView.{ShadowView}
+use Rattle.shadow_fold.specs.declared.entry.Regime.{Regime}
 use Rattle.shadow_fold.specs.Agreement.{satp_in}
 use Rattle.shadow_fold.specs.Entries.{is_for, is_of_space}
 
@@ -31,9 +31,9 @@ kind_number Store = 2
 abbrev pub IsPower : ℕ → Type 0
 IsPower n = (k : ℕ) × (n ≡ 2 ^ k)
 
--- the bucket of a view, page and kind, of n buckets
-unfoldable pub bucket_of : ℕ → ShadowView → ℕ → Kind → ℕ
-bucket_of n view page kind = (4 * page + kind_number kind + 37 * satp_in view) % n
+-- the bucket of a regime, page and kind, of n buckets
+unfoldable pub bucket_of : ℕ → Regime → ℕ → Kind → ℕ
+bucket_of n regime page kind = (4 * page + kind_number kind + 37 * satp_in regime) % n
 
 abbrev pub number_of : Option Frame → Option ℕ
 number_of None = None
@@ -41,7 +41,7 @@ number_of (Some f) = Some f.0
 
 -- the head whose chain of this kind has the entry's slot, of n heads
 abbrev pub head_of : ℕ → Chain → Entry → Option ℕ
-head_of n chain.Bucket e = Some (bucket_of n e.view e.page e.kind)
+head_of n chain.Bucket e = Some (bucket_of n e.regime e.page e.kind)
 head_of n chain.Target e = Some e.frame.0
 head_of n chain.First e = number_of e.pt1
 head_of n chain.Second e = number_of e.pt0
@@ -71,7 +71,7 @@ pub record ArePlaced (A : Arena Entry) : Type 0 where
   pub only : (c : Chain) (s h : ℕ) (e : Entry) → h < A.heads → IsMemberOf s (chain_at A c h) → LiesAt A s e
       → head_of A.heads c e ≡ Some h
 
--- the entries ended that pass the test, and every other one lies where it lay
+-- the entries that pass the test ended, and every other one lies where it lay
 pub record EndsJust (ends : Entry → Bool) (A B : Arena Entry) : Type 0 where
   pub long : length B.payloads ≡ length A.payloads
   pub ended : (s : ℕ) (e : Entry) → LiesAt B s e → LiesAt A s e × (ends e ≡ false)
@@ -81,11 +81,11 @@ pub record EndsJust (ends : Entry → Bool) (A B : Arena Entry) : Type 0 where
 abbrev pub IsPut : Entry → Arena Entry → Arena Entry → Type 0
 IsPut e A B = (s : ℕ) × IsFree A s × (B.payloads ≡ slice_set A.payloads s (Some e))
 
--- no two entries are of one view, page and kind
+-- no two entries are of one regime, page and kind
 abbrev pub AreApart : List Entry → Type 0
-AreApart es = (view : ShadowView) (page : ℕ) (kind : Kind) → count_by (is_for view page kind) es ≤ 1
+AreApart es = (regime : Regime) (page : ℕ) (kind : Kind) → count_by (is_for regime page kind) es ≤ 1
 
--- the slot is put first in the chain of this head, where there is one
+-- the slot is put first in the chain of this head, if there is one
 abbrev pub entered : Arena Entry → Chain → Option ℕ → ℕ → Arena Entry
 entered A c None s = A
 entered A c (Some h) s = hooked A c h s
@@ -98,12 +98,12 @@ all_entered A s e =
     let c = entered b chain.First (head_of A.heads chain.First e) s in
     entered c chain.Second (head_of A.heads chain.Second e) s
 
--- a list without the slot, where that is wanted
+-- a list without the slot, if that is wanted
 abbrev pub without_if : Bool → ℕ → List ℕ → List ℕ
 without_if true s xs = without s xs
 without_if false s xs = xs
 
--- the slots, of which one is empty where that is wanted
+-- the slots, of which one is empty if that is wanted
 abbrev pub emptied_if : Bool → ℕ → List (Option Entry) → List (Option Entry)
 emptied_if true s slots = slice_set slots s None
 emptied_if false s slots = slots

@@ -36,7 +36,7 @@ with_place Fetch e r = record r { fetch = Some e }
 with_place Load e r = record r { load = Some e }
 with_place Store e r = record r { store = Some e }
 
--- a place, emptied where what it holds passes the test
+-- a place, emptied if what it holds passes the test
 abbrev pub left_in : {X : Type 0} → (X → Bool) → Option X → Option X
 left_in ends None = None
 left_in ends (Some x) = if ends x then None else Some x

@@ -3,7 +3,7 @@ ghost use Rattle.cloak_model.specs.Contexts.{same_space};
 ghost use Rattle.shadow_fold.specs.Entries as spec;
 
 use cloak_base::{Frame, Kind, Mode, SpaceId};
-use shadow_fold::{Entry, ShadowView};
+use shadow_fold::{Entry, Regime};
 
 #[inline(always)]
 fn is_same_mode(a: Mode, b: Mode) -> bool
@@ -36,18 +36,18 @@ fn is_same_space(a: SpaceId, b: SpaceId) -> bool
 }
 
 #[inline(always)]
-fn is_same_view(a: &ShadowView, b: &ShadowView) -> bool
-    ensures { result ≡ spec.same_view a.now b.now }
+fn is_same_regime(a: &Regime, b: &Regime) -> bool
+    ensures { result ≡ spec.same_regime a.now b.now }
 {
     match (*a, *b) {
         (
-            ShadowView::Outside {
+            Regime::Outside {
                 satp,
                 mode,
                 sum,
                 mxr,
             },
-            ShadowView::Outside {
+            Regime::Outside {
                 satp: satp2,
                 mode: mode2,
                 sum: sum2,
@@ -55,13 +55,13 @@ fn is_same_view(a: &ShadowView, b: &ShadowView) -> bool
             },
         ) => { satp == satp2 && (is_same_mode(mode, mode2) && (sum == sum2 && mxr == mxr2)) }
         (
-            ShadowView::Inside {
+            Regime::Inside {
                 satp,
                 sum,
                 mxr,
                 space,
             },
-            ShadowView::Inside {
+            Regime::Inside {
                 satp: satp2,
                 sum: sum2,
                 mxr: mxr2,
@@ -81,13 +81,13 @@ fn is_frame(f: Frame, table: Option<Frame>) -> bool
     }
 }
 
-/// The entry is of this view, page and kind. The page is what most entries differ in.
+/// The entry is of this regime, page and kind. The page is what most entries differ in.
 #[tactic(auto, unfolding(shadow_fold::specs::Entries::is_for))]
 #[inline(always)]
-pub(crate) fn is_for(e: &Entry, v: &ShadowView, page: u32, kind: Kind) -> bool
+pub(crate) fn is_for(e: &Entry, v: &Regime, page: u32, kind: Kind) -> bool
     ensures { result ≡ spec.is_for v.now page kind e.now }
 {
-    e.page == page && (is_same_view(&e.view, v) && is_same_kind(e.kind, kind))
+    e.page == page && (is_same_regime(&e.regime, v) && is_same_kind(e.kind, kind))
 }
 
 /// The entry leads to this frame.
@@ -106,14 +106,14 @@ pub fn is_table(f: Frame, e: &Entry) -> bool
     is_frame(f, e.pt1) || is_frame(f, e.pt0)
 }
 
-/// The entry is of a view of this space.
+/// The entry is of a regime of this space.
 #[tactic(auto, unfolding(shadow_fold::specs::Entries::is_of_space))]
 pub(crate) fn is_of_space(s: SpaceId, e: &Entry) -> bool
     ensures { result ≡ spec.is_of_space s e.now }
 {
-    match e.view {
-        ShadowView::Inside { space, .. } => is_same_space(space, s),
-        ShadowView::Outside { .. } => false,
+    match e.regime {
+        Regime::Inside { space, .. } => is_same_space(space, s),
+        Regime::Outside { .. } => false,
     }
 }
 
@@ -128,7 +128,7 @@ fn is_below(frames: u32, table: Option<Frame>) -> bool
     }
 }
 
-/// The entry's frames are among the first of so many.
+/// The entry's frames are among the first `frames`.
 #[inline(always)]
 pub(crate) fn is_within(frames: u32, e: &Entry) -> bool
     ensures within { result ≡ true → spec.IsWithin frames e.now }

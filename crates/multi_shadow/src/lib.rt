@@ -1,7 +1,7 @@
-//! The shadow page table of each view: translations that are known, so that a hit needs no walk.
+//! The shadow page table of each regime: translations that are known, so that a hit needs no walk.
 //!
-//! A view is who translates: a hart outside with its `satp`, mode, SUM and MXR, or a hart inside with its `satp`, SUM,
-//! MXR and the address space of its context. A live entry is the known translation of a page of a view for a kind of
+//! A regime is who translates: a hart outside with its `satp`, mode, SUM and MXR, or a hart inside with its `satp`, SUM,
+//! MXR and the address space of its context. A live entry is the known translation of a page of a regime for a kind of
 //! access. At most 1024 entries are live.
 //!
 //! The layer above may rely on this: `Shadows` is a table of entries, in no order that is told, with three counts
@@ -15,7 +15,7 @@ mod recent;
 mod shadows;
 
 pub use entry::is_table;
-pub use shadow_fold::{Entry, ShadowCounts, ShadowView};
+pub use shadow_fold::{Entry, Regime, ShadowCounts};
 pub use shadows::Shadows;
 
 #[cfg(test)]

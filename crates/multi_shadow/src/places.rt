@@ -1,5 +1,5 @@
-//! Live entries in an arena: each stands in the chains of what it hangs on, so that whatever ends entries finds them by
-//! one chain.
+//! Live entries in an arena: each stands in the chains of the heads that it hangs on, so that whatever ends entries
+//! finds them by one chain.
 ghost use Rattle.std.specs.Prelude.{◌≡◌, ◌<◌, ◌%◌, ℕ, length, slice_get, slice_set, find, Some, None, IfSome, option_map, true, false};
 ghost use Rattle.chain_arena.specs.declared.chain.Chain.{Chain};
 ghost use Rattle.chain_arena.specs.Arena.{IsFree, IsInUse, Stands, chains, chain_at, unhooked, IsTidyArena};
@@ -15,7 +15,7 @@ ghost use Rattle.shadow_fold.specs.declared.entry.Entry.{Entry};
 use crate::entry::{is_for, is_of_space};
 use chain_arena::{Chain, ChainArena, Slot};
 use cloak_base::{Frame, Kind, SpaceId};
-use shadow_fold::{Entry, ShadowView};
+use shadow_fold::{Entry, Regime};
 
 fn kind_number(kind: Kind) -> u64
     ensures { result ≡ spec.kind_number kind }
@@ -27,12 +27,12 @@ fn kind_number(kind: Kind) -> u64
     }
 }
 
-fn satp_of(v: &ShadowView) -> u32
+fn satp_of(v: &Regime) -> u32
     ensures { result ≡ satp_in v.now }
 {
     match *v {
-        ShadowView::Outside { satp, .. } => satp,
-        ShadowView::Inside { satp, .. } => satp,
+        Regime::Outside { satp, .. } => satp,
+        Regime::Inside { satp, .. } => satp,
     }
 }
 
@@ -47,10 +47,10 @@ fn low_part(number: u64, power: u32) -> u32
     (number & mask) as u32
 }
 
-/// The bucket of a view, page and kind.
+/// The bucket of a regime, page and kind.
 #[inline(always)]
 #[tactic(auto, unfolding(crate::specs::Placed::bucket_of))]
-fn bucket_of(heads: u32, v: &ShadowView, page: u32, kind: Kind) -> u32
+fn bucket_of(heads: u32, v: &Regime, page: u32, kind: Kind) -> u32
     requires power { IsPower heads }
     ensures within { result < heads }
     ensures bucket { result ≡ spec.bucket_of heads v.now page kind }
@@ -78,7 +78,7 @@ fn is_wanted(space: Option<SpaceId>, e: &Entry) -> bool
     }
 }
 
-/// Puts the slot first in the chain of this head, where there is one.
+/// Puts the slot first in the chain of this head, if there is one.
 fn enter(arena: &mut ChainArena<Entry>, s: Slot, c: Chain, head: Option<u32>)
     requires tidy { IsTidyArena arena.old }
     requires in_use { IsInUse arena.old s }
@@ -117,15 +117,15 @@ fn enter_all(arena: &mut ChainArena<Entry>, heads: u32, s: Slot, e: Entry)
     ensures entered { arena.new ≡ all_entered arena.old s e }
     ensures tidy { IsTidyArena arena.new }
 {
-    let bucket = bucket_of(heads, &e.view, e.page, e.kind);
+    let bucket = bucket_of(heads, &e.regime, e.page, e.kind);
     enter(arena, s, Chain::Bucket, Some(bucket));
     enter(arena, s, Chain::Target, Some(e.frame.0));
     enter(arena, s, Chain::First, number_of(e.pt1));
     enter(arena, s, Chain::Second, number_of(e.pt0));
 }
 
-/// Puts an entry into a free slot and into its chains. False where all slots are in use. Apart, so that an entry that
-/// displaces none costs little.
+/// Puts an entry into a free slot and into its chains. False if all slots are in use. Kept out of line, so that an
+/// entry that displaces none costs little.
 #[inline(never)]
 pub(crate) fn place(arena: &mut ChainArena<Entry>, heads: u32, e: Entry) -> bool
     requires placed { ArePlaced arena.old }
@@ -148,7 +148,8 @@ pub(crate) fn place(arena: &mut ChainArena<Entry>, heads: u32, e: Entry) -> bool
     }
 }
 
-/// Takes an entry out of all its chains, and gives its slot back. Apart, so that a chain that is empty costs little.
+/// Takes an entry out of all its chains, and gives its slot back. Kept out of line, so that an empty chain costs
+/// little.
 #[cold]
 #[inline(never)]
 fn remove(arena: &mut ChainArena<Entry>, s: Slot)
@@ -167,7 +168,7 @@ fn remove(arena: &mut ChainArena<Entry>, s: Slot)
     arena.give_back(s);
 }
 
-/// The same, where that is wanted.
+/// The same, if that is wanted.
 fn remove_if(arena: &mut ChainArena<Entry>, s: Slot, wanted: bool)
     requires placed { ArePlaced arena.old }
     requires in_use { IsInUse arena.old s }
@@ -198,7 +199,7 @@ fn prune(arena: &mut ChainArena<Entry>, c: Chain, head: u32, space: Option<Space
     }
 }
 
-/// The same, with little done where the chain is empty.
+/// The same, with little done if the chain is empty.
 #[inline(always)]
 fn prune_head(arena: &mut ChainArena<Entry>, c: Chain, head: u32, space: Option<SpaceId>)
     requires placed { ArePlaced arena.old }
@@ -239,12 +240,12 @@ pub(crate) fn prune_all(arena: &mut ChainArena<Entry>, heads: u32, space: Option
     }
 }
 
-/// The entry of a view, page and kind, in the chain of its bucket.
+/// The entry of a regime, page and kind, in the chain of its bucket.
 #[inline(never)]
 fn search_chain<'a>(
     arena: &'a ChainArena<Entry>,
     bucket: u32,
-    v: &ShadowView,
+    v: &Regime,
     page: u32,
     kind: Kind,
 ) -> Option<&'a Entry>
@@ -265,12 +266,12 @@ fn search_chain<'a>(
     None
 }
 
-/// The entry of a view, page and kind, with little done where the chain of its bucket is empty.
+/// The entry of a regime, page and kind, with little done if the chain of its bucket is empty.
 #[inline(always)]
 pub(crate) fn search<'a>(
     arena: &'a ChainArena<Entry>,
     heads: u32,
-    v: &ShadowView,
+    v: &Regime,
     page: u32,
     kind: Kind,
 ) -> Option<&'a Entry>

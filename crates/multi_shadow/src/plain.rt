@@ -1,7 +1,7 @@
 //! The same table as a plain list without contracts, for a test to compare with.
 use crate::entry::{is_for, is_of_space, is_table, is_target};
 use cloak_base::{Frame, Kind, NoMemory, SpaceId};
-use shadow_fold::{Entry, ShadowCounts, ShadowView};
+use shadow_fold::{Entry, Regime, ShadowCounts};
 use std::alloc::Global;
 
 #[derive(Drop)]
@@ -21,7 +21,7 @@ impl PlainShadows {
         Ok(PlainShadows { live, counts })
     }
 
-    pub(crate) fn find(&mut self, v: &ShadowView, page: u32, kind: Kind) -> Option<Entry> {
+    pub(crate) fn find(&mut self, v: &Regime, page: u32, kind: Kind) -> Option<Entry> {
         self.counts.accesses = self.counts.accesses.saturating_add(1);
         let found = self.live.iter().find(|e| is_for(e, v, page, kind)).copied();
         if found.is_none() {

@@ -1,5 +1,5 @@
-//! The entry that was learnt last, of each kind of access. It stands in a place of its own, and not in the arena.
-//! Where most looks miss, it ends before the next one of its kind comes, so that no chain is changed for it.
+//! The entry that was learnt last, of each kind of access. It stands in a place of its own, and not in the arena. If
+//! most looks miss, it ends before the next one of its kind comes, so that no chain is changed for it.
 ghost use Rattle.std.specs.Prelude.{◌≡◌, ◌∷◌, ◌<◌, [], find, length, option_map};
 ghost use Rattle.std.specs.List.Sorted.{IsPermutation};
 ghost use Rattle.multi_shadow.specs.Placed.{ArePlaced, IsPower, live_in};
@@ -12,7 +12,7 @@ use crate::entry::{is_for, is_of_space, is_table, is_target};
 use crate::places::place;
 use chain_arena::ChainArena;
 use cloak_base::{Frame, Kind, SpaceId};
-use shadow_fold::{Entry, ShadowView};
+use shadow_fold::{Entry, Regime};
 
 /// A place for the entry of each kind of access.
 #[derive(Drop)]
@@ -44,7 +44,7 @@ fn end_target_in(place: &mut Option<Entry>, f: Frame)
     }
 }
 
-/// Empties a place whose entry has this table frame, and answers whether there was one.
+/// Empties a place whose entry has this table frame, and tells whether there was one.
 #[inline(always)]
 fn end_dependent_in(place: &mut Option<Entry>, f: Frame) -> bool
     ensures { place.new ≡ left_in (entries.is_table f) place.old }
@@ -58,7 +58,7 @@ fn end_dependent_in(place: &mut Option<Entry>, f: Frame) -> bool
     false
 }
 
-/// Empties a place whose entry is of a view of this space.
+/// Empties a place whose entry is of a regime of this space.
 fn end_space_in(place: &mut Option<Entry>, s: SpaceId)
     ensures { place.new ≡ left_in (entries.is_of_space s) place.old }
 {
@@ -101,9 +101,9 @@ impl Recent {
         }
     }
 
-    /// The entry of a view, page and kind, in the place of its kind.
+    /// The entry of a regime, page and kind, in the place of its kind.
     #[inline(always)]
-    pub(crate) fn find<'a>(&'a self, v: &ShadowView, page: u32, kind: Kind) -> Option<&'a Entry>
+    pub(crate) fn find<'a>(&'a self, v: &Regime, page: u32, kind: Kind) -> Option<&'a Entry>
         requires { AreOfKind self.now }
         ensures { option_map (λ e. e.now) result ≡ find (entries.is_for v.now page kind) (recent_entries self.now) }
     {
@@ -141,7 +141,7 @@ impl Recent {
         end_target_in(&mut self.store, f);
     }
 
-    /// Ends the entries of which this is a table frame, and answers whether there was one.
+    /// Ends the entries of which this is a table frame, and tells whether there was one.
     #[inline(always)]
     pub(crate) fn end_dependents(&mut self, f: Frame) -> bool
         ensures { self.new ≡ left_of (entries.is_table f) self.old }
@@ -152,7 +152,7 @@ impl Recent {
         fetch | load | store
     }
 
-    /// Ends the entries of the views of this space.
+    /// Ends the entries of the regimes of this space.
     pub(crate) fn end_space(&mut self, s: SpaceId)
         ensures { self.new ≡ left_of (entries.is_of_space s) self.old }
     {

@@ -1,4 +1,4 @@
-ghost use Rattle.std.specs.Prelude.{◌≡◌, ◌∷◌, ◌<◌, ◌≤◌, true, false, length, find, option_map, IfOk};
+ghost use Rattle.std.specs.Prelude.{◌≡◌, ◌∷◌, ◌<◌, ◌≤◌, ◌^◌, true, false, length, find, option_map, IfOk, OnErr};
 ghost use Rattle.std.specs.List.Sorted.{IsPermutation};
 ghost use Rattle.shadow_fold.specs.Entries.{is_for, is_target, is_table, is_of_space, IsWithin};
 ghost use Rattle.multi_shadow.specs.Placed.{IsPower};
@@ -10,19 +10,19 @@ use crate::places::{prune_all, prune_frame, search};
 use crate::recent::{Recent, keep};
 use chain_arena::{Chain, ChainArena};
 use cloak_base::{Frame, Kind, Mode, NoMemory, SpaceId};
-use shadow_fold::{Entry, ShadowCounts, ShadowView};
+use shadow_fold::{Entry, Regime, ShadowCounts};
 use std::alloc::Global;
 use std::marker::Model;
 
 /// How many entries may be live. The arena has a slot for each.
 const ROOM: u32 = 1024;
 
-/// For how many misses nothing is to be learnt where what was learnt was ended before a look found it.
+/// For how many misses nothing should be learnt, if what was learnt was ended before a look found it.
 const PAUSE: u8 = 15;
 
 /// What lies in a slot that is not in use.
 const NO_ENTRY: Entry = Entry {
-    view: ShadowView::Outside {
+    regime: Regime::Outside {
         satp: 0,
         mode: Mode::U,
         sum: false,
@@ -44,9 +44,9 @@ pub struct Shadows {
     arena: ChainArena<Entry>,
     recent: Recent,
     counts: ShadowCounts,
-    /// How many looks had found an entry when a recent one was last ended through its tables. The view does not show it.
+    /// How many looks had found an entry when a recent one was last ended through its tables. The regime does not show it.
     hits: u64,
-    /// For how many misses more it is not worth it to learn. The view does not show it.
+    /// For how many misses more it is not worth it to learn. The regime does not show it.
     pause: u8,
 }
 
@@ -63,9 +63,10 @@ impl Model for Shadows {
     ghost invariant = { AreKept };
 }
 
-/// The least power of two that is a number or more. None where it is no `u32`.
+/// The least power of two that is a number or more. Err if it is no `u32`: for a number above 2^31.
 fn power_from(number: u32) -> Result<u32, NoMemory>
-    ensures { IfOk result (λ n. (number ≤ n) × IsPower n) }
+    ensures power { IfOk result (λ n. (number ≤ n) × IsPower n) }
+    ensures refused { OnErr result (2 ^ 31 < number) }
 {
     if number <= 1 {
         return Ok(1);
@@ -77,8 +78,8 @@ fn power_from(number: u32) -> Result<u32, NoMemory>
     Ok(1 << places)
 }
 
-/// A recent entry was ended through its tables, or none was. Where no look has found an entry since one was last ended so,
-/// what is learnt is not found, and nothing is to be learnt for the next misses.
+/// A recent entry was ended through its tables, or none was. If no look has found an entry since one was last ended
+/// like this, what is learnt is not found, and nothing should be learnt for the next misses.
 #[inline(always)]
 fn note_end(ended: bool, counts: &ShadowCounts, hits: &mut u64, pause: &mut u8) {
     if ended {
@@ -113,9 +114,9 @@ impl Shadows {
         })
     }
 
-    /// The live entry of this view, page and kind. One access, and one miss where there is none.
+    /// The live entry of this regime, page and kind. One access, and one miss if there is none.
     #[inline(always)]
-    pub fn find(&mut self, v: &ShadowView, page: u32, kind: Kind) -> Option<Entry>
+    pub fn find(&mut self, v: &Regime, page: u32, kind: Kind) -> Option<Entry>
         ensures exact { result ≡ find (is_for v.now page kind) self.old.live }
         ensures counted { self.new ≡ looked v.now page kind self.old }
     {
@@ -131,7 +132,7 @@ impl Shadows {
 
     /// The same, with nothing counted: the recent entry, or one in the arena.
     #[inline(always)]
-    fn look<'a>(&'a self, v: &ShadowView, page: u32, kind: Kind) -> Option<&'a Entry>
+    fn look<'a>(&'a self, v: &Regime, page: u32, kind: Kind) -> Option<&'a Entry>
         ensures { option_map (λ e. e.now) result ≡ find (is_for v.now page kind) self.now.live }
     {
         match self.recent.find(v, page, kind) {
@@ -140,15 +141,15 @@ impl Shadows {
         }
     }
 
-    /// Makes an entry live, unless one of its view, page and kind is, or one of its frames is none of the table's. Nothing
+    /// Makes an entry live, unless one of its regime, page and kind is, or one of its frames is none of the table's. Nothing
     /// is counted as an access.
     #[inline(always)]
     pub fn learn(&mut self, e: Entry)
-        ensures born { IsWithin self.old.frames e → AreBirthCalls (is_known e.view e.page e.kind self.old) e self.old self.new }
+        ensures born { IsWithin self.old.frames e → AreBirthCalls (is_known e.regime e.page e.kind self.old) e self.old self.new }
         ensures beyond { (IsWithin self.old.frames e → ⊥) → self.new ≡ self.old }
     {
         if is_within(self.frames, &e) {
-            let known = self.look(&e.view, e.page, e.kind).is_some();
+            let known = self.look(&e.regime, e.page, e.kind).is_some();
             if !known {
                 self.insert(e);
             }
@@ -159,7 +160,7 @@ impl Shadows {
     /// table's. Nothing is counted as an access, and nothing is looked for.
     #[inline(always)]
     pub fn learn_missed(&mut self, e: Entry)
-        requires unknown { is_known e.view e.page e.kind self.old ≡ false }
+        requires unknown { is_known e.regime e.page e.kind self.old ≡ false }
         ensures born { IsWithin self.old.frames e → AreBirthCalls false e self.old self.new }
         ensures beyond { (IsWithin self.old.frames e → ⊥) → self.new ≡ self.old }
     {
@@ -168,7 +169,7 @@ impl Shadows {
         }
     }
 
-    /// Whether it is worth it to learn an entry of which a look has missed. Where the last ones were ended through their
+    /// Whether it is worth it to learn an entry of which a look has missed. If the last ones were ended through their
     /// tables before a look found one, it is not, for some misses. A hint: no clause rests on it.
     #[inline(always)]
     pub fn is_worth_learning(&mut self) -> bool
@@ -181,10 +182,10 @@ impl Shadows {
         false
     }
 
-    /// The entry becomes live. Where 1024 are live, all of them end first, and a flush is counted.
+    /// The entry becomes live. If 1024 are live, all of them end first, and a flush is counted.
     #[inline(always)]
     pub(crate) fn insert(&mut self, e: Entry)
-        requires unknown { is_known e.view e.page e.kind self.old ≡ false }
+        requires unknown { is_known e.regime e.page e.kind self.old ≡ false }
         requires within { IsWithin self.old.frames e }
         ensures live { IsPermutation (e ∷ (with_room self.old).live) self.new.live }
         ensures rest { self.new ≡ with_live self.new.live (with_room self.old) }
@@ -201,7 +202,7 @@ impl Shadows {
         self.recent.count() + self.arena.used() >= ROOM as usize
     }
 
-    /// Where 1024 are live, all of them end, and a flush is counted.
+    /// If 1024 are live, all of them end, and a flush is counted.
     #[inline(always)]
     fn make_room(&mut self)
         ensures { self.new ≡ with_room self.old }
@@ -214,7 +215,7 @@ impl Shadows {
     /// The entry becomes live, for which there is room.
     #[inline(always)]
     fn put(&mut self, e: Entry)
-        requires unknown { is_known e.view e.page e.kind self.old ≡ false }
+        requires unknown { is_known e.regime e.page e.kind self.old ≡ false }
         requires within { IsWithin self.old.frames e }
         requires room { length self.old.live < 1024 }
         ensures live { IsPermutation (e ∷ self.old.live) self.new.live }
@@ -242,7 +243,7 @@ impl Shadows {
         prune_frame(&mut self.arena, self.heads, Chain::Second, f);
     }
 
-    /// Ends the entries of the views of this space.
+    /// Ends the entries of the regimes of this space.
     pub fn kill_space(&mut self, s: SpaceId)
         ensures { self.new ≡ ending (is_of_space s) self.old }
     {
@@ -261,7 +262,7 @@ impl Shadows {
         self.counts.flushes = self.counts.flushes.saturating_add(1);
     }
 
-    /// Ends all entries, and begins to count anew.
+    /// Ends all entries, and counts from zero again.
     pub fn restart(&mut self)
         ensures { self.new ≡ empty_table self.old.frames }
     {

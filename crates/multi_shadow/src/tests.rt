@@ -2,14 +2,14 @@ ghost use Rattle.std.specs.Prelude.{◌≡◌, ◌<◌, false, None, IfSome};
 ghost use Rattle.cloak_base.specs.declared.names.Kind.TheVariants.{Load};
 ghost use Rattle.cloak_base.specs.declared.names.Mode.TheVariants.{S};
 ghost use Rattle.shadow_fold.specs.Entries.{IsWithin};
-ghost use Rattle.shadow_fold.specs.declared.entry.ShadowView.TheVariants.{Outside};
+ghost use Rattle.shadow_fold.specs.declared.entry.Regime.TheVariants.{Outside};
 
 use super::*;
 use crate::plain::PlainShadows;
 use cloak_base::{Frame, Kind, Mode, SpaceId};
 use std::test::Fail;
 
-const BARE: ShadowView = ShadowView::Outside {
+const BARE: Regime = Regime::Outside {
     satp: 0,
     mode: Mode::S,
     sum: false,
@@ -18,7 +18,7 @@ const BARE: ShadowView = ShadowView::Outside {
 
 fn load_of(page: u32) -> Entry
     ensures { result ≡ record {
-      view = Outside 0 S false false;
+      regime = Outside 0 S false false;
       page = page;
       kind = Load;
       frame = record { 0 = 3 };
@@ -28,7 +28,7 @@ fn load_of(page: u32) -> Entry
     } }
 {
     Entry {
-        view: BARE,
+        regime: BARE,
         page,
         kind: Kind::Load,
         frame: Frame(3),
@@ -64,23 +64,23 @@ fn next_word(word: u32) -> u32 {
     word.wrapping_mul(1664525).wrapping_add(1013904223)
 }
 
-fn view_of(word: u32) -> ShadowView {
+fn regime_of(word: u32) -> Regime {
     let satp = word / 8 % 2;
     let sum = word % 2 == 1;
     match word / 2 % 4 {
-        0 => ShadowView::Outside {
+        0 => Regime::Outside {
             satp,
             mode: Mode::S,
             sum,
             mxr: false,
         },
-        1 => ShadowView::Outside {
+        1 => Regime::Outside {
             satp,
             mode: Mode::U,
             sum,
             mxr: false,
         },
-        n => ShadowView::Inside {
+        n => Regime::Inside {
             satp,
             sum,
             mxr: false,
@@ -115,7 +115,7 @@ fn entry_of(word: u32) -> Entry
     ensures { IsWithin 64 result }
 {
     Entry {
-        view: view_of(word / 1024),
+        regime: regime_of(word / 1024),
         page: word / 4096 % 256,
         kind: kind_of(word / 256),
         frame: Frame(word / 65536 % 64),
@@ -125,12 +125,12 @@ fn entry_of(word: u32) -> Entry
     }
 }
 
-/// Looks for the entry's page, and makes the entry live where it is not known.
+/// Looks for the entry's page, and makes the entry live if it is not known.
 fn look(shadows: &mut Shadows, e: Entry) -> Option<Entry>
     requires { IsWithin shadows.old.frames e }
     ensures { shadows.new.frames ≡ shadows.old.frames }
 {
-    let found = shadows.find(&e.view, e.page, e.kind);
+    let found = shadows.find(&e.regime, e.page, e.kind);
     if found.is_none() {
         shadows.insert(e);
     }
@@ -169,7 +169,7 @@ fn finds_what_a_plain_list_finds(rt: HostRuntime) -> Result<(), Fail> {
     for i in 1..10000 {
         word = next_word(word);
         let e = entry_of(word);
-        let expected = plain.find(&e.view, e.page, e.kind);
+        let expected = plain.find(&e.regime, e.page, e.kind);
         if expected.is_none() {
             plain.insert(e);
         }

@@ -1,12 +1,12 @@
 ghost use Rattle.std.specs.Prelude.{◌≡◌, ◌≢◌, ◌++◌, List, ℕ, [], None, Ok, Some, length, take, drop, min, unwrap_or};
 ghost use Rattle.std.specs.Prelude.{IsOk, OnOk, OnErr};
-ghost use Rattle.outside_io.specs.Told.{OtherFiles, SameFiles};
+ghost use Rattle.io_traits.specs.Told.{OtherFiles, SameFiles};
 ghost use Rattle.never_fails.specs.Handed.{handed_in};
 ghost use Rattle.never_fails.specs.Sums.{Sums, counted};
 
 use crate::sum::Sum;
 use cloak_base::{Failed, NoMemory};
-use outside_io::Shelf;
+use io_traits::Shelf;
 use std::alloc::Global;
 use std::collections::BTreeMap;
 
@@ -34,7 +34,7 @@ impl NeverShelf {
         }
     }
 
-    /// Hands a file in, in the place of any of this name.
+    /// Hands a file in, instead of any of this name.
     pub fn add(&mut self, name: &str, bytes: &[u8]) -> Result<(), NoMemory>
         ensures ok { OnOk result (handed_in self.new.files name.now ≡ Some bytes.now) }
         ensures others { OnOk result (OtherFiles name.now (handed_in self.old.files) (handed_in self.new.files)) }

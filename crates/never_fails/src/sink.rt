@@ -3,7 +3,7 @@ ghost use Rattle.never_fails.specs.Sums.{Sums, counted};
 
 use crate::sum::Sum;
 use cloak_base::Failed;
-use outside_io::Sink;
+use io_traits::Sink;
 
 /// A sink that takes every piece whole, and keeps count and digest.
 #[derive(Drop)]

@@ -23,7 +23,7 @@ impl Sum {
         }
     }
 
-    /// Takes a piece behind the bytes so far.
+    /// Takes a piece after the bytes so far.
     pub fn put(&mut self, piece: &[u8])
         ensures { (bytes : List ℕ) → Sums self.old bytes → Sums self.new (bytes ++ piece.now) }
     {

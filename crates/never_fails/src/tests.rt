@@ -1,5 +1,5 @@
 use super::*;
-use outside_io::{Shelf, put_all};
+use io_traits::{Shelf, put_all};
 use std::test::Fail;
 
 /// The digest of `abc` (FIPS 180-4, the example of SHA-256).

@@ -9,6 +9,6 @@ pub record IsPlain (key iv sealed plain : List ℕ) : Type 0 where
   pub seals_back : cbc key iv plain ≡ sealed
   pub only_one : (p : List ℕ) → IsBytes 4096 p → cbc key iv p ≡ sealed → plain ≡ p
 
--- the one page that seals to these bytes, and what is so of it
+-- the one page that seals to these bytes, and what is true of it
 abbrev pub OpensTo : List ℕ → List ℕ → List ℕ → (List ℕ → Type 0) → Type 0
 OpensTo key iv sealed P = (plain : List ℕ) × IsPlain key iv sealed plain × P plain

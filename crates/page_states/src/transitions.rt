@@ -5,7 +5,7 @@ ghost use Rattle.cloak_model.specs.Chain.{cbc};
 ghost use Rattle.aes_block.specs.Bytes.{IsBytes};
 ghost use Rattle.page_states.specs.Opening.{IsPlain, OpensTo};
 
-use aes_block::Schedule;
+use aes_block::KeySchedule;
 use cloak_base::{Meta, PageId};
 use frame_store::{ChangedRight, CleanRight, FrameStore, OutsideRight};
 use sha2::{Digest, Sha256};
@@ -13,27 +13,27 @@ use sha2::{Digest, Sha256};
 // The new bytes are made in one local page, and no call does with less: a transition of the store takes all of them by
 // reference while it writes the store, so they lie outside it.
 
-fn open_bytes(page: &mut [u8; 4096], iv: &[u8; 16], k: &Schedule)
+fn open_bytes(page: &mut [u8; 4096], iv: &[u8; 16], k: &KeySchedule)
     ensures { IsPlain k.now iv.now page.old page.new }
 {
     aes_cbc::open_page(k, iv, page);
 }
 
-fn seal_bytes(page: &mut [u8; 4096], iv: &[u8; 16], k: &Schedule)
+fn seal_bytes(page: &mut [u8; 4096], iv: &[u8; 16], k: &KeySchedule)
     ensures plain { IsBytes 4096 page.old }
     ensures sealed { page.new ≡ cbc k.now iv.now page.old }
 {
     aes_cbc::seal_page(k, iv, page);
 }
 
-/// Opens the frame as page `q`, where it holds what `m` records.
+/// Opens the frame as page `q`, if it holds what `m` records.
 #[tactic(auto, using(std::proofs::lemmas::Option::get_or_from_slice_get))]
 pub fn open_page(
     s: &mut FrameStore,
     r: OutsideRight,
     q: PageId,
     m: &Meta,
-    k: &Schedule,
+    k: &KeySchedule,
 ) -> Result<CleanRight, OutsideRight>
     requires { r.0 < length s.old }
     ensures opened_where_recorded { IfOk result (λ _. sha256 (slice_index_or s.old r.0 []) ≡ m.now.digest) }
@@ -67,8 +67,8 @@ pub fn change(r: CleanRight) -> ChangedRight
     frame_store::promote(r)
 }
 
-/// Shows again what was shown before, where `m` is what the frame was opened with.
-pub fn reseal(s: &mut FrameStore, r: CleanRight, m: &Meta, k: &Schedule) -> OutsideRight
+/// Shows again what was shown before, if `m` is what the frame was opened with.
+pub fn reseal(s: &mut FrameStore, r: CleanRight, m: &Meta, k: &KeySchedule) -> OutsideRight
     requires { r.frame.0 < length s.old }
     ensures bytes { s.new ≡ slice_set s.old r.frame.0 (cbc k.now m.now.iv (slice_index_or s.old r.frame.0 [])) }
     ensures right { result ≡ r.frame }
@@ -78,8 +78,13 @@ pub fn reseal(s: &mut FrameStore, r: CleanRight, m: &Meta, k: &Schedule) -> Outs
     s.from_clean(r, &page)
 }
 
-/// Shows the changed page under an IV that was used for no other, and gives what is to be recorded of it.
-pub fn seal(s: &mut FrameStore, r: ChangedRight, iv: [u8; 16], k: &Schedule) -> (OutsideRight, Meta)
+/// Shows the changed page under an IV that was used for no other, and returns what must be recorded of it.
+pub fn seal(
+    s: &mut FrameStore,
+    r: ChangedRight,
+    iv: [u8; 16],
+    k: &KeySchedule,
+) -> (OutsideRight, Meta)
     requires { r.frame.0 < length s.old }
     ensures bytes { s.new ≡ slice_set s.old r.frame.0 (cbc k.now iv (slice_index_or s.old r.frame.0 [])) }
     ensures plain { IsBytes 4096 (slice_index_or s.old r.frame.0 []) }

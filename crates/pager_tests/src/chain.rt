@@ -2,7 +2,7 @@
 ghost use Rattle.std.specs.Prelude.{◌<◌};
 
 use crate::checks::same;
-use aes_block::Schedule;
+use aes_block::KeySchedule;
 use aes_cbc::{seal_blocks, seal_page};
 
 static KEY: u128 = 0x2b7e151628aed2a6abf7158809cf4f3c;
@@ -39,7 +39,7 @@ fn block_at(page: &[u8; 4096], j: usize) -> u128
 
 #[test]
 fn seals_the_standards_blocks(rt: HostRuntime) {
-    let schedule = Schedule::new(&KEY.to_be_bytes());
+    let schedule = KeySchedule::new(&KEY.to_be_bytes());
     let mut blocks = [
         CHAIN[0].0.to_be_bytes(),
         CHAIN[1].0.to_be_bytes(),
@@ -61,7 +61,7 @@ static OF_A_PAGE: [(usize, u128); 3] = [
 
 #[test]
 fn seals_a_page_as_openssl_does(rt: HostRuntime) {
-    let schedule = Schedule::new(&KEY.to_be_bytes());
+    let schedule = KeySchedule::new(&KEY.to_be_bytes());
     let mut page = [0; 4096];
     for i in 0..4096 {
         page[i] = ((7 * i + i / 16) % 256) as u8;

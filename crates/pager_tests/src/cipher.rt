@@ -1,7 +1,7 @@
 //! Blocks under AES-128.
 
 use crate::checks::same;
-use aes_block::Schedule;
+use aes_block::KeySchedule;
 
 /// Key, plain block and cipher block.
 static CASES: [(u128, u128, u128); 9] = [
@@ -61,7 +61,7 @@ static CASES: [(u128, u128, u128); 9] = [
 #[test]
 fn enciphers_the_standards_vectors(rt: HostRuntime) {
     for &(key, plain, sealed) in &CASES {
-        let schedule = Schedule::new(&key.to_be_bytes());
+        let schedule = KeySchedule::new(&key.to_be_bytes());
         let mut block = plain.to_be_bytes();
         schedule.encrypt_block(&mut block);
         let found = u128::from_be_bytes(block);

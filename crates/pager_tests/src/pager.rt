@@ -8,7 +8,7 @@ ghost use Rattle.cloak_pager.specs.State.{held_in, owed_at};
 use crate::checks::same;
 use cloak_base::{Frame, Meta, PageId};
 use cloak_pager::{Offered, Pager, Touched};
-use outside_io::Stream;
+use io_traits::Stream;
 use sha2::{Digest, Sha256};
 use std::process::Abort;
 use std::test::Fail;
@@ -153,7 +153,7 @@ fn is_page(q: PageId) -> bool
     q.domain < 1 && q.resource < 16 && q.page < 1024
 }
 
-/// The bytes from 10 on, so many.
+/// This many bytes, from 0x10 on.
 fn stream_of(rt: &HostRuntime, bytes: u8) -> Result<Stream, Fail>
     requires { bytes < 100 }
 {
@@ -165,7 +165,7 @@ fn stream_of(rt: &HostRuntime, bytes: u8) -> Result<Stream, Fail>
 }
 
 impl Run {
-    /// A run whose stream has so many bytes.
+    /// A run whose stream has this many bytes.
     fn open(rt: &HostRuntime, bytes: u8) -> Result<Run, Fail>
         requires { bytes < 100 }
     {
@@ -188,7 +188,7 @@ impl Run {
         })
     }
 
-    /// A run whose stream had so many bytes when page Q was to be placed in frame 5 with a 7, and whether it was.
+    /// A run whose stream had this many bytes when page Q was to be placed in frame 5 with a 7, and whether it was.
     fn placed(rt: &HostRuntime, bytes: u8) -> Result<(Run, bool), Fail>
         requires { bytes < 100 }
     {
@@ -451,7 +451,7 @@ static TWO_FRAMES_AND_TWO_NAMES: [(Step, Seen); 20] = [
     (Step::Offer(Q, F6, false), Seen::Offer(Offered::Mismatch)),
 ];
 
-/// A copy is opened by what was shown of the page, also where the page itself is dropped and as never shown.
+/// A copy is opened by what was shown of the page, also when the page itself is dropped and is as if never shown.
 static CLOSED_COPIED_AND_DROPPED: [(Step, Seen); 14] = [
     (Step::Copy(0, 1), Seen::Unmet),
     (Step::Close, Seen::Done),
@@ -469,8 +469,8 @@ static CLOSED_COPIED_AND_DROPPED: [(Step, Seen); 14] = [
     (Step::Reads, Seen::Reads(4)),
 ];
 
-/// Where no draw is left, a changed page is not shown, and what was shown of it before is its record still. The
-/// kernel's stores are seen as they are, and refused.
+/// If no draw is left, a changed page is not shown, and what was shown of it before is still its record. The kernel's
+/// stores are seen as they are, and refused.
 static WIPED: [(Step, Seen); 14] = [
     (Step::Offer(Q, F5, true), Seen::Offer(Offered::Ready)),
     (Step::Touch(F5), Seen::Touch(Touched::Sealed)),

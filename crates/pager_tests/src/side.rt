@@ -5,12 +5,12 @@ ghost use Rattle.cloaked_side.specs.Holding.{domains_in};
 
 use crate::checks::{holds, same};
 use cloak_base::{Frame, Kind, Mode, NoMemory, PageId, SpaceId};
-use cloak_model::{Access, Answer, Emit, Item, PageSide, View};
+use cloak_model::{Access, Answer, Emit, InsideRegime, Item, PageSide};
 use cloak_pager::Pager;
 use cloaked_side::{KeptItems, Memory, Side};
 use host_calls::{Ram, Reservations};
+use io_traits::Stream;
 use multi_shadow::Shadows;
-use outside_io::Stream;
 use rv_atomic::AtomicOp;
 use std::alloc::Global;
 use std::test::Fail;
@@ -36,7 +36,7 @@ const Q1: PageId = PageId {
     page: 3,
 };
 
-const VIEW: View = View {
+const REGIME: InsideRegime = InsideRegime {
     satp: 0,
     sum: false,
     mxr: false,
@@ -85,7 +85,7 @@ fn fresh(alloc: Global) -> Result<Memory, NoMemory>
     })
 }
 
-/// Stores and loads what is not cloaked; stores into page Q; copies it; drops it; and reads the copy. None where a
+/// Stores and loads what is not cloaked; stores into page Q; copies it; drops it; and reads the copy. None if a
 /// question was not granted.
 fn ask_each<M: PageSide>(m: &mut M) -> Option<(Answer, u32)>
     requires domain { M.serves m.old ≡ 0 }
@@ -147,7 +147,7 @@ fn answers_each_question(rt: HostRuntime) -> Result<(), Fail> {
         emitter: &mut e,
         items: &mut items,
         violation: None,
-        view: VIEW,
+        regime: REGIME,
         space: Some(SPACE),
         reached: Frame(0),
     };
@@ -265,7 +265,7 @@ fn reserves_what_is_not_cloaked(rt: HostRuntime) -> Result<(), Fail> {
         emitter: &mut e,
         items: &mut items,
         violation: None,
-        view: VIEW,
+        regime: REGIME,
         space: None,
         reached: Frame(0),
     };
@@ -308,7 +308,7 @@ fn ends_reservations_where_a_page_is_sealed(rt: HostRuntime) -> Result<(), Fail>
         emitter: &mut e,
         items: &mut items,
         violation: None,
-        view: VIEW,
+        regime: REGIME,
         space: Some(SPACE),
         reached: Frame(0),
     };
@@ -337,7 +337,7 @@ fn keeps_reservations_where_a_page_is_shown_again(rt: HostRuntime) -> Result<(),
         emitter: &mut e,
         items: &mut items,
         violation: None,
-        view: VIEW,
+        regime: REGIME,
         space: Some(SPACE),
         reached: Frame(0),
     };

@@ -1,7 +1,7 @@
 //! A frame goes through its states.
 
 use crate::checks::same;
-use aes_block::Schedule;
+use aes_block::KeySchedule;
 use cloak_base::{NoMemory, PageId};
 use frame_store::FrameStore;
 use page_states::{first_page, open_page, reseal, seal};
@@ -26,7 +26,7 @@ fn digests_the_standards_example(rt: HostRuntime) {
 
 #[test]
 fn a_frame_goes_through_every_state(rt: HostRuntime) -> Result<(), NoMemory> {
-    let k = Schedule::new(&0x2b7e151628aed2a6abf7158809cf4f3c_u128.to_be_bytes());
+    let k = KeySchedule::new(&0x2b7e151628aed2a6abf7158809cf4f3c_u128.to_be_bytes());
     let iv = 0x000102030405060708090a0b0c0d0e0f_u128.to_be_bytes();
     let page = PageId {
         domain: 0,

@@ -33,7 +33,7 @@ value_of_no_page n row p h = elim (is_page_tells n p) [ inl t ↦ absurd (h t.1)
 one_place : (n : ℕ) (p q : PageId) → IsIn n p → IsIn n q → index_of p ≡ index_of q → p ≡ q
 one_place n p q there there' e = same_numbers p q (omega arith) (omega arith) (omega arith)
 
--- where no value is, there is none
+-- if there can be no value, there is none
 pub only_none : {A : Type 0} (P : Option A → Type 0) → ((v : A) → P (Some v) → ⊥) → (o : Option A) → P o → o ≡ None
 only_none P never None h = refl
 only_none P never (Some v) h = absurd (never v h)

@@ -18,7 +18,7 @@ abbrev pub FollowFrom : ℕ → List FileRow → ℕ → Type 0
 FollowFrom at [] end = at ≡ end
 FollowFrom at (r ∷ rows) end = (r.first ≡ at) × FollowFrom (at + r.count) rows end
 
--- there is room for 4096 pages, and so many of them belong to files
+-- there is room for 4096 pages, and this many of them belong to files
 pub record IsLaidOut (rows : List FileRow) (used : ℕ) (pages : List (Option Meta)) : Type 0 where
   pub follow : FollowFrom 0 rows used
   pub room : length pages ≡ 4096

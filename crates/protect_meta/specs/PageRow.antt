@@ -8,7 +8,7 @@ pub record PageRow (A : Type 0) : Type 0 where
   pub domains : ℕ
   pub row : List (Option A)
 
--- what stands for a page; none where nothing does, and where there is no such page
+-- what stands for a page; none if nothing does, and if there is no such page
 unfoldable pub at_page : {A : Type 0} → PageRow A → PageId → Option A
 at_page t p = value_in_row t.domains t.row p
 

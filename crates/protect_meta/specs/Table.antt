@@ -7,7 +7,7 @@ use Rattle.protect_meta.specs.PageRow.{PageRow, at_page}
 abbrev pub Table : Type 0
 Table = PageRow Meta
 
--- the metadata of a page; none where it has none, and where there is no such page
+-- the metadata of a page; none if it has none, and if there is no such page
 abbrev pub meta_at : Table → PageId → Option Meta
 meta_at t = at_page t
 

@@ -1,19 +1,19 @@
--- What `view` and `solo` answer.
+-- The answers of `view` and `solo`.
 use Rattle.std.proofs.Common.{◌≡◌, ◌<◌, ◌-◌, ◌^◌, ℕ, List, Option, Some, Err, refl, sym, ap, subst, ◌∙◌, inl, inr}
-use Rattle.outside_io.specs.Told.{SameFiles, Grows, GrowsByFront, Rose}
+use Rattle.io_traits.specs.Told.{SameFiles, Grows, GrowsByFront, Rose}
 use Rattle.cloak_model.specs.declared.image.Bundle.{Bundle}
 use Rattle.cloak_model.specs.declared.image.Program.{Program}
 use Rattle.cloak_model.specs.declared.item.Item.{Item}
 use Rattle.command_words.specs.Command as spec
-use Rattle.program_parts.specs.declared.refusal.Refusal.{Refusal}
-use Rattle.program_parts.specs.declared.refusal.Refusal.TheVariants as refusal
-use Rattle.program_parts.specs.declared.status.Status.{Status}
-use Rattle.program_parts.specs.NoRun.{NoRun, IsRefused}
-use Rattle.program_parts.specs.Outside.{Outside, Output, Raised}
-use Rattle.program_parts.specs.Refusal.{status_of_refusal}
-use Rattle.program_parts.specs.Refusing.{Refuses}
-use Rattle.program_parts.proofs.FaultFacts.{raised}
-use Rattle.program_parts.proofs.Refused.{IsUnread, unread}
+use Rattle.command_parts.specs.declared.refusal.Refusal.{Refusal}
+use Rattle.command_parts.specs.declared.refusal.Refusal.TheVariants as refusal
+use Rattle.command_parts.specs.declared.status.Status.{Status}
+use Rattle.command_parts.specs.NoRun.{NoRun, IsRefused}
+use Rattle.command_parts.specs.Outside.{Outside, Output, Raised}
+use Rattle.command_parts.specs.Refusal.{status_of_refusal}
+use Rattle.command_parts.specs.Refusing.{Refuses}
+use Rattle.command_parts.proofs.FaultFacts.{raised}
+use Rattle.command_parts.proofs.Refused.{IsUnread, unread}
 use Rattle.read_back.specs.Answering.{AsksView, AsksSolo, OnlyShows, HasView, HasSolo, ViewAnswers, SoloAnswers, viewed_unfit, viewed_text, program_unfit, program_text}
 use Rattle.read_back.specs.Reading.{IsReadTo, ReadsBack, BreaksOff, ShowsRecord, status_of_ending}
 use Rattle.read_back.specs.declared.ending.Ending.{Ending}

@@ -14,8 +14,8 @@ use Rattle.alone_views.specs.KernelStanding.{StandsForKernel, TakesItem, answer_
 use Rattle.record_reader.specs.Ahead.{readable}
 use Rattle.record_reader.specs.Reading.{IsBehind, reader_offset}
 use Rattle.record_reader.specs.declared.reader.Reader.{Reader}
-use Rattle.outside_io.specs.declared.sink.Sink as sinks
-use Rattle.outside_io.proofs.ToldFacts.{Grows-none}
+use Rattle.io_traits.specs.declared.sink.Sink as sinks
+use Rattle.io_traits.proofs.ToldFacts.{Grows-none}
 use Rattle.read_back.specs.Answering.{viewed_unfit}
 use Rattle.read_back.specs.Reading.{IsReadTo}
 use Rattle.read_back.specs.Screen.{GaveScreen, ShowsText}
@@ -47,7 +47,7 @@ emits_then {E} {gave} {e} {f} {h} {ps} {qs} first second = record {
       (second.more start (before ++ ps) (first.more start before given));
 }
 
-at_front : (reader : Reader) (told : Option (List ℕ)) → ((bytes : List ℕ) → IsBehind reader bytes []) →
+pub at_front : (reader : Reader) (told : Option (List ℕ)) → ((bytes : List ℕ) → IsBehind reader bytes []) →
     IfSome told (λ bytes. IsBehind reader (readable bytes) [])
 at_front reader (Some bytes) front = front (readable bytes)
 at_front reader None front = tt
@@ -120,7 +120,7 @@ kernel_takes_next {E} {gave} {e} {f} {h} {k} {old} {new} {told} {was} {now} give
           let few = reads.few in let one = took.gains.at_most_one in omega (arith, long, few, one, moved);
     }
 
--- where it fits, reading goes on
+-- if it fits, reading goes on
 answer_fits : (u : Option ℕ) → Ok tt ≡ answer_for u → u ≡ None
 answer_fits None is = refl
 answer_fits (Some step) is = absurd (let clash : Ok tt ≡ Err (record { step = step }) = is in cc)
@@ -137,7 +137,7 @@ kernel_goes_on {E} {gave} {e} {e'} {k} {machine} {told} {reader} given took ok =
   few = took.few;
 }
 
--- where it does not, reading ends there
+-- if it does not, reading ends there
 answer_unfits : (u : Option ℕ) (f : Unfit) → Err f ≡ answer_for u → u ≡ Some f.step
 answer_unfits None f is = absurd (let clash : Err f ≡ Ok tt = is in cc)
 answer_unfits (Some step) f is = ap (λ (s : ℕ). Some s) (sym (ap (λ (r : Result Unit Unfit). step_told r) is))

@@ -1,14 +1,14 @@
 -- The lines at the end of reading.
 use Rattle.std.proofs.Common.{◌≡◌, ℕ, List, Option, Some, None, Result, refl}
 use Rattle.cloak_base.specs.declared.causes.Failed.{Failed}
-use Rattle.outside_io.specs.Told.{Puts}
+use Rattle.io_traits.specs.Told.{Puts}
 use Rattle.cloak_model.specs.declared.item.Item.{Item}
 use Rattle.read_back.specs.Reading.{FitsAs}
 use Rattle.read_back.specs.Text.{fault_line, lines_or_fault}
 use Rattle.read_back.specs.declared.ending.Ending.{Ending}
 use Rattle.read_back.specs.declared.ending.Ending.TheVariants as ending
 
--- where reading did not come to the end of a record
+-- if reading did not reach the end of a record
 pub fault_lines : (old new : Option (List ℕ)) (m n : ℕ) (lines : List ℕ) (e : Ending) (r : Result Unit Failed) →
     (e ≡ ending.Whole → ⊥) → Puts old new m n (fault_line e) r → Puts old new m n (lines_or_fault lines e) r
 fault_lines old new m n lines ending.Whole r not puts = absurd (not refl)
@@ -16,7 +16,7 @@ fault_lines old new m n lines (ending.Unfit step) r not puts = puts
 fault_lines old new m n lines (ending.Fault fault) r not puts = puts
 fault_lines old new m n lines ending.Unread r not puts = puts
 
--- and where it did, no item was unfit
+-- and if it did, no item was unfit
 pub fits_whole : (unfit : List Item → Option ℕ) (items : List Item) (e : Ending) → FitsAs unfit items (Some e) →
     e ≡ ending.Whole → unfit items ≡ None
 fits_whole unfit items ending.Whole fits is = fits

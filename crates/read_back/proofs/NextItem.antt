@@ -1,7 +1,7 @@
 -- What the next item of a file says of it.
 use Rattle.std.proofs.Common.{◌≡◌, ℕ, inl, inr, List, [], ◌∷◌, ◌++◌, Option, Some, None, IfSome, Result, Ok, Err, ap, subst, ◌∙◌}
-use Rattle.outside_io.specs.Told.{Rose}
-use Rattle.outside_io.proofs.ToldFacts.{Rose-after}
+use Rattle.io_traits.specs.Told.{Rose}
+use Rattle.io_traits.proofs.ToldFacts.{Rose-after}
 use Rattle.cloak_model.specs.declared.item.Item.{Item}
 use Rattle.cloak_model.specs.declared.record.Tag.{Tag}
 use Rattle.cloak_model.specs.declared.fault.RecordFault.{RecordFault}
@@ -31,7 +31,7 @@ told_map : (told : Option (List ℕ)) (P Q : List ℕ → Type 0) → ((b : List
 told_map (Some bytes) P Q f fact = f bytes fact
 told_map None P Q f fact = tt
 
--- what a result that is this one says behind these items
+-- what a result that is this one says after these items
 at_front : (now : Option (List ℕ)) (was next : Reader) (r : Result (Option Tag) NextFault) (kept : KeptItems)
     (s : Result (Option Item) NextFault) (items : List Item) → item_read r kept ≡ s → TellsNext now was next r kept →
     IfSome now (λ bytes. IsBehind was (readable bytes) items → ReadsNext (readable bytes) items next s)
@@ -74,7 +74,7 @@ next_fault told now was next r kept fault same is tells items behind =
     (λ bytes. HasFaultAt (readable bytes) items fault) (λ bytes read. read.answer)
     (next_read told now was next r kept (Err (Record fault)) same (ap (λ x. item_read x kept) is) tells items behind)
 
--- the file begins with the items behind which a reader stands
+-- the file begins with the items after which a reader stands
 begins : (reader : Reader) (items : List Item) (bytes : List ℕ) → IsBehind reader bytes items → BeginsWith bytes items
 begins reader items bytes behind = elim behind.0.place [ inl start ↦ inl start.1 | inr there ↦ inr (_, there.1) ]
 

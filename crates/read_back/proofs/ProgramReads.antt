@@ -19,6 +19,7 @@ use Rattle.read_back.specs.Viewing.{SolosTo}
 use Rattle.read_back.specs.declared.ending.Ending.{Ending}
 use Rattle.read_back.specs.declared.ending.Ending.TheVariants as ending
 use Rattle.read_back.proofs.NextItem.{told_begins}
+use Rattle.read_back.proofs.KernelReads.{at_front}
 
 -- the loads that a program completed alone
 abbrev pub loads_in : ℕ → KernelImage → Program → List Item → ℕ
@@ -32,11 +33,6 @@ pub record ProgramReads (d : ℕ) (k : KernelImage) (p : Program) (machine : Dom
   pub stands : StandsForDomain d k.schedule machine (domain_alone d k.schedule p items)
   pub behind : IfSome told (λ bytes. IsBehind reader (readable bytes) items)
   pub few : loads_in d k p items ≤ reader_offset reader
-
-at_front : (reader : Reader) (told : Option (List ℕ)) → ((bytes : List ℕ) → IsBehind reader bytes []) →
-    IfSome told (λ bytes. IsBehind reader (readable bytes) [])
-at_front reader (Some bytes) front = front (readable bytes)
-at_front reader None front = tt
 
 -- before the first item
 pub program_opens : (d : ℕ) (k : KernelImage) (p : Program) (machine : DomainAlone) (told : Option (List ℕ))
@@ -96,7 +92,7 @@ answer_fits : (u : Option ℕ) → Ok tt ≡ answer_by u → u ≡ None
 answer_fits None is = refl
 answer_fits (Some step) is = absurd (let clash : Ok tt ≡ Err (record { step = step }) = is in cc)
 
--- where it fits, reading goes on
+-- if it fits, reading goes on
 pub program_goes_on : {d : ℕ} {k : KernelImage} {p : Program} {machine : DomainAlone} {told : Option (List ℕ)}
     {reader : Reader} (given : Result Unit Unfit) → ProgramTook d k p machine told reader given → given ≡ Ok tt →
     ProgramReads d k p machine told reader
@@ -108,7 +104,7 @@ program_goes_on {d} {k} {p} {machine} {told} {reader} given took ok = record {
   few = took.few;
 }
 
--- where it does not, reading ends there
+-- if it does not, reading ends there
 answer_unfits : (u : Option ℕ) (f : Unfit) → Err f ≡ answer_by u → u ≡ Some f.step
 answer_unfits None f is = absurd (let clash : Err f ≡ Ok tt = is in cc)
 answer_unfits (Some step) f is = ap (λ (s : ℕ). Some s) (sym (ap (λ (r : Result Unit Unfit). step_told r) is))

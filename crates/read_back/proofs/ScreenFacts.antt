@@ -2,9 +2,9 @@
 use Rattle.std.proofs.Common.{◌≡◌, ℕ, Bool, true, false, List, [], ◌∷◌, ◌++◌, Option, Result, Ok, Err, OnOk, OnErr, is_err, refl, sym, ap, subst, ◌∙◌}
 use Rattle.std.proofs.Common.{append-nil, append_assoc}
 use Rattle.cloak_base.specs.declared.causes.Failed.{Failed}
-use Rattle.outside_io.specs.declared.sink.Sink as sinks
-use Rattle.outside_io.specs.Told.{Grows, GrowsByFront, Counts}
-use Rattle.outside_io.proofs.ToldFacts.{Grows-append, GrowsByFront-append, GrowsByFront-first, Rose-after}
+use Rattle.io_traits.specs.declared.sink.Sink as sinks
+use Rattle.io_traits.specs.Told.{Grows, GrowsByFront, Counts}
+use Rattle.io_traits.proofs.ToldFacts.{Grows-append, GrowsByFront-append, GrowsByFront-first, Rose-after}
 use Rattle.cloak_model.specs.Exchange.{Piece, recorded, shown, shown_bytes, Emits}
 use Rattle.read_back.specs.declared.screen.Screen.{Screen}
 use Rattle.read_back.specs.Screen.{ShowsText, GaveScreen}

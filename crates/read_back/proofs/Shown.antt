@@ -1,11 +1,11 @@
 -- What was shown of a record that was read back.
 use Rattle.std.proofs.Common.{◌≡◌, ℕ, Bool, true, false, List, [], ◌∷◌, ◌++◌, codes, Option, Some, None, Ok, Err, refl, sym, ap, subst, ◌∙◌, inl, inr}
 use Rattle.cloak_base.specs.declared.causes.Failed.{Failed}
-use Rattle.outside_io.specs.declared.shelf.Shelf as shelves
-use Rattle.outside_io.specs.declared.sink.Sink as sinks
-use Rattle.outside_io.specs.Sinks.{PutsTo}
-use Rattle.outside_io.specs.Told.{Grows, GrowsByFront, Rose}
-use Rattle.outside_io.proofs.ToldFacts.{Grows-none, Grows-append, GrowsByFront-append, GrowsByFront-first, Rose-after}
+use Rattle.io_traits.specs.declared.shelf.Shelf as shelves
+use Rattle.io_traits.specs.declared.sink.Sink as sinks
+use Rattle.io_traits.specs.Sinks.{PutsTo}
+use Rattle.io_traits.specs.Told.{Grows, GrowsByFront, Rose}
+use Rattle.io_traits.proofs.ToldFacts.{Grows-none, Grows-append, GrowsByFront-append, GrowsByFront-first, Rose-after}
 use Rattle.cloak_model.specs.declared.image.KernelImage.{KernelImage}
 use Rattle.cloak_model.specs.declared.image.Program.{Program}
 use Rattle.cloak_model.specs.Exchange.{shown_each, shown_bytes, Emits}
@@ -16,9 +16,9 @@ use Rattle.cloak_model.specs.Parts.{KernelPart}
 use Rattle.cloak_model.specs.Report.{kernel_lines}
 use Rattle.alone_views.specs.declared.domain.DomainAlone.{DomainAlone}
 use Rattle.alone_views.specs.declared.kernel.KernelAlone.{KernelAlone}
-use Rattle.program_parts.specs.declared.status.Status.{Status}
-use Rattle.program_parts.specs.declared.status.Status.TheVariants as status
-use Rattle.program_parts.specs.Outside.{outside}
+use Rattle.command_parts.specs.declared.status.Status.{Status}
+use Rattle.command_parts.specs.declared.status.Status.TheVariants as status
+use Rattle.command_parts.specs.Outside.{outside}
 use Rattle.read_back.specs.Answering.{viewed_unfit, viewed_text, program_unfit, program_text}
 use Rattle.read_back.specs.Reading.{status_of_ending, ShowsRecord}
 use Rattle.read_back.specs.Screen.{ShowsText, GaveScreen}
@@ -50,7 +50,7 @@ screen_shows {O} sink first now bytes fresh emits =
     subst (λ (l : List ℕ). ShowsText now.failed (sink.taken first.out.now) (sink.taken now.out.now)
     (sink.faults first.out.now) (sink.faults now.out.now) l) (each_shown bytes) ((emits.more first [] start).text fresh)
 
--- Where it did not fail, and where it did.
+-- If it did not fail, and if it did.
 
 text_whole : (failed : Bool) (a b : Option (List ℕ)) (m n : ℕ) (text : List ℕ) → failed ≡ false →
     ShowsText failed a b m n text → Grows a b text × (n ≡ m)

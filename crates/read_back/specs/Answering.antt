@@ -1,6 +1,6 @@
--- What `view` and `solo` answer, each status with its cause.
+-- The answers of `view` and `solo`, each status with its cause.
 use Rattle.std.specs.Prelude.{ℕ, ◌≡◌, ◌⊎◌, List, Option, Some, slice_get}
-use Rattle.outside_io.specs.Told.{SameFiles}
+use Rattle.io_traits.specs.Told.{SameFiles}
 use Rattle.cloak_model.specs.declared.image.Bundle.{Bundle}
 use Rattle.cloak_model.specs.declared.image.KernelImage.{KernelImage}
 use Rattle.cloak_model.specs.declared.image.Program.{Program}
@@ -8,11 +8,11 @@ use Rattle.cloak_model.specs.declared.item.Item.{Item}
 use Rattle.cloak_model.specs.KernelAlone.{kernel_alone}
 use Rattle.cloak_model.specs.DomainAlone.{domain_alone}
 use Rattle.command_words.specs.Command as spec
-use Rattle.program_parts.specs.declared.status.Status.{Status}
-use Rattle.program_parts.specs.declared.status.Status.TheVariants as status
-use Rattle.program_parts.specs.Bundles.{IsInFile}
-use Rattle.program_parts.specs.NoRun.{IsRefused, LineFailed}
-use Rattle.program_parts.specs.Outside.{Outside, Raised}
+use Rattle.command_parts.specs.declared.status.Status.{Status}
+use Rattle.command_parts.specs.declared.status.Status.TheVariants as status
+use Rattle.command_parts.specs.Bundles.{IsInFile}
+use Rattle.command_parts.specs.NoRun.{IsRefused, LineFailed}
+use Rattle.command_parts.specs.Outside.{Outside, Raised}
 use Rattle.read_back.specs.Reading.{ReadsBack, BreaksOff}
 use Rattle.read_back.specs.Text.{view_text, solo_text}
 use Rattle.read_back.specs.declared.ending.Ending.{Ending}
@@ -86,8 +86,8 @@ pub record BreaksSolo {S O : Type 0} (asked : spec.Asked) (before after : Outsid
   pub breaks : BreaksOff Raised (program_unfit d bundle.kernel p) (program_text d bundle.kernel p) record_name before after
   pub only : OnlyShows before after
 
--- What each status says of `view`. Its causes exclude each other, so each comes exactly there; only want of memory may
--- stand in the place of another, before the record is read.
+-- What each status says of `view`. Its causes exclude each other, so each comes exactly then; only want of memory may
+-- come instead of another, before the record is read.
 abbrev pub ViewAnswers : {S O : Type 0} → spec.Asked → Outside S O → Outside S O → Status → Type 0
 ViewAnswers asked before after status.Done = HasView asked status.Done before after
 ViewAnswers asked before after status.Violation = ⊥

@@ -1,15 +1,15 @@
 -- How far a record is read by a machine that runs alone: its items go one after another to the machine, up to the first
 -- that does not fit, or the first fault of the file.
 use Rattle.std.specs.Prelude.{ℕ, ◌≡◌, ◌⊎◌, List, [], ◌∷◌, ◌++◌, Option, Some, None, IfSome}
-use Rattle.outside_io.specs.Told.{Grows, GrowsByFront, Rose}
+use Rattle.io_traits.specs.Told.{Grows, GrowsByFront, Rose}
 use Rattle.cloak_model.specs.declared.item.Item.{Item}
 use Rattle.cloak_model.specs.Record.{IsRecord}
 use Rattle.cloak_model.specs.RecordFault.{Begins}
 use Rattle.record_reader.specs.Ahead.{readable}
 use Rattle.record_reader.specs.Reading.{HasFaultAt}
-use Rattle.program_parts.specs.Outside.{Outside}
-use Rattle.program_parts.specs.declared.status.Status.{Status}
-use Rattle.program_parts.specs.declared.status.Status.TheVariants as status
+use Rattle.command_parts.specs.Outside.{Outside}
+use Rattle.command_parts.specs.declared.status.Status.{Status}
+use Rattle.command_parts.specs.declared.status.Status.TheVariants as status
 use Rattle.read_back.specs.declared.ending.Ending.{Ending}
 use Rattle.read_back.specs.declared.ending.Ending.TheVariants as ending
 

@@ -1,7 +1,7 @@
 -- What was shown on a screen.
 use Rattle.std.specs.Prelude.{ℕ, ◌≡◌, Bool, true, false, List, Option}
-use Rattle.outside_io.specs.declared.sink.Sink as sinks
-use Rattle.outside_io.specs.Told.{Grows, GrowsByFront, Rose}
+use Rattle.io_traits.specs.declared.sink.Sink as sinks
+use Rattle.io_traits.specs.Told.{Grows, GrowsByFront, Rose}
 use Rattle.cloak_model.specs.Exchange.{Piece, shown_bytes}
 use Rattle.read_back.specs.declared.screen.Screen.{Screen}
 

@@ -5,7 +5,7 @@ use Rattle.cloak_model.specs.declared.fault.RecordFault.TheVariants as fault
 use Rattle.cloak_model.specs.Parts.{KernelPart, DomainPart}
 use Rattle.cloak_model.specs.Report.{kernel_lines}
 use Rattle.cloak_model.specs.DomainState.{domain_line}
-use Rattle.program_parts.specs.Refusal.{numbered_line}
+use Rattle.command_parts.specs.Refusal.{numbered_line}
 use Rattle.read_back.specs.declared.ending.Ending.{Ending}
 use Rattle.read_back.specs.declared.ending.Ending.TheVariants as ending
 
@@ -17,14 +17,14 @@ record_line (fault.BadTag at) = numbered_line (codes "record: tag at ") at
 record_line (fault.StepOrder at) = numbered_line (codes "record: order at ") at
 record_line (fault.Extra at) = numbered_line (codes "record: extra at ") at
 
--- the line that says why a record was not read to its end; none where it was
+-- the line that says why a record was not read to its end; none if it was
 abbrev pub fault_line : Ending → List ℕ
 fault_line ending.Whole = []
 fault_line (ending.Unfit step) = numbered_line (codes "record: unfit at step ") step
 fault_line (ending.Fault fault) = record_line fault
 fault_line ending.Unread = codes "read fault\n"
 
--- these lines where a record was read to its end, and else the line that says why it was not
+-- these lines if a record was read to its end, otherwise the line that says why it was not
 abbrev pub lines_or_fault : List ℕ → Ending → List ℕ
 lines_or_fault lines ending.Whole = lines
 lines_or_fault lines (ending.Unfit step) = fault_line (ending.Unfit step)

@@ -1,13 +1,13 @@
 //! How the reading of a record ends, with the status and the line that say so.
 ghost use Rattle.std.specs.Prelude.{◌≡◌, ◌≢◌};
-ghost use Rattle.outside_io.specs.Sinks.{PutsTo};
+ghost use Rattle.io_traits.specs.Sinks.{PutsTo};
 ghost use Rattle.read_back.specs.Reading.{status_of_ending};
 ghost use Rattle.read_back.specs.Text.{fault_line, record_line};
 
 use cloak_base::Failed;
 use cloak_model::RecordFault;
-use outside_io::{Sink, put_all};
-use program_parts::{Status, show_numbered};
+use command_parts::{Status, show_numbered};
+use io_traits::{Sink, put_all};
 
 /// How the reading of a record ended.
 #[derive(Clone, Copy, Debug, PartialEq, Eq)]
@@ -46,7 +46,7 @@ fn show_record_fault<O: Sink>(out: &mut O, fault: RecordFault) -> Result<(), Fai
     }
 }
 
-/// Shows the line that says why a record was not read to its end; nothing where it was.
+/// Shows the line that says why a record was not read to its end; nothing if it was.
 pub fn show_fault<O: Sink>(out: &mut O, ending: &Ending) -> Result<(), Failed>
     ensures { PutsTo O.Sink out.old out.new (fault_line ending.now) result }
 {

@@ -2,7 +2,7 @@
 ghost use Rattle.std.specs.Prelude.{◌≡◌};
 
 use cloak_model::{Emit, Item};
-use outside_io::Sink;
+use io_traits::Sink;
 
 /// Shows the bytes of a console up to the first that fails. What is for a record goes nowhere.
 #[derive(Drop)]

@@ -1,13 +1,13 @@
 //! The command `solo`.
 ghost use Rattle.std.specs.Prelude.{◌≡◌, ◌<◌, ◌-◌, ◌^◌, ℕ, List, Some, None, length};
-ghost use Rattle.outside_io.specs.Sinks.{PutsTo};
-ghost use Rattle.outside_io.specs.Told.{SameFiles};
+ghost use Rattle.io_traits.specs.Sinks.{PutsTo};
+ghost use Rattle.io_traits.specs.Told.{SameFiles};
 ghost use Rattle.cloak_model.specs.declared.image.KernelImage.{KernelImage};
 ghost use Rattle.cloak_model.specs.declared.image.Program.{Program};
 ghost use Rattle.cloak_model.specs.DomainAlone as model;
 ghost use Rattle.command_words.specs.Request.{asked_of_solo};
 ghost use Rattle.alone_views.specs.DomainStanding.{StandsForDomain};
-ghost use Rattle.program_parts.specs.Outside.{outside};
+ghost use Rattle.command_parts.specs.Outside.{outside};
 ghost use Rattle.cloak_model.specs.DomainState.{domain_line};
 ghost use Rattle.read_back.specs.Answering.{SoloAnswers, program_text, program_unfit};
 ghost use Rattle.read_back.specs.Reading.{ShowsRecord};
@@ -17,14 +17,14 @@ ghost use Rattle.read_back.specs.Viewing.{SolosTo};
 use crate::ending::{Ending, show_fault, status};
 use alone_views::DomainAlone;
 use cloak_base::Failed;
+use command_parts::{Refusal, Status, read_bundle, refuse};
 use command_words::SoloRequest;
-use outside_io::{Shelf, Sink};
-use program_parts::{Refusal, Status, read_bundle, refuse};
+use io_traits::{Shelf, Sink};
 use record_reader::{KeptItems, NextFault, Reader};
 use std::alloc::Global;
 
 /// Gives the items of a record to a program that runs alone, up to the first that does not fit or the first fault, and
-/// answers how reading ended.
+/// returns how reading ended.
 fn read_program<S: Shelf>(program: &mut DomainAlone, name: &str, shelf: &mut S) -> Ending
     requires settled { S.is_settled shelf.old }
     ensures solos { (d : ℕ) (k : KernelImage) (p : Program) →
@@ -86,7 +86,7 @@ fn solo_record<S: Shelf, O: Sink>(
     }
 }
 
-/// Shows what a program of a bundle makes of a record by itself, with the files of a shelf on which nothing is gathered.
+/// Shows what a program of a bundle alone makes of a record, with the files of a shelf on which nothing is gathered.
 pub fn solo_command<S: Shelf, O: Sink>(
     alloc: Global,
     solo: &SoloRequest<'_>,

@@ -1,13 +1,13 @@
 //! The command `view`.
 ghost use Rattle.std.specs.Prelude.{◌≡◌, ◌<◌, ◌-◌, ◌^◌, ◌++◌, ℕ, List, true, None, codes, length};
-ghost use Rattle.outside_io.specs.Sinks.{PutsTo};
-ghost use Rattle.outside_io.specs.Told.{SameFiles};
+ghost use Rattle.io_traits.specs.Sinks.{PutsTo};
+ghost use Rattle.io_traits.specs.Told.{SameFiles};
 ghost use Rattle.cloak_model.specs.declared.image.KernelImage.{KernelImage};
 ghost use Rattle.cloak_model.specs.KernelAlone as model;
 ghost use Rattle.command_words.specs.Request.{asked_of_view};
 ghost use Rattle.alone_views.specs.KernelStanding.{StandsForKernel};
 ghost use Rattle.cloak_model.specs.Report.{kernel_lines};
-ghost use Rattle.program_parts.specs.Outside.{outside};
+ghost use Rattle.command_parts.specs.Outside.{outside};
 ghost use Rattle.read_back.specs.Answering.{ViewAnswers, viewed_text, viewed_unfit};
 ghost use Rattle.read_back.specs.Reading.{ShowsRecord};
 ghost use Rattle.read_back.specs.Text.{lines_or_fault};
@@ -18,14 +18,14 @@ use crate::ending::{Ending, show_fault, status};
 use crate::screen::Screen;
 use alone_views::KernelAlone;
 use cloak_base::Failed;
+use command_parts::{Refusal, Status, read_bundle, refuse};
 use command_words::RecordRequest;
-use outside_io::{Shelf, Sink, put_all};
-use program_parts::{Refusal, Status, read_bundle, refuse};
+use io_traits::{Shelf, Sink, put_all};
 use record_reader::{KeptItems, NextFault, Reader};
 use std::alloc::Global;
 
 /// Gives the items of a record to a kernel that runs alone, up to the first that does not fit or the first fault, and
-/// answers how reading ended. There is no ending where the screen failed before.
+/// returns how reading ended. There is no ending if the screen failed before.
 fn read_kernel<S: Shelf, O: Sink>(
     kernel: &mut KernelAlone,
     name: &str,
@@ -101,7 +101,7 @@ fn view_record<S: Shelf, O: Sink>(
     }
 }
 
-/// Shows what the kernel of a bundle makes of a record by itself, with the files of a shelf on which nothing is gathered.
+/// Shows what the kernel of a bundle alone makes of a record, with the files of a shelf on which nothing is gathered.
 pub fn view_command<S: Shelf, O: Sink>(
     alloc: Global,
     files: &RecordRequest<'_>,

@@ -1,4 +1,4 @@
--- What stands behind a front of a file: an item that may stand there, or what is wrong.
+-- What stands after a front of a file: an item that may stand there, or what is wrong.
 use Rattle.std.proofs.Common.{◌≡◌, ℕ, suc, ◌≤◌, Bool, true, false, ◌||◌, not, ◌⊎◌, inl, inr, cond, ltb, eqb, List, [], ◌∷◌, ◌++◌, length, drop, Option, Some, None, refl, sym, ap, ◌∙◌}
 use Rattle.std.proofs.lemmas.Bool.{ltb-false, le-ltb, eqb-true}
 use Rattle.cloak_model.specs.declared.item.Item.{Item}
@@ -117,7 +117,7 @@ neither : (a b : Bool) → (not a || b) ≡ false → (a ≡ true) × (b ≡ fal
 neither true b e = (refl, e)
 neither false b e = absurd cc
 
-abbrev wrong_some : Wrong → Option Wrong
+abbrev pub wrong_some : Wrong → Option Wrong
 wrong_some w = Some w
 
 pub record Right (s : Stage) (t : Tag) (fields : List ℕ) : Type 0 where

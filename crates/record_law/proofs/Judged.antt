@@ -61,11 +61,11 @@ end_stops s i r fits f is =
     let e : [] ≡ byte_of (tag_at i) ∷ (fields_of i ++ r) = is ∙ ap (λ (l : List ℕ). l ++ r) (item_bytes-parts i) in
     cc
 
--- the bytes of an item and of others behind it
-front_bytes : (i : Item) (items : List Item) (rest : List ℕ) → flat_map item_bytes (i ∷ items) ++ rest ≡ item_bytes i ++ (flat_map item_bytes items ++ rest)
+-- the bytes of an item and of others after it
+pub front_bytes : (i : Item) (items : List Item) (rest : List ℕ) → flat_map item_bytes (i ∷ items) ++ rest ≡ item_bytes i ++ (flat_map item_bytes items ++ rest)
 front_bytes i items rest = ap (λ (l : List ℕ). l ++ rest) (flat_map-cons item_bytes i items) ∙ append_assoc (item_bytes i) (flat_map item_bytes items) rest
 
--- two fronts behind which nothing follows are one
+-- two fronts after which nothing follows are one
 pub same_front : (s : Stage) (f g : List Item) (r q : List ℕ) → Stands s f → Stands s g → AllByRecursion IsItem f → AllByRecursion IsItem g → Stops (stage_behind s f) r → Stops (stage_behind s g) q
     → flat_map item_bytes f ++ r ≡ flat_map item_bytes g ++ q → (f ≡ g) × (r ≡ q)
 unfolding stage_behind
@@ -81,7 +81,7 @@ same_front s (i ∷ f) (j ∷ g) r q sf sg ff fg af ag e =
 
 -- ---- one record
 
-magic_same : (a b : List ℕ) → record_magic ++ a ≡ record_magic ++ b → a ≡ b
+pub magic_same : (a b : List ℕ) → record_magic ++ a ≡ record_magic ++ b → a ≡ b
 magic_same a b e = ap (drop 8) e
 
 pub one_record : (file : List ℕ) (a b : List Item) → IsRecord file a → IsRecord file b → a ≡ b

@@ -79,7 +79,7 @@ step_ends n (i ∷ step) items all e =
     let f = of_step_follows n i all.0 in
     more (Steps n) i (step ++ items) f.0 (subst (λ s. Ends s (step ++ items)) (sym f.1) (step_ends n step items all.1 e))
 
--- a step or Close may come next, behind n steps
+-- a step or Close may come next, after n steps
 record IsBehind (s : Stage) (n : ℕ) : Type 0 where
   step : may_stand s tag.Step ≡ true
   close : may_stand s tag.Close ≡ true

@@ -17,7 +17,7 @@ no_step = record {
   exchange = record { opening = []; steps = []; closing = []; order = refl; opening_ciphers = tt; of_steps = tt; closing_ciphers = tt };
 }
 
--- End right behind the magic may not stand there
+-- End right after the magic may not stand there
 end_first : wrong_behind Opening (0x12 ∷ []) ≡ Some NoTag
 unfolding wrong_behind wrong_item
 end_first = refl
@@ -37,7 +37,7 @@ no_tag : wrong_behind Opening (0x13 ∷ 1 ∷ 0 ∷ 0 ∷ 0 ∷ []) ≡ Some NoT
 unfolding wrong_behind wrong_item
 no_tag = refl
 
--- a Put whose width is none, cut behind the width, and one that is cut before it
+-- a Put whose width is none, cut after the width, and one that is cut before it
 bad_width : wrong_behind (Steps 1) (0x02 ∷ 0 ∷ 0 ∷ 0 ∷ 0x80 ∷ 3 ∷ []) ≡ Some NoTag
 unfolding wrong_behind wrong_item
 bad_width = refl
@@ -46,7 +46,7 @@ cut_put : wrong_behind (Steps 1) (0x02 ∷ 0 ∷ 0 ∷ 0 ∷ 0x80 ∷ []) ≡ So
 unfolding wrong_behind wrong_item
 cut_put = refl
 
--- a byte behind End
+-- a byte after End
 one_more : wrong_behind Over (0 ∷ []) ≡ Some More
 unfolding wrong_behind
 one_more = refl

@@ -17,7 +17,7 @@ use Rattle.cloak_model.specs.RecordFault.{byte_of, is_width}
 use Rattle.record_law.specs.Items.{size_of, has_bad_width}
 use Rattle.record_law.specs.Items.{item_in}
 
--- the tag of an item, and the bytes behind it
+-- the tag of an item, and the bytes after it
 abbrev pub tag_at : Item → Tag
 tag_at (item.Cipher frame bytes) = tag.Cipher
 tag_at (item.Put address width value) = tag.Put
@@ -68,7 +68,7 @@ number_takes at fields fits le =
 
 -- ---- what is spelled is read
 
--- what reading says of an item's bytes with more behind them
+-- what reading says of an item's bytes with more after them
 pub record Reads (i : Item) (fields rest : List ℕ) : Type 0 where
   pub width : has_bad_width (tag_at i) fields ≡ false
   pub whole : size_of (tag_at i) ≤ length fields
@@ -76,7 +76,7 @@ pub record Reads (i : Item) (fields rest : List ℕ) : Type 0 where
   pub item : item_in (tag_at i) fields ≡ i
   pub behind : drop (size_of (tag_at i)) fields ≡ rest
 
--- the bytes behind the tag
+-- the bytes after the tag
 pub fields_of : Item → List ℕ
 fields_of (item.Cipher frame bytes) = word frame ++ bytes
 fields_of (item.Put address width value) = word address ++ (width ∷ word value)
@@ -212,7 +212,7 @@ not_and true true e f = refl
 not_and true false e f = absurd cc
 not_and false c e f = absurd cc
 
--- one number before what is spelled behind it
+-- one number, and what is spelled after it
 front : (k : ℕ) (fields rest : List ℕ) → IsBytes fields → k + 4 ≤ length fields → rest ≡ drop (k + 4) fields → word (number fields k) ++ rest ≡ drop k fields
 front k fields rest bytes le e = ap (λ t. word (number fields k) ++ t) e ∙ piece k fields bytes le
 

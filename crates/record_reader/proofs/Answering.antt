@@ -1,4 +1,4 @@
--- What a reader answers is the file's.
+-- What a reader returns is the file's.
 use Rattle.std.proofs.Common.{◌≡◌, ℕ, suc, ◌+◌, ◌-◌, ◌^◌, ◌<◌, ◌≤◌, false, ◌⊎◌, inl, inr, ltb, List, [], ◌∷◌, ◌++◌, length, take, drop, min, Option, Some, None, IfSome, Result, Ok, Err, refl, sym, ap, subst, ◌∙◌, append_assoc, length-append, length-drop, arith}
 use Rattle.std.specs.List.{flat_map}
 use Rattle.std.proofs.lemmas.Bool.{cases_lt, le-ltb}
@@ -59,7 +59,7 @@ magic_read told old new bytes fault from is window = magic_of told old bytes fau
 
 -- ---- from a window to the answer
 
--- where the items of a file begin, and what stands behind them
+-- where the items of a file begin, and what stands after them
 record Here (file : List ℕ) (front : List Item) (from : ℕ) (s : Stage) : Type 0 where
   begins : Front file front (drop from file)
   from_is : from ≡ length (record_of front)
@@ -95,7 +95,7 @@ here_wrong file front from s bytes e h window j =
     } in
     inr (is, refl)
 
--- behind a stage at which something may stand
+-- after a stage at which something may stand
 open_item : (s : Stage) (b : ℕ) (fields : List ℕ) → wrong_behind s (b ∷ fields) ≡ None → wrong_item s (tag_of b) fields ≡ None
 unfolding wrong_behind
 open_item Opening b fields e = e
@@ -150,7 +150,7 @@ spelled_item s t b fields bytes is e =
       whole = r.whole;
     }
 
--- an item behind the front
+-- an item after the front
 item_here : (file : List ℕ) (front : List Item) (from n : ℕ) (s : Stage) (b : ℕ) (fields : List ℕ) (t : Tag) → Here file front from s → b ∷ fields ≡ take n (drop from file) → SpelledItem s t b fields
     → Here file (front ++ item_in t fields ∷ []) (from + (1 + size_of t)) (stage_after s (item_in t fields)) × (from + (1 + size_of t) ≤ length file)
 unfolding stage_behind
@@ -233,7 +233,7 @@ stands_still file front old new stands at stage =
 here_at : (file : List ℕ) (front : List Item) (at from : ℕ) (s : Stage) → StandsBehind at s file front → TellsStart file at (Ok from) → Here file front from s
 here_at file front at from s b start = at_place file front at from s b.place b.stage_is start.0 start.1
 
--- ---- the answers, where the shelf tells the file
+-- ---- the answers, if the shelf tells the file
 
 -- what a call of `next` says of a file
 abbrev pub TellsNext : Option (List ℕ) → Reader → Reader → Result (Option Item) NextFault → Type 0

@@ -3,7 +3,7 @@ use Rattle.std.proofs.Common.{◌≡◌, ℕ, zero, suc, ◌+◌, ◌-◌, ◌^�
 use Rattle.std.proofs.Math.Seq.{take-add}
 use Rattle.std.proofs.lemmas.Bool.{cases_lt, lt-ltb, le-ltb}
 use Rattle.std.proofs.lemmas.List.{drop-take, drop-drop, length-take, take_at, drop_at, take_all, drop_all}
-use Rattle.outside_io.specs.Told.{IsCopied}
+use Rattle.io_traits.specs.Told.{IsCopied}
 use Rattle.cloak_model.specs.declared.record.Tag.TheVariants as tag
 use Rattle.cloak_model.specs.RecordFault.{tag_of}
 use Rattle.record_reader.specs.declared.ahead.Ahead.{Ahead}
@@ -125,7 +125,7 @@ whole_front n xs h = (h.0, λ cipher. h.1 (tag_taken n xs (let long = h.0 in ome
 pub stand_within : (file : List ℕ) (at : ℕ) (bytes : List ℕ) → StandAt file at bytes → length bytes ≤ length (drop at file)
 stand_within file at bytes stand = (let e : length bytes ≡ length (take (length bytes) (drop at file)) = ap (λ (l : List ℕ). length l) stand in omega (arith, e, length-take (length bytes) (drop at file)))
 
--- and what is behind some of them
+-- and what is after some of them
 stand_behind : (file : List ℕ) (start k : ℕ) (bytes : List ℕ) → StandAt file start bytes → StandAt file (start + k) (drop k bytes)
 stand_behind file start k bytes stand =
     elim (cases_lt (length bytes) k) [

@@ -1,9 +1,8 @@
 -- Where a reader stands in a file that is a record, or has a fault.
-use Rattle.std.proofs.Common.{◌≡◌, ℕ, ◌⊎◌, inl, inr, List, [], ◌∷◌, ◌++◌, length, length-append, append_assoc, drop, false, ltb, arith, Option, Some, None, Result, Ok, Err, refl, sym, ap, subst, ◌∙◌}
+use Rattle.std.proofs.Common.{◌≡◌, ℕ, ◌⊎◌, inl, inr, List, [], ◌∷◌, ◌++◌, length, length-append, drop, false, ltb, arith, Option, Some, None, Result, Ok, Err, refl, sym, ap, subst, ◌∙◌}
 use Rattle.std.specs.List.{flat_map, AllByRecursion}
 use Rattle.std.proofs.lemmas.Bool.{le-ltb}
 use Rattle.std.proofs.lemmas.List.{append-nil}
-use Rattle.std.proofs.lemmas.List.Concat.{flat_map-cons}
 use Rattle.cloak_model.specs.declared.item.Item.{Item}
 use Rattle.cloak_model.specs.declared.record.Stage.{Stage}
 use Rattle.cloak_model.specs.declared.record.Stage.TheVariants.{Opening}
@@ -11,17 +10,13 @@ use Rattle.cloak_model.specs.declared.fault.RecordFault.{RecordFault}
 use Rattle.cloak_model.specs.Exchange.{item_bytes, record_magic, record_of}
 use Rattle.cloak_model.specs.Record.{IsItem, IsRecord}
 use Rattle.cloak_model.specs.RecordFault.{HasFault, Begins, stage_after, stage_behind, magic_fault}
-use Rattle.record_law.proofs.Judged.{Front, Begins-front, Stops, end_stops, wrong_stops, same_item, same_front, one_record, one_fault, not_both}
+use Rattle.record_law.proofs.Judged.{Front, Begins-front, Stops, end_stops, wrong_stops, same_item, same_front, one_record, one_fault, not_both, front_bytes, magic_same}
 use Rattle.record_law.proofs.Orders.{Stands, exchange_ends}
 use Rattle.record_reader.specs.declared.fault.NextFault.{NextFault}
 use Rattle.record_reader.specs.declared.fault.NextFault.TheVariants.{Read, Record}
 use Rattle.record_reader.specs.declared.reader.Reader.{Reader}
 use Rattle.record_reader.specs.Reading.{IsBehind, ReadsNext, HasFaultAt}
 use Rattle.record_reader.specs.InOrder.{AreFirst, GivesItems, GivesFault, items_before}
-
--- the bytes of an item and of others behind it
-front_bytes : (i : Item) (items : List Item) (rest : List ℕ) → flat_map item_bytes (i ∷ items) ++ rest ≡ item_bytes i ++ (flat_map item_bytes items ++ rest)
-front_bytes i items rest = ap (λ (l : List ℕ). l ++ rest) (flat_map-cons item_bytes i items) ∙ append_assoc (item_bytes i) (flat_map item_bytes items) rest
 
 -- what stands at the front of bytes is the first of what stands there as far as anything may
 are_first : (s : Stage) (f g : List Item) (r q : List ℕ) → Stands s f → Stands s g → AllByRecursion IsItem f → AllByRecursion IsItem g → Stops (stage_behind s g) q
@@ -35,9 +30,6 @@ are_first s (i ∷ f) (j ∷ g) r q sf sg ff fg ag e =
     let stop : Stops (stage_behind (stage_after s i) g) q = subst (λ k. Stops (stage_behind (stage_after s k) g) q) (sym first.0) ag in
     let others = are_first (stage_after s i) f g r q sf.1 stand ff.1 fg.1 stop first.1 in
     (others.0, ap (λ (l : List Item). i ∷ l) others.1 ∙ ap (λ k. k ∷ g) first.0)
-
-magic_same : (a b : List ℕ) → record_magic ++ a ≡ record_magic ++ b → a ≡ b
-magic_same a b e = ap (drop 8) e
 
 place_first : (file : List ℕ) (front items : List Item) (at : ℕ) (q : List ℕ) → ((at ≡ 0) × (front ≡ [])) ⊎ ((at ≡ length (record_of front)) × Begins file front (drop at file))
     → Front file items q → Stops (stage_behind Opening items) q → AreFirst front items

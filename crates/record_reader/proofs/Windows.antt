@@ -13,7 +13,7 @@ use Rattle.cloak_model.specs.Fields.{number}
 use Rattle.cloak_model.specs.RecordFault.{tag_of, is_over, may_stand, wrong_item, wrong_behind}
 use Rattle.record_law.specs.Items.{size_of, has_bad_width, is_numbered}
 use Rattle.record_law.proofs.Chain.{wrong_item-tests}
-use Rattle.record_law.proofs.Following.{chosen}
+use Rattle.record_law.proofs.Following.{chosen, wrong_some}
 use Rattle.record_reader.specs.Ahead.{HasWhole, IsWindow, front_tag}
 use Rattle.record_reader.specs.Reading.{judged, judged_by}
 use Rattle.record_reader.proofs.Filled.{take_take}
@@ -28,7 +28,7 @@ piece_front k at n fields le =
 number_front : (k at : ℕ) (fields : List ℕ) → at + 4 ≤ k → number (take k fields) at ≡ number fields at
 number_front k at fields le = ap (from_le_bytes w32) (piece_front k at 4 fields le)
 
--- the front is as long as a size exactly where the whole is
+-- the front is as long as a size exactly if the whole is
 long_front : (k size : ℕ) (fields : List ℕ) → size ≤ k → ltb (length (take k fields)) size ≡ ltb (length fields) size
 long_front k size fields le =
     let len = length-take k fields in
@@ -121,9 +121,6 @@ judged_there s file at bytes w =
 
 -- ---- an item that is cut
 
-abbrev wrong_some : Wrong → Option Wrong
-wrong_some w = Some w
-
 -- its tag, and fewer fields than it has
 record CutItem (o : Option Tag) (fields : List ℕ) : Type 0 where
   tag : Tag
@@ -152,7 +149,7 @@ cut_behind (Steps n) b fields e = cut_item (Steps n) (tag_of b) fields e
 cut_behind Closing b fields e = cut_item Closing (tag_of b) fields e
 cut_behind Over b fields e = absurd cc
 
--- a window behind whose front an item is cut has all that there is
+-- a window after whose front an item is cut has all that there is
 pub cut_all : (s : Stage) (n : ℕ) (rest : List ℕ) → n ≤ length rest → (n ≡ length rest) ⊎ HasWhole n rest → wrong_behind s rest ≡ Some Cut → n ≡ length rest
 cut_all s n rest le (inl all) e = all
 cut_all s n [] le (inr h) e = omega arith
@@ -222,11 +219,11 @@ judged_right : (s : Stage) (w : List ℕ) (f : Option Tag) → wrong_behind s w 
 unfolding judged_by
 judged_right s w f is found = sym (ap (λ o. judged_by o (front_tag w)) is ∙ ap (λ o. judged_by None o) found)
 
--- behind the first byte stands the rest
+-- after the first byte stands the rest
 pub rest : (bytes : List ℕ) → take (length bytes - 1) (drop 1 bytes) ≡ drop 1 bytes
 rest bytes = take_all (length bytes - 1) (drop 1 bytes) (omega (arith, length-drop 1 bytes))
 
--- behind End
+-- after End
 pub over_none : (s : Stage) (bytes : List ℕ) → is_over s ≡ true → length bytes ≡ 0 → Ok None ≡ judged s bytes
 unfolding wrong_behind judged_by
 over_none Opening bytes over none = absurd cc

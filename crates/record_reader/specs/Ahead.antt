@@ -48,6 +48,6 @@ pub record IsFilled (file : List ℕ) (at n : ℕ) (buffer : List ℕ) : Type 0 
   pub copied : take n buffer ≡ take n (drop at file)
   pub enough : IsEnough file at n
 
--- what is so of a file that is told, and in which stands what was read ahead
+-- what is true of a file that is told, and in which stands what was read ahead
 abbrev pub OfFile : Option (List ℕ) → Ahead → (List ℕ → Type 0) → Type 0
 OfFile told ahead P = IfSome told (λ bytes. IsAhead ahead (readable bytes) → P (readable bytes))

@@ -14,14 +14,14 @@ use Rattle.record_reader.specs.Reading.{IsBehind, ReadsNext}
 abbrev pub AreFirst : List Item → List Item → Type 0
 AreFirst front items = (more : List Item) × (front ++ more ≡ items)
 
--- Behind the first of a record's items the next one is read, and none exactly behind the last.
+-- After the first of a record's items the next one is read, and none exactly after the last.
 abbrev pub GivesItems : List Item → List Item → Result (Option Item) NextFault → Type 0
 GivesItems items front (Ok (Some i)) = AreFirst (front ++ i ∷ []) items
 GivesItems items front (Ok None) = front ≡ items
 GivesItems items front (Err Read) = Unit {0}
 GivesItems items front (Err (Record fault)) = ⊥
 
--- A reader of a record stands behind the first of its items, and reads the next.
+-- A reader of a record stands after the first of its items, and reads the next.
 abbrev pub RecordIsRead : Type 0
 RecordIsRead =
     (file : List ℕ) (items front : List Item) (old new : Reader) (result : Result (Option Item) NextFault) →
@@ -33,14 +33,14 @@ abbrev pub items_before : {file : List ℕ} {fault : RecordFault} → HasFault f
 items_before (inl magic) = []
 items_before (inr wrong) = wrong.front
 
--- Behind the first of the items before a fault the next one is read, and exactly the fault behind the last.
+-- After the first of the items before a fault the next one is read, and exactly the fault after the last.
 abbrev pub GivesFault : List Item → RecordFault → List Item → Result (Option Item) NextFault → Type 0
 GivesFault items fault front (Ok (Some i)) = AreFirst (front ++ i ∷ []) items
 GivesFault items fault front (Ok None) = ⊥
 GivesFault items fault front (Err Read) = Unit {0}
 GivesFault items fault front (Err (Record first)) = (first ≡ fault) × (front ≡ items)
 
--- A reader of a file with a fault stands behind the first of the items before it, and reads the next, or the fault.
+-- A reader of a file with a fault stands after the first of the items before it, and reads the next, or the fault.
 abbrev pub FaultIsRead : Type 0
 FaultIsRead =
     (file : List ℕ) (fault : RecordFault) (front : List Item) (old new : Reader) →

@@ -1,11 +1,11 @@
 //! Bytes of a file that are read ahead.
 ghost use Rattle.std.specs.Prelude.{◌≡◌, ◌+◌, ◌-◌, ◌^◌, ◌≤◌, ℕ, List, Some, IsTrue, IfOk, IfSome, OnOk, length};
-ghost use Rattle.outside_io.specs.Told.{SameFiles, Counts, CountsEither};
+ghost use Rattle.io_traits.specs.Told.{SameFiles, Counts, CountsEither};
 ghost use Rattle.cloak_model.specs.RecordFault as spec;
 ghost use Rattle.cloak_model.specs.declared.record.Tag.TheVariants as tag;
 
 use cloak_base::Failed;
-use outside_io::Shelf;
+use io_traits::Shelf;
 
 /// How many bytes are read ahead at the most: more than an item has.
 const WINDOW: usize = 8192;

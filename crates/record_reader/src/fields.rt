@@ -1,4 +1,4 @@
-//! The fields of an item, behind its tag.
+//! The fields of an item, after its tag.
 ghost use Rattle.std.specs.Prelude.{◌≡◌, ◌+◌, ◌≤◌, length, take, drop};
 ghost use Rattle.cloak_model.specs.Fields as spec;
 ghost use Rattle.cloak_model.specs.declared.record.Tag.TheVariants as tag;

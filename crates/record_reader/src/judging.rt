@@ -25,7 +25,7 @@ fn is_numbered(stage: Stage, tag: Tag, fields: &[u8]) -> bool
     }
 }
 
-/// What came before the items behind this one.
+/// What came before the items after this one.
 pub fn stage_after(stage: Stage, item: &Item) -> Stage
     ensures { result ≡ spec.stage_after stage item.now }
 {
@@ -37,7 +37,7 @@ pub fn stage_after(stage: Stage, item: &Item) -> Stage
     }
 }
 
-/// What is wrong with the fields behind a tag, as far as there are any.
+/// What is wrong with the fields after a tag, as far as there are any.
 fn wrong_item(stage: Stage, tag: Option<Tag>, fields: &[u8]) -> Option<Wrong>
     ensures { result ≡ spec.wrong_item stage tag fields.now }
 {

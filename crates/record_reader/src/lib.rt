@@ -1,6 +1,6 @@
 //! A file's items read back: the record of a run, or what is wrong with the file.
 //!
-//! The layer above may rely on this: a `Reader` gives the items of a record (`cloak_model`, `specs/Record`) one after
+//! The layer above may rely on this: a `Reader` returns the items of a record (`cloak_model`, `specs/Record`) one after
 //! another and then none; of any other file the items before its first fault, and then that fault (`specs/RecordFault`),
 //! as often as it is asked. It makes the item in the place of its kind among those that its caller keeps. It reads the file
 //! ahead, into a window of its own, and takes no memory.

@@ -1,6 +1,6 @@
 //! The reader of a record.
 ghost use Rattle.std.specs.Prelude.{◌≡◌, ◌<◌, ◌^◌, ℕ, List, [], Some, None, Ok, IfSome, OnErr};
-ghost use Rattle.outside_io.specs.Told.{SameFiles};
+ghost use Rattle.io_traits.specs.Told.{SameFiles};
 ghost use Rattle.cloak_model.specs.declared.item.Item.{Item};
 ghost use Rattle.cloak_model.specs.declared.record.Tag.{Tag};
 ghost use Rattle.cloak_model.specs.Record.{IsItem};
@@ -11,7 +11,7 @@ use crate::reading::items_from;
 use crate::tags::size_of;
 use crate::{KeptItems, NextFault};
 use cloak_model::{Stage, Tag};
-use outside_io::Shelf;
+use io_traits::Shelf;
 
 /// Reads the items of a record, one after another, from a file that stays as it is meanwhile.
 #[derive(Drop)]
@@ -43,7 +43,7 @@ impl<'a> Reader<'a> {
         }
     }
 
-    /// Reads the next item into its place among those that are kept, and tells its kind; none behind End, where the file
+    /// Reads the next item into its place among those that are kept, and tells its kind; none after End, if the file
     /// ends there. A fault leaves the reader where it stands.
     pub fn next<S: Shelf>(
         &mut self,

@@ -1,6 +1,6 @@
 //! The front of a record's file.
 ghost use Rattle.std.specs.Prelude.{◌≡◌, ◌≤◌, IfOk};
-ghost use Rattle.outside_io.specs.Told.{SameFiles};
+ghost use Rattle.io_traits.specs.Told.{SameFiles};
 ghost use Rattle.cloak_model.specs.RecordFault as spec;
 ghost use Rattle.record_reader.specs.Ahead.{IsAhead, OfFile};
 ghost use Rattle.record_reader.specs.Reading.{ReadsCount, ReadsCounts, TellsMagic, TellsStart};
@@ -8,7 +8,7 @@ ghost use Rattle.record_reader.specs.Reading.{ReadsCount, ReadsCounts, TellsMagi
 use crate::NextFault;
 use crate::ahead::Ahead;
 use cloak_model::RecordFault;
-use outside_io::Shelf;
+use io_traits::Shelf;
 
 /// What is wrong with the magic.
 #[tactic(auto, unfolding(cloak_model::specs::RecordFault::magic_fault))]
@@ -48,7 +48,7 @@ fn read_magic<S: Shelf>(ahead: &mut Ahead, name: &str, shelf: &mut S) -> Result<
     }
 }
 
-/// Where the next item stands, behind the magic, which is read first.
+/// Where the next item stands, after the magic, which is read first.
 pub(crate) fn items_from<S: Shelf>(
     ahead: &mut Ahead,
     name: &str,

@@ -1,4 +1,4 @@
-//! Tags: their bytes, how many bytes stand behind each, and where each may stand.
+//! Tags: their bytes, how many bytes stand after each, and where each may stand.
 ghost use Rattle.std.specs.Prelude.{◌≡◌};
 ghost use Rattle.cloak_model.specs.RecordFault as spec;
 ghost use Rattle.record_law.specs.Items as items;
@@ -27,7 +27,7 @@ pub fn tag_of(byte: u8) -> Option<Tag>
     }
 }
 
-/// How many bytes stand behind the tag.
+/// How many bytes stand after the tag.
 pub fn size_of(tag: Tag) -> usize
     ensures { result ≡ items.size_of tag }
 {

@@ -4,16 +4,16 @@ use Rattle.cloak_base.specs.declared.causes.Failed.{Failed}
 use Rattle.cloak_model.specs.declared.item.Item.{Item}
 use Rattle.kernel_report.specs.Putting.{PutsMore}
 use Rattle.kernel_report.proofs.PutFacts.{put_behind}
-use Rattle.outside_io.specs.Told.{Puts}
-use Rattle.program_parts.specs.Outside.{Outside}
-use Rattle.program_parts.specs.declared.status.Status.{Status}
-use Rattle.program_parts.specs.declared.status.Status.TheVariants as status
+use Rattle.io_traits.specs.Told.{Puts}
+use Rattle.command_parts.specs.Outside.{Outside}
+use Rattle.command_parts.specs.declared.status.Status.{Status}
+use Rattle.command_parts.specs.declared.status.Status.TheVariants as status
 use Rattle.read_back.specs.Reading.{IsReadTo, ShowsRecord}
 use Rattle.read_back.specs.declared.ending.Ending.{Ending}
 use Rattle.record_text.specs.declared.selection.Selection.{Selection}
 use Rattle.record_text.specs.Reading.{never_unfit, record_text, status_shown, text_by}
 
--- a text that was put where nothing failed before
+-- a text that was put when nothing had failed before
 pub puts_behind : (a b : Option (List ℕ)) (m n : ℕ) (u : Unit) (s : Result Unit Failed) (text : List ℕ) →
     Puts a b m n text s →
     PutsMore (record { taken = a; faults = m; so_far = Ok u }) (record { taken = b; faults = n; so_far = s }) text

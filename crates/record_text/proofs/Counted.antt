@@ -2,7 +2,7 @@
 use Rattle.std.proofs.Common.{◌≡◌, ◌≤◌, ◌+◌, Bool, true, false, List, [], ◌∷◌, ◌++◌, length, Option, Some, None, refl, arith, length-append}
 use Rattle.std.proofs.lemmas.List.Sums.{fold-append}
 use Rattle.cloak_model.specs.declared.item.Item.{Item}
-use Rattle.record_text.specs.declared.place.Place.{Place}
+use Rattle.record_text.specs.declared.place.RecordPlace.{RecordPlace}
 use Rattle.record_text.specs.declared.selection.Selection.{Selection}
 use Rattle.record_text.specs.Counting.{Chosen, chosen, chosen_more, chosen_more_by, none_chosen}
 use Rattle.record_text.specs.Kinds.{has_item, place_marked}
@@ -13,7 +13,7 @@ pub chosen-more : (s : Selection) (items : List Item) (i : Item) →
 unfolding chosen
 chosen-more s items i = fold-append (chosen_more s) none_chosen items (i ∷ [])
 
-chosen_by-few : (s : Selection) (c : Chosen) (i : Item) (p : Option Place) (b : Bool) → has_item s c.place i ≡ b →
+chosen_by-few : (s : Selection) (c : Chosen) (i : Item) (p : Option RecordPlace) (b : Bool) → has_item s c.place i ≡ b →
     length (chosen_more_by s c i p).items ≤ length c.items + 1
 chosen_by-few s c i (Some p) b is = omega arith
 chosen_by-few s c i None true is = rw is (omega (arith, length-append c.items (i ∷ [])))

@@ -10,8 +10,8 @@ use Rattle.kernel_report.specs.Putting.{Putting, PutsMore}
 use Rattle.kernel_report.proofs.PutFacts.{then, text_is}
 use Rattle.record_text.specs.declared.counts.Counts.{Counts}
 use Rattle.record_text.specs.declared.lines.Line.{Line}
-use Rattle.record_text.specs.declared.place.Place.{Place}
-use Rattle.record_text.specs.declared.place.Place.TheVariants as place
+use Rattle.record_text.specs.declared.place.RecordPlace.{RecordPlace}
+use Rattle.record_text.specs.declared.place.RecordPlace.TheVariants as place
 use Rattle.record_text.specs.declared.selection.Selection.{Selection}
 use Rattle.record_text.specs.Counting.{AreCounts, Chosen, chosen, chosen_more}
 use Rattle.record_text.specs.Lines.{Lined, line_end, line_more, lined, opening_line}
@@ -97,7 +97,7 @@ ends_ill s told was next reading reads old mid new line ended so_far failed is s
 )
 
 -- the items before a reader that are chosen were counted, and this is the place of what comes next
-pub record CountedSoFar (s : Selection) (told : Option (List ℕ)) (reader : Reader) (counts : Counts) (p : Place) :
+pub record CountedSoFar (s : Selection) (told : Option (List ℕ)) (reader : Reader) (counts : Counts) (p : RecordPlace) :
     Type 0 where
   pub items : List Item
   pub stands : StandsAt told reader items
@@ -112,7 +112,7 @@ counts_open s told reader counts stands counted =
     record { items = []; stands = stands; counted = counted; at = refl; few = omega arith }
 
 -- one item more
-pub counts_on : (s : Selection) (told : Option (List ℕ)) (was now : Reader) (old new : Counts) (p q : Place) (i : Item) →
+pub counts_on : (s : Selection) (told : Option (List ℕ)) (was now : Reader) (old new : Counts) (p q : RecordPlace) (i : Item) →
     (so_far : CountedSoFar s told was old p) → StandsAt told now (so_far.items ++ i ∷ []) →
     reader_offset was < reader_offset now → reader_offset now < 2 ^ 64 →
     ((c : Chosen) → c.place ≡ p → length c.items < 2 ^ 64 - 1 → AreCounts old c.items →

@@ -5,17 +5,17 @@ use Rattle.cloak_model.specs.Report.{number_line}
 use Rattle.cloak_model.specs.declared.item.Item.{Item}
 use Rattle.record_text.specs.declared.counts.Counts.{Counts}
 use Rattle.record_text.specs.declared.selection.Selection.{Selection}
-use Rattle.record_text.specs.declared.place.Place.{Place}
-use Rattle.record_text.specs.declared.place.Place.TheVariants as place
+use Rattle.record_text.specs.declared.place.RecordPlace.{RecordPlace}
+use Rattle.record_text.specs.declared.place.RecordPlace.TheVariants as place
 use Rattle.record_text.specs.Kinds.{NamedKind, has_item, is_of_kind, kind_names, place_marked}
 use Rattle.record_text.specs.Kinds.{only_cipher, only_put, only_leave, only_ok, only_absent, only_word, only_timer, only_resume, only_stopped, only_ended}
 
 -- Items that are chosen, and the place of what comes next.
 pub record Chosen : Type 0 where
   pub items : List Item
-  pub place : Place
+  pub place : RecordPlace
 
-abbrev pub chosen_more_by : Selection → Chosen → Item → Option Place → Chosen
+abbrev pub chosen_more_by : Selection → Chosen → Item → Option RecordPlace → Chosen
 chosen_more_by s c i (Some p) = record { items = c.items; place = p }
 chosen_more_by s c i None = if has_item s c.place i then record { items = c.items ++ i ∷ []; place = c.place } else c
 

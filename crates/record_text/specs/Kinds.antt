@@ -3,8 +3,8 @@ use Rattle.std.specs.Prelude.{ℕ, ◌^◌, ◌-◌, ◌==◌, ◌&&◌, Bool, t
 use Rattle.cloak_model.specs.declared.item.Item.{Item}
 use Rattle.cloak_model.specs.declared.item.Item.TheVariants as item
 use Rattle.record_text.specs.declared.kinds.Kinds.{Kinds}
-use Rattle.record_text.specs.declared.place.Place.{Place}
-use Rattle.record_text.specs.declared.place.Place.TheVariants as place
+use Rattle.record_text.specs.declared.place.RecordPlace.{RecordPlace}
+use Rattle.record_text.specs.declared.place.RecordPlace.TheVariants as place
 use Rattle.record_text.specs.declared.selection.Selection.{Selection}
 
 -- an item is of one of these kinds; a marker is of none
@@ -88,24 +88,24 @@ kind_names =
 
 -- What of a record is chosen.
 
--- each item, where no kinds are chosen
+-- each item, if no kinds are chosen
 abbrev pub has_chosen_kind : Option Kinds → Item → Bool
 has_chosen_kind None i = true
 has_chosen_kind (Some kinds) i = is_of_kind kinds i
 
--- the closing is behind the last step that there can be
-abbrev pub has_place : Selection → Place → Bool
+-- the closing is after the last step that there can be
+abbrev pub has_place : Selection → RecordPlace → Bool
 has_place s place.Opening = s.from == 0
 has_place s (place.Step number) = nat_le s.from number && nat_le number s.to
 has_place s (place.Closing steps) = s.to == 2 ^ 32 - 1
 has_place s place.End = s.to == 2 ^ 32 - 1
 
 -- an item of this place, which is no marker
-abbrev pub has_item : Selection → Place → Item → Bool
+abbrev pub has_item : Selection → RecordPlace → Item → Bool
 has_item s p i = has_chosen_kind s.only i && has_place s p
 
 -- the place that a marker begins
-abbrev pub place_marked : Item → Option Place
+abbrev pub place_marked : Item → Option RecordPlace
 place_marked (item.Step number) = Some (place.Step number)
 place_marked (item.Close steps) = Some (place.Closing steps)
 place_marked item.End = Some place.End

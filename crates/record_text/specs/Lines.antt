@@ -4,8 +4,8 @@ use Rattle.std.specs.List.{fold}
 use Rattle.cloak_model.specs.declared.item.Item.{Item}
 use Rattle.record_text.specs.declared.kinds.Kinds.{Kinds}
 use Rattle.record_text.specs.declared.selection.Selection.{Selection}
-use Rattle.record_text.specs.declared.place.Place.{Place}
-use Rattle.record_text.specs.declared.place.Place.TheVariants as place
+use Rattle.record_text.specs.declared.place.RecordPlace.{RecordPlace}
+use Rattle.record_text.specs.declared.place.RecordPlace.TheVariants as place
 use Rattle.record_text.specs.declared.lines.Line.{Line}
 use Rattle.record_text.specs.Items.{item_text}
 use Rattle.record_text.specs.Kinds.{has_item, has_place, place_marked}
@@ -13,7 +13,7 @@ use Rattle.record_text.specs.Kinds.{has_item, has_place, place_marked}
 abbrev pub numbered_place : List ℕ → ℕ → List ℕ
 numbered_place words number = words ++ decimal number
 
-abbrev pub place_text : Place → List ℕ
+abbrev pub place_text : RecordPlace → List ℕ
 place_text place.Opening = codes "opening"
 place_text (place.Step number) = numbered_place (codes "step ") number
 place_text (place.Closing steps) = numbered_place (codes "closing after step ") steps
@@ -23,8 +23,8 @@ abbrev pub has_every_kind : Option Kinds → Bool
 has_every_kind None = true
 has_every_kind (Some kinds) = false
 
--- where each kind is shown, a place has its line also without an item
-abbrev pub has_bare : Selection → Place → Bool
+-- if each kind is shown, a place has its line even without an item
+abbrev pub has_bare : Selection → RecordPlace → Bool
 has_bare s p = has_every_kind s.only && has_place s p
 
 -- A text, and the line that stands at its end.
@@ -33,7 +33,7 @@ pub record Lined : Type 0 where
   pub line : Line
 
 -- a line of which something was shown, or nothing yet
-abbrev pub line_at : Place → Bool → Line
+abbrev pub line_at : RecordPlace → Bool → Line
 line_at p shown = record { place = p; is_open = shown }
 
 abbrev pub line_end : Line → List ℕ
@@ -42,25 +42,25 @@ line_end l = if l.is_open then codes "\n" else []
 abbrev pub line_begin : Line → List ℕ
 line_begin l = if l.is_open then [] else place_text l.place
 
--- a place begins, behind the line of the one before
-unfoldable pub at_place : Selection → Line → Place → Lined
+-- a place begins, after the line of the one before
+unfoldable pub at_place : Selection → Line → RecordPlace → Lined
 at_place s l p = record {
   text = line_end l ++ (if has_bare s p then place_text p else []);
   line = line_at p (has_bare s p);
 }
 
--- an item behind what its line has
+-- an item after what its line has
 abbrev pub item_on_line : Line → Item → List ℕ
 item_on_line l i = line_begin l ++ (codes "; " ++ item_text i)
 
--- an item that is no marker: it is shown once, where it is chosen
+-- an item that is no marker: it is shown once, if it is chosen
 unfoldable pub on_line : Selection → Line → Item → Lined
 on_line s l i =
     if has_item s l.place i
     then record { text = item_on_line l i; line = line_at l.place true }
     else record { text = []; line = l }
 
-abbrev pub line_more_by : Selection → Line → Item → Option Place → Lined
+abbrev pub line_more_by : Selection → Line → Item → Option RecordPlace → Lined
 line_more_by s l i (Some p) = at_place s l p
 line_more_by s l i None = on_line s l i
 

@@ -9,8 +9,8 @@ use Rattle.record_reader.specs.Kept.{kept_item}
 use Rattle.record_reader.specs.Reading.{HasFaultAt, IsBehind}
 use Rattle.record_reader.specs.declared.kept.KeptItems.{KeptItems}
 use Rattle.record_reader.specs.declared.reader.Reader.{Reader}
-use Rattle.program_parts.specs.declared.status.Status.{Status}
-use Rattle.program_parts.specs.declared.status.Status.TheVariants as status
+use Rattle.command_parts.specs.declared.status.Status.{Status}
+use Rattle.command_parts.specs.declared.status.Status.TheVariants as status
 use Rattle.read_back.specs.Reading.{ReadsAs, status_of_ending}
 use Rattle.read_back.specs.Text.{fault_line}
 use Rattle.read_back.specs.declared.ending.Ending.{Ending}
@@ -19,11 +19,11 @@ use Rattle.record_text.specs.declared.selection.Selection.{Selection}
 use Rattle.record_text.specs.Counting.{chosen, counts_text}
 use Rattle.record_text.specs.Lines.{lined, line_end}
 
--- a reader stands behind these items of a file, where its bytes are told
+-- a reader stands after these items of a file, if its bytes are told
 abbrev pub StandsAt : Option (List ℕ) → Reader → List Item → Type 0
 StandsAt told reader items = IfSome told (λ bytes. IsBehind reader (readable bytes) items)
 
--- what was found behind these items of a file
+-- what was found after these items of a file
 abbrev pub Finds : Option (List ℕ) → Reader → List Item → Result Item Ending → Type 0
 Finds told now items (Ok i) = StandsAt told now (items ++ i ∷ [])
 Finds told now items (Err ending.Whole) = IfSome told (λ bytes. IsRecord (readable bytes) items)
@@ -45,7 +45,7 @@ CountsFound before now (Err ended) = ReadsAs before now (Some ended)
 abbrev pub never_unfit : List Item → Option ℕ
 never_unfit items = None
 
--- items as they are shown, up to the end of the last line where reading ended
+-- items as they are shown, up to the end of the last line if reading ended
 abbrev pub items_text : Selection → List Item → Option Ending → List ℕ
 items_text s items None = (lined s items).text
 items_text s items (Some ended) = (lined s items).text ++ line_end (lined s items).line

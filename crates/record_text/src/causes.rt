@@ -4,8 +4,8 @@ ghost use Rattle.cloak_model.specs.Report as report;
 ghost use Rattle.kernel_report.specs.Putting.{PutsMore, putting};
 ghost use Rattle.record_text.specs.Names as spec;
 
+use io_traits::Sink;
 use kernel_report::lines::{SoFar, hexadecimal, text};
-use outside_io::Sink;
 
 /// The name of the cause of a trap (RISC-V privileged manual, scause). 24 is the one of a context that does not run on the
 /// hart which is inside it.

@@ -1,17 +1,17 @@
 //! The command `show`.
 ghost use Rattle.std.specs.Prelude.{◌≡◌, true, false};
 ghost use Rattle.kernel_report.specs.Putting.{PutsMore, putting};
-ghost use Rattle.outside_io.specs.Told.{SameFiles};
-ghost use Rattle.program_parts.specs.Outside.{outside};
+ghost use Rattle.io_traits.specs.Told.{SameFiles};
+ghost use Rattle.command_parts.specs.Outside.{outside};
 ghost use Rattle.read_back.specs.Reading.{ShowsRecord};
 ghost use Rattle.read_back.specs.Text.{fault_line};
 ghost use Rattle.record_text.specs.Reading.{never_unfit, record_text, status_shown, text_by};
 
 use crate::selection::Selection;
 use crate::showing::{count_items, show_items};
+use command_parts::Status;
+use io_traits::{Shelf, Sink};
 use kernel_report::lines::SoFar;
-use outside_io::{Shelf, Sink};
-use program_parts::Status;
 use read_back::{Ending, show_fault, status};
 
 /// Shows why a record was not read to its end, unless something failed before.

@@ -9,8 +9,8 @@ ghost use Rattle.record_text.specs.Kinds.{is_of_kind};
 
 use crate::kinds::Kinds;
 use cloak_model::Item;
+use io_traits::Sink;
 use kernel_report::lines::{SoFar, decimal, text};
-use outside_io::Sink;
 
 /// How many items there are of each kind.
 #[derive(Clone, Copy, Debug, PartialEq, Eq)]
@@ -27,7 +27,7 @@ pub struct Counts {
     ended: u64,
 }
 
-/// How many items are of a kind, behind one more.
+/// How many items are of a kind, after one more.
 fn counted(count: u64, kind: Kinds, item: &Item) -> u64
     ensures { (items : List Item) → length items < 2 ^ 64 - 1 → count ≡ count_by (is_of_kind kind) items →
         result ≡ count_by (is_of_kind kind) (items ++ item.now ∷ []) }
@@ -39,7 +39,7 @@ fn counted(count: u64, kind: Kinds, item: &Item) -> u64
     }
 }
 
-/// The line of a count, whose name has a space behind it.
+/// The line of a count, whose name has a space after it.
 fn put_count<O: Sink>(out: &mut O, so_far: SoFar, name: &[u8], count: u64) -> SoFar
     ensures { PutsMore (putting O.Sink out.old so_far) (putting O.Sink out.new result) (number_line name.now count) }
 {

@@ -7,8 +7,8 @@ ghost use Rattle.record_text.specs.Items as spec;
 use crate::causes::{call_name, cause_name, put_name, put_word};
 use cloak_base::Shown;
 use cloak_model::Item;
+use io_traits::Sink;
 use kernel_report::lines::{SoFar, decimal, digest, text};
-use outside_io::Sink;
 use sha2::{Digest, Sha256};
 
 /// `program D`
@@ -51,7 +51,7 @@ fn put_put<O: Sink>(out: &mut O, so_far: SoFar, address: u32, width: u8, value: 
     put_word(out, so_far, address)
 }
 
-/// Each word behind a space.
+/// Each word after a space.
 fn put_words<O: Sink>(out: &mut O, so_far: SoFar, words: &[u32]) -> SoFar
     ensures { PutsMore (putting O.Sink out.old so_far) (putting O.Sink out.new result) (words_text words.now) }
 {
@@ -83,7 +83,7 @@ fn put_page<O: Sink>(out: &mut O, so_far: SoFar, shown: &Shown) -> SoFar
     put_word(out, so_far, shown.stval)
 }
 
-/// What a leave shows behind its cause.
+/// What a leave shows after its cause.
 fn put_leave_end<O: Sink>(out: &mut O, so_far: SoFar, shown: &Shown) -> SoFar
     ensures { PutsMore (putting O.Sink out.old so_far) (putting O.Sink out.new result) (spec.leave_end shown.now) }
 {

@@ -2,7 +2,8 @@
 //!
 //! The layer above may rely on this: `show_command` shows each item that is chosen once, in the order of the record
 //! (`specs/Lines`, `specs/Items`), or how many are chosen of each kind (`specs/Counting`), up to the record's end or its
-//! first fault, for which it answers as `view` does. No file is changed. `next_item` is how every tool reads a record.
+//! first fault, for which it returns what `view` returns. No file is changed. `next_item` is how every tool reads a
+//! record.
 #![tactic(auto)]
 
 mod causes;

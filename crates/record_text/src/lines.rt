@@ -4,16 +4,16 @@ ghost use Rattle.kernel_report.specs.Putting.{PutsMore, putting};
 ghost use Rattle.record_text.specs.Lines as spec;
 
 use crate::items::put_item;
-use crate::place::{Place, place_marked};
+use crate::place::{RecordPlace, place_marked};
 use crate::selection::Selection;
 use cloak_model::Item;
+use io_traits::Sink;
 use kernel_report::lines::{SoFar, decimal, text};
-use outside_io::Sink;
 
 /// The line that is being shown.
 #[derive(Clone, Copy, Debug, PartialEq, Eq)]
 pub struct Line {
-    pub place: Place,
+    pub place: RecordPlace,
     /// Something of it was shown.
     pub is_open: bool,
 }
@@ -28,18 +28,18 @@ fn put_number<O: Sink>(out: &mut O, so_far: SoFar, words: &[u8], number: u32) ->
 }
 
 /// The name of a place.
-fn put_place<O: Sink>(out: &mut O, so_far: SoFar, place: Place) -> SoFar
+fn put_place<O: Sink>(out: &mut O, so_far: SoFar, place: RecordPlace) -> SoFar
     ensures { PutsMore (putting O.Sink out.old so_far) (putting O.Sink out.new result) (spec.place_text place) }
 {
     match place {
-        Place::Opening => text(out, so_far, b"opening"),
-        Place::Step(number) => put_number(out, so_far, b"step ", number),
-        Place::Closing(steps) => put_number(out, so_far, b"closing after step ", steps),
-        Place::End => text(out, so_far, b"end"),
+        RecordPlace::Opening => text(out, so_far, b"opening"),
+        RecordPlace::Step(number) => put_number(out, so_far, b"step ", number),
+        RecordPlace::Closing(steps) => put_number(out, so_far, b"closing after step ", steps),
+        RecordPlace::End => text(out, so_far, b"end"),
     }
 }
 
-/// Ends a line, where one was begun.
+/// Ends a line, if one was begun.
 pub fn end_line<O: Sink>(out: &mut O, so_far: SoFar, line: Line) -> SoFar
     ensures { PutsMore (putting O.Sink out.old so_far) (putting O.Sink out.new result) (spec.line_end line) }
 {
@@ -50,7 +50,7 @@ pub fn end_line<O: Sink>(out: &mut O, so_far: SoFar, line: Line) -> SoFar
     }
 }
 
-/// Begins a line, where none was begun.
+/// Begins a line, if none was begun.
 fn begin_line<O: Sink>(out: &mut O, so_far: SoFar, line: Line) -> SoFar
     ensures { PutsMore (putting O.Sink out.old so_far) (putting O.Sink out.new result) (spec.line_begin line) }
 {
@@ -61,8 +61,8 @@ fn begin_line<O: Sink>(out: &mut O, so_far: SoFar, line: Line) -> SoFar
     }
 }
 
-/// Begins the line of a place that is shown also where none of its items is.
-fn begin_bare<O: Sink>(out: &mut O, so_far: SoFar, place: Place, is_bare: bool) -> SoFar
+/// Begins the line of a place that is shown even if none of its items is.
+fn begin_bare<O: Sink>(out: &mut O, so_far: SoFar, place: RecordPlace, is_bare: bool) -> SoFar
     ensures { PutsMore (putting O.Sink out.old so_far) (putting O.Sink out.new result)
         (if is_bare then spec.place_text place else []) }
 {
@@ -73,13 +73,13 @@ fn begin_bare<O: Sink>(out: &mut O, so_far: SoFar, place: Place, is_bare: bool) 
     }
 }
 
-/// Goes on at a place, and answers its line.
+/// Goes on at a place, and returns its line.
 #[tactic(auto, unfolding(crate::specs::Lines::at_place))]
 fn at_place<O: Sink>(
     out: &mut O,
     so_far: SoFar,
     line: Line,
-    place: Place,
+    place: RecordPlace,
     selection: &Selection,
 ) -> (SoFar, Line)
     ensures text { PutsMore (putting O.Sink out.old so_far) (putting O.Sink out.new result.0)
@@ -108,7 +108,7 @@ fn put_chosen<O: Sink>(out: &mut O, so_far: SoFar, line: Line, item: &Item) -> S
     put_item(out, so_far, item)
 }
 
-/// Shows an item that is no marker, where it is chosen, and answers the line that it stands on.
+/// Shows an item that is no marker, if it is chosen, and returns the line that it stands on.
 #[tactic(auto, unfolding(crate::specs::Lines::on_line))]
 fn put_on_line<O: Sink>(
     out: &mut O,
@@ -136,7 +136,7 @@ fn put_on_line<O: Sink>(
     }
 }
 
-/// Shows an item, where it is chosen, and answers the line that it stands on.
+/// Shows an item, if it is chosen, and returns the line that it stands on.
 #[tactic(auto, unfolding(crate::specs::Lines::line_more))]
 pub fn put_next<O: Sink>(
     out: &mut O,
@@ -163,8 +163,8 @@ pub fn put_first<O: Sink>(out: &mut O, so_far: SoFar, selection: &Selection) -> 
     ensures line { result.1 ≡ (spec.opening_line selection.now).line }
 {
     let none = Line {
-        place: Place::Opening,
+        place: RecordPlace::Opening,
         is_open: false,
     };
-    at_place(out, so_far, none, Place::Opening, selection)
+    at_place(out, so_far, none, RecordPlace::Opening, selection)
 }

@@ -6,22 +6,22 @@ use cloak_model::Item;
 
 /// Where items of a record stand.
 #[derive(Clone, Copy, Debug, PartialEq, Eq)]
-pub enum Place {
+pub enum RecordPlace {
     Opening,
     Step(u32),
-    /// Behind so many steps.
+    /// After this many steps.
     Closing(u32),
     End,
 }
 
 /// The place that a marker begins.
-pub fn place_marked(item: &Item) -> Option<Place>
+pub fn place_marked(item: &Item) -> Option<RecordPlace>
     ensures { result ≡ spec.place_marked item.now }
 {
     match *item {
-        Item::Step { number } => Some(Place::Step(number)),
-        Item::Close { steps } => Some(Place::Closing(steps)),
-        Item::End => Some(Place::End),
+        Item::Step { number } => Some(RecordPlace::Step(number)),
+        Item::Close { steps } => Some(RecordPlace::Closing(steps)),
+        Item::End => Some(RecordPlace::End),
         _ => None,
     }
 }

@@ -1,12 +1,12 @@
 //! The next item of a record, or how reading ended. All tools read records by this call.
 ghost use Rattle.std.specs.Prelude.{◌≡◌, ◌<◌, ◌^◌, List, IfOk};
 ghost use Rattle.cloak_model.specs.declared.item.Item.{Item};
-ghost use Rattle.outside_io.specs.Told.{SameFiles};
+ghost use Rattle.io_traits.specs.Told.{SameFiles};
 ghost use Rattle.record_reader.specs.Reading.{reader_offset};
 ghost use Rattle.record_text.specs.Reading.{CountsFound, Finds, StandsAt, found_item};
 
 use cloak_model::Tag;
-use outside_io::Shelf;
+use io_traits::Shelf;
 use read_back::Ending;
 use record_reader::{KeptItems, NextFault, Reader};
 

@@ -4,7 +4,7 @@ ghost use Rattle.record_text.specs.Kinds as spec;
 ghost use Rattle.record_text.specs.Lines.{has_bare};
 
 use crate::kinds::Kinds;
-use crate::place::Place;
+use crate::place::RecordPlace;
 use cloak_model::Item;
 
 /// What of a record is chosen.
@@ -14,33 +14,33 @@ pub struct Selection {
     pub from: u32,
     /// The last step; 2^32 - 1 for the closing too.
     pub to: u32,
-    /// The kinds of items; where there are none, all items and each step.
+    /// The kinds of items; if there are none, all items and each step.
     pub only: Option<Kinds>,
-    /// How many items there are of each kind, in the place of the items.
+    /// How many items there are of each kind, instead of the items.
     pub counts: bool,
 }
 
 impl Selection {
     /// The place is chosen.
-    fn has_place(&self, place: Place) -> bool
+    fn has_place(&self, place: RecordPlace) -> bool
         ensures { result ≡ spec.has_place self.now place }
     {
         match place {
-            Place::Opening => self.from == 0,
-            Place::Step(number) => self.from <= number && number <= self.to,
-            Place::Closing(_) | Place::End => self.to == u32::MAX,
+            RecordPlace::Opening => self.from == 0,
+            RecordPlace::Step(number) => self.from <= number && number <= self.to,
+            RecordPlace::Closing(_) | RecordPlace::End => self.to == u32::MAX,
         }
     }
 
-    /// A place has its line also where none of its items is chosen.
-    pub fn has_bare(&self, place: Place) -> bool
+    /// A place has its line even if none of its items is chosen.
+    pub fn has_bare(&self, place: RecordPlace) -> bool
         ensures { result ≡ has_bare self.now place }
     {
         self.only.is_none() && self.has_place(place)
     }
 
     /// An item of this place, which is no marker, is chosen.
-    pub fn has_item(&self, place: Place, item: &Item) -> bool
+    pub fn has_item(&self, place: RecordPlace, item: &Item) -> bool
         ensures { result ≡ spec.has_item self.now place item.now }
     {
         self.has_chosen_kind(item) && self.has_place(place)

@@ -1,18 +1,18 @@
 //! A record, from its first item to its end or its first fault.
 ghost use Rattle.std.specs.Prelude.{◌≡◌, ◌<◌, ◌-◌, ◌^◌, length, Ok, Some};
 ghost use Rattle.kernel_report.specs.Putting.{putting};
-ghost use Rattle.outside_io.specs.Told.{SameFiles};
+ghost use Rattle.io_traits.specs.Told.{SameFiles};
 ghost use Rattle.record_text.specs.Counting.{AreCounts, Chosen, chosen_more};
 ghost use Rattle.record_text.specs.Showing.{CountsItems, ShowsItems};
 
 use crate::counts::Counts;
 use crate::lines::{end_line, put_first, put_next};
-use crate::place::{Place, place_marked};
+use crate::place::{RecordPlace, place_marked};
 use crate::reading::next_item;
 use crate::selection::Selection;
 use cloak_base::Failed;
 use cloak_model::Item;
-use outside_io::{Shelf, Sink};
+use io_traits::{Shelf, Sink};
 use read_back::Ending;
 use record_reader::{KeptItems, Reader};
 
@@ -53,8 +53,13 @@ pub fn show_items<S: Shelf, O: Sink>(
     }
 }
 
-/// Counts an item, where it is chosen, and answers the place of what comes next.
-fn count_next(counts: &mut Counts, selection: &Selection, place: Place, item: &Item) -> Place
+/// Counts an item, if it is chosen, and returns the place of what comes next.
+fn count_next(
+    counts: &mut Counts,
+    selection: &Selection,
+    place: RecordPlace,
+    item: &Item,
+) -> RecordPlace
     ensures counts { (c : Chosen) → c.place ≡ place → length c.items < 2 ^ 64 - 1 → AreCounts counts.old c.items →
         AreCounts counts.new (chosen_more selection.now c item.now).items }
     ensures place { (c : Chosen) → c.place ≡ place → result ≡ (chosen_more selection.now c item.now).place }
@@ -68,7 +73,7 @@ fn count_next(counts: &mut Counts, selection: &Selection, place: Place, item: &I
     place
 }
 
-/// Counts the items of a record that are chosen, and answers how reading ended.
+/// Counts the items of a record that are chosen, and returns how reading ended.
 pub fn count_items<S: Shelf>(name: &str, selection: &Selection, shelf: &mut S) -> (Counts, Ending)
     requires { S.is_settled shelf.old }
     ensures counts { CountsItems selection.now (S.held shelf.old name.now)
@@ -77,7 +82,7 @@ pub fn count_items<S: Shelf>(name: &str, selection: &Selection, shelf: &mut S) -
     ensures writing { S.writing_faults shelf.new ≡ S.writing_faults shelf.old }
 {
     let mut counts = Counts::new();
-    let mut place = Place::Opening;
+    let mut place = RecordPlace::Opening;
     let mut reader = Reader::open(name);
     let mut kept = KeptItems::new();
     loop {

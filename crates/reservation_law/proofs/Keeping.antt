@@ -1,4 +1,4 @@
--- What stays of RAM and of reservations where it is written: the bytes and the words that the write spares.
+-- What stays of RAM and of reservations when RAM is written: the bytes and the words that the write spares.
 use Rattle.std.proofs.Common.{◌≡◌, ◌∙◌, ◌<◌, ◌≤◌, ℕ, ◌+◌, ◌-◌, ◌*◌, ◌/◌, ◌%◌, Bool, true, false, ◌&&◌, List, [], ◌∷◌, ◌++◌, length, get_or, map, take, drop, replicate, slice_set, slice_index_or, Option, Some, None, inl, inr, refl, sym, ap, subst, arith, length-drop, length-append}
 use Rattle.std.specs.Prelude.{◌==◌, ◌≢◌, if◌then◌else◌}
 use Rattle.std.specs.Int.{w32, to_le_bytes, from_le_bytes}
@@ -11,6 +11,7 @@ use Rattle.cloak_base.specs.Constants.{ram_start, frame_of, place_of}
 use Rattle.cloak_model.specs.Effect.{IsWidth}
 use Rattle.cloak_model.specs.Memory.{Seen, value_in, value_at, with_value_in, mark_of, with_mark, word_at, unless_written, stored, filled}
 use Rattle.reservation_law.specs.Writes.{Extent, has_byte, meets_word}
+use Rattle.settling_ahead.proofs.Planning.{unmarked}
 
 -- these writes leave the word at an address, and the byte
 
@@ -160,9 +161,6 @@ mark_ended hart marks k pa is = elim (cases_lt k hart) [
         ]
   ]
 ]
-
-abbrev pub unmarked : ℕ → Seen → Seen
-unmarked hart seen = record seen { marks = with_mark hart None seen.marks }
 
 pub keeps_unmarked : (hart : ℕ) (s : Seen) → Keeps [] s (unmarked hart s)
 keeps_unmarked hart s = record {

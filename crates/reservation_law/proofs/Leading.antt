@@ -1,5 +1,5 @@
 -- An access leads to an address with the lowest two bits of its own.
-use Rattle.std.proofs.Common.{◌≡◌, ◌∙◌, ℕ, ◌+◌, ◌*◌, ◌%◌, not, List, [], length, Option, Some, None, Ok, Err, refl, ap, sym, arith}
+use Rattle.std.proofs.Common.{◌≡◌, ◌∙◌, ℕ, ◌+◌, ◌*◌, ◌%◌, not, List, [], length, Option, Some, None, Ok, Err, refl, ap, sym}
 use Rattle.cloak_model.specs.declared.access.Access.{Access}
 use Rattle.rv_isa.specs.Fields.{bits}
 use Rattle.cloak_model.specs.Memory.{Seen}
@@ -11,6 +11,7 @@ use Rattle.cloak_model.proofs.FlatWalk.{ask_walk-flat}
 use Rattle.kernel_isolation.proofs.Shown.{either}
 use Rattle.settling_ahead.proofs.Plans.{answer_in, follow-flat}
 use Rattle.settling_ahead.proofs.Planning.{plan_walk, walk_planned}
+use Rattle.kernel_isolation.proofs.Leading.{first_place, second_place}
 
 abbrev pub KeepsPlace : ℕ → Walk → Type 0
 KeepsPlace va (Ok walked) = walked.pa % 4 ≡ va % 4
@@ -19,12 +20,6 @@ KeepsPlace va (Err cause) = Unit {0}
 abbrev EndKeepsPlace : ℕ → FirstWord → Type 0
 EndKeepsPlace va (Ends walk) = KeepsPlace va walk
 EndKeepsPlace va (GoesOn at0) = Unit {0}
-
-first_place : (x va : ℕ) → (4194304 * x + bits va 21 0) % 4 ≡ va % 4
-first_place x va = omega arith
-
-second_place : (x va : ℕ) → (4096 * x + bits va 11 0) % 4 ≡ va % 4
-second_place x va = omega arith
 
 first_leaf_keeps : (a : Access) (at1 e : ℕ) → KeepsPlace a.va (first_leaf a at1 e)
 unfolding first_leaf
@@ -80,7 +75,7 @@ walk_keeps ram satp a =
     (after_keeps ram a at1 (first_word a at1 (word_in_ram ram at1)) (first_word_keeps a at1
     (word_in_ram ram at1))) refl
 
--- the plan of a walk answers it
+-- the answer of a walk's plan is the walk
 pub walk_answer : (ram : List (List ℕ)) (satp : ℕ) (a : Access) →
     answer_in (plan_walk (length ram) satp a) ram ≡ walk ram satp a
 walk_answer ram satp a =

@@ -16,7 +16,7 @@ use Rattle.reservation_law.specs.Writes.{outside_deed}
 use Rattle.reservation_law.proofs.Keeping.{AreWhole}
 use Rattle.reservation_law.proofs.Turns.{TurnDoes, step_done}
 
--- A hart that there is not does nothing: no memory lies where it begins.
+-- A hart that does not exist does nothing: no memory lies where it begins.
 
 idle_started : (seen : Seen) (disk : List ℕ) → deed_of (started 0 0) seen disk ≡ Idle
 unfolding deed_of started ticked interrupt_due walk

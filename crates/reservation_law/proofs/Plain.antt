@@ -34,15 +34,16 @@ use Rattle.cloak_model.specs.World.{Flat, seen_of}
 use Rattle.step_parts.specs.Parts.{loaded}
 use Rattle.settling_ahead.proofs.Laws.{flat_step}
 use Rattle.settling_ahead.proofs.Plans.{Plan, Gives, then_plan, answer_in, answer_then}
-use Rattle.settling_ahead.proofs.Planning.{Close, leaves, inside, release, plan_walk, plan_access, plan_loaded, plan_stored, plan_reserved, conditional_by, plan_conditioned, plan_combined, plan_atomic_access, plan_atomic, plan_in, plan_out, plan_read, plan_write, plan_host_call, plan_ecall_in, plan_ecall, plan_done, plan_decoded, plan_fetched, plan_interrupted, plan_step}
+use Rattle.settling_ahead.proofs.Planning.{Close, leaves, inside, release, plan_walk, plan_access, plan_loaded, plan_stored, plan_reserved, conditional_by, plan_conditioned, plan_combined, plan_atomic_access, plan_atomic, plan_in, plan_out, plan_read, plan_write, plan_host_call, plan_ecall_in, plan_ecall, plan_done, plan_decoded, plan_fetched, plan_interrupted, plan_step, unmarked}
 use Rattle.reservation_law.specs.Deeds.{Deed, Idle, Reserves, StoresReserved, Stores, Fills, target, target_of, done_at, read_deed, effect_deed, atomic_deed, atomic_word_deed, word_deed, fetched_deed, deed_after, deed_of}
 use Rattle.reservation_law.specs.Writes.{deed_extents}
-use Rattle.reservation_law.proofs.Keeping.{SparesWord, SparesByte, AreWhole, Keeps, keeps_all, keeps_then, unmarked, keeps_unmarked, keeps_filled, keeps_stored}
+use Rattle.reservation_law.proofs.Keeping.{SparesWord, SparesByte, AreWhole, Keeps, keeps_all, keeps_then, keeps_unmarked, keeps_filled, keeps_stored}
 use Rattle.reservation_law.proofs.Effects.{StoresAligned, effect_aligned}
 use Rattle.reservation_law.proofs.Leading.{KeepsPlace, walk_keeps, walk_answer}
 use Rattle.kernel_isolation.proofs.Leading.{is_aligned}
+use Rattle.settling_ahead.proofs.Reached.{other_number}
 
--- A reservation that a hart has behind a step: its own LR made it, or it was there, and the step wrote no byte of
+-- A reservation that a hart has after a step: its own LR made it, or it was there, and the step wrote no byte of
 -- its word.
 abbrev pub Came : Deed → ℕ → Seen → ℕ → ℕ → Type 0
 Came deed id s k pa =
@@ -361,9 +362,6 @@ no_read U h ram disk not = refl
 no_read S h ram disk not =
     let t = is_transfer (length ram) disk (register h.regs 10) (register h.regs 11) in
     sym (ap (λ (b : Bool). if b && t then Fills (register h.regs 11) else Idle) not)
-
-other_number : (x k j : ℕ) → (x == k) ≡ true → (k == j) ≡ false → (x == j) ≡ false
-other_number x k j is other = ap (λ (n : ℕ). n == j) (eqb-true x k is) ∙ other
 
 does_other : (mode : Mode) (h : Hart) (s : Seen) (disk : List ℕ) (k : ℕ) (made : SteppedKernel) → (k == 2) ≡ false →
     made.hart.id ≡ h.id → (register h.regs 17 == k) ≡ true →

@@ -22,8 +22,8 @@ use Rattle.cloak_model.specs.Run.{Run, run_from, unless_stopped, turns_from, joi
 use Rattle.kernel_isolation.specs.Isolation.{joint_until}
 use Rattle.kernel_isolation.proofs.Isolated.{of_opened}
 use Rattle.kernel_isolation.proofs.Opened.{is_opened}
-use Rattle.store_law.specs.Ciphers.{items_of_turn}
-use Rattle.store_law.proofs.OwnPages.{moment_behind, step_is}
+use Rattle.page_law.specs.Ciphers.{items_of_turn}
+use Rattle.page_law.proofs.OwnPages.{moment_behind, step_is}
 use Rattle.reservation_law.specs.Reservations.{WasReserved, ReservationsAreKept, ConditionalsStoreReserved, BytesStay}
 use Rattle.reservation_law.specs.Writes.{meets_word, has_byte, items_extents, hart_of_step, deed_of_step, writes_of_step, outside_deed, spares_word}
 use Rattle.reservation_law.proofs.Keeping.{marks_left}

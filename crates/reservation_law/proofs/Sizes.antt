@@ -250,7 +250,7 @@ answer_sizes c d answer.Stopped = more_sizes c _ (item.Stopped d ∷ []) refl (t
 sizes_replies : (a : Answer) (w : World) → Sizes w (replies a w).world
 unfolding replies
 sizes_replies a (Flat ram) = no_flat ram _
-sizes_replies a (Cloaked c) = answer_sizes c c.view.domain a
+sizes_replies a (Cloaked c) = answer_sizes c c.regime.domain a
 sizes_replies a (Alone h) = no_alone h _
 
 sizes_drawn : (ask : Asking Answer) (w : World) → Sizes w (ask w).world → Sizes w (if_drawn ask w).world
@@ -321,8 +321,8 @@ unfolding put_at replies
 sizes_put_at pa width value (Flat ram) is = no_flat ram _
 sizes_put_at pa width value (Cloaked c) is =
     let put : Item = item.Put pa width (value % 2 ^ (8 * width)) in
-    more_sizes c _ (put ∷ (item.Ok c.view.domain ∷ []))
-    (append_assoc c.items (put ∷ []) (item.Ok c.view.domain ∷ [])) (is, (tt, tt))
+    more_sizes c _ (put ∷ (item.Ok c.regime.domain ∷ []))
+    (append_assoc c.items (put ∷ []) (item.Ok c.regime.domain ∷ [])) (is, (tt, tt))
 sizes_put_at pa width value (Alone h) is = no_alone h _
 
 sizes_stored : (va width value : ℕ) (to : Result ℕ ℕ) (w : World) → IsWidth width →

@@ -49,7 +49,7 @@ use Rattle.reservation_law.proofs.StepSizes.{sizes_domain_step, sizes_end}
 abbrev pub id_in : List Hart → ℕ → ℕ
 id_in harts k = (slice_index_or harts k (started 0 0)).id
 
--- A reservation that a hart has behind a step: its own LR made it, or it was there, and nothing wrote a byte of
+-- A reservation that a hart has after a step: its own LR made it, or it was there, and nothing wrote a byte of
 -- its word.
 abbrev pub CameIn : Deed → ℕ → Seen → List Item → ℕ → ℕ → Type 0
 CameIn deed number s items k pa =
@@ -315,7 +315,7 @@ leave_id : (h : Hart) (s : Shown) → (leave h s).id ≡ h.id
 unfolding leave
 leave_id h s = refl
 
--- after these items the joint machine is so
+-- what the joint machine is after these items
 record IsReached (j j' : Joint) (items : List Item) : Type 0 where
   pub harts : j'.harts ≡ j.harts
   pub keeps : Keeps (items_extents items) (seen_in j.memory) (seen_in j'.memory)
@@ -445,7 +445,7 @@ unfolding inside_step
 inside_done j number h ctx None places same = not_running_done j number ctx h places same
 inside_done j number h ctx (Some was) places same = running_done _ j number h ctx was places same
 
--- The end of a domain behind a step.
+-- The end of a domain after a step.
 
 refused_done : (deed : Deed) (number : ℕ) (j : Joint) (t : Turn) → TurnDone deed number j t →
     TurnDone deed number j (refuses t)

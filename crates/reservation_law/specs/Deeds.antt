@@ -30,7 +30,7 @@ pub data Deed : Type 0 where
   Reserves : ℕ → Deed
   -- SC: the word at this address is stored, since the hart has reserved it
   StoresReserved : ℕ → Deed
-  -- a store or an atomic memory operation: so many bytes are stored from this address on
+  -- a store or an atomic memory operation: this many bytes are stored from this address on
   Stores : ℕ → ℕ → Deed
   -- READ: the frame that begins at this address is filled from the disk
   Fills : ℕ → Deed

@@ -1,11 +1,11 @@
--- Reservations of harts: whoever writes RAM, SC stores only where no byte of its word was written since the hart's LR.
+-- Reservations of harts: whoever writes RAM, SC stores only if no byte of its word was written since the hart's LR.
 use Rattle.std.specs.Prelude.{ℕ, suc, ◌≡◌, ◌≤◌, true, length, slice_get, Some, Ok}
 use Rattle.cloak_model.specs.declared.image.Bundle.{Bundle}
 use Rattle.cloak_model.specs.Beginning.{Beginning}
 use Rattle.cloak_model.specs.Memory.{is_in_ram, value_at, mark_of}
 use Rattle.cloak_model.specs.Run.{Run, run_from}
 use Rattle.kernel_isolation.specs.Isolation.{joint_until}
-use Rattle.store_law.specs.Ciphers.{items_of_turn}
+use Rattle.page_law.specs.Ciphers.{items_of_turn}
 use Rattle.reservation_law.specs.Deeds.{Reserves, StoresReserved}
 use Rattle.reservation_law.specs.Writes.{hart_of_step, deed_of_step, writes_of_step, items_extents, spares_byte, spares_word}
 

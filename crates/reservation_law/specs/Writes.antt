@@ -12,10 +12,10 @@ use Rattle.cloak_model.specs.Joint.{hart_in}
 use Rattle.cloak_model.specs.Parts.{Joint}
 use Rattle.cloak_model.specs.Run.{Run}
 use Rattle.kernel_isolation.specs.Isolation.{joint_until}
-use Rattle.store_law.specs.Ciphers.{items_of_turn}
+use Rattle.page_law.specs.Ciphers.{items_of_turn}
 use Rattle.reservation_law.specs.Deeds.{Deed, Idle, Reserves, StoresReserved, Stores, Fills, deed_of}
 
--- So many bytes from an address on.
+-- This many bytes from an address on.
 pub record Extent : Type 0 where
   pub from : ℕ
   pub count : ℕ

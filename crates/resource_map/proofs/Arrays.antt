@@ -1,4 +1,4 @@
--- What `map` of an array gives.
+-- What `map` of an array returns.
 use Rattle.std.proofs.Common.{◌≡◌, ℕ, zero, suc, ◌+◌, ◌<◌, ◌≤◌, List, length, get_or, map, sym, ap, subst, ◌∙◌, inl, inr, arith}
 use Rattle.std.proofs.lemmas.Bool.{cases_eq}
 use Rattle.std.proofs.lemmas.List.{same_lists, get_or-map, length-map}
@@ -7,7 +7,7 @@ use Rattle.std.specs.Fn.{Called}
 use denote.Param.Members.{Mut}
 
 module _ {F A B : Type 0} (g : Mut F (A × Unit {0}) B) (f : F) (h : A → B) (says : (a : A) (b : B) (q : F) → Called g f (a, tt) b q → (b ≡ h a) × (q ≡ f)) where
-  -- each call gives h of its element, and leaves the closure as it was
+  -- each call returns h of its element, and leaves the closure as it was
   mapped_each : (xs : List A) (ys : List B) (n i : ℕ) → MapsFrom g f xs ys i n → (k : ℕ) (d : A) (e : B) → i ≤ k → k < i + n → get_or ys k e ≡ h (get_or xs k d)
   mapped_each xs ys zero i made k d e low high = absurd (omega arith)
   mapped_each xs ys (suc n) i made k d e low high =

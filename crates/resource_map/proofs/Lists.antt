@@ -56,7 +56,7 @@ inside_from_some [] i some = absurd (false≢true some)
 inside_from_some (x ∷ xs) zero some = omega arith
 inside_from_some (x ∷ xs) (suc i) some = let later = inside_from_some xs i some in omega arith
 
--- none passes where there is no first that does
+-- none passes if there is no first that does
 no_position : {X : Type 0} (p : X → Bool) (xs : List X) → IsNone (position p xs) → length xs ≤ position_or_len p xs
 no_position p xs none =
     elim (cases_lt (position_or_len p xs) (length xs)) [

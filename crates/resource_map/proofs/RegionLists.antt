@@ -31,7 +31,7 @@ unwrap_or-position p xs n e =
       | inr ge ↦ ap (λ (t : Bool). unwrap_or (cond t (Some (position_or_len p xs)) None) n) (le-ltb _ _ ge) ∙ omega arith
     ]
 
--- Where no region has an address.
+-- When no region has an address.
 
 find_none : (va : ℕ) (xs : List Region) → All (λ (h : Region). va < h.start) xs → find (is_inside va) xs ≡ None
 find_none va [] above = refl
@@ -98,7 +98,7 @@ apart_cases g h e =
 EndsBelow-all : (g h : Region) (xs : List Region) → region_end g ≤ h.start → All (EndsBelow h) xs → All (EndsBelow g) xs
 EndsBelow-all g h xs below all = All-weaker (EndsBelow h) (EndsBelow g) (λ x above. omega arith) xs all
 
--- a region with those that lie above the first of these, or behind it
+-- a region with these, before the first of them or after it
 put : Bool → Region → Region → List Region → List Region
 put t g h xs = cond t (g ∷ (h ∷ xs)) (h ∷ with_region g xs)
 

@@ -98,7 +98,7 @@ one_file (File file) pages number r may few =
 other_number : (r : Resources) (n m : ℕ) (P : Resource → Type 0) → resource_at r n ≡ None → IsSomeAnd (resource_at r m) P → m ≢ n
 other_number r n m P free there same = subst (λ (o : Option Resource). IsSomeAnd o P) free (subst (λ (k : ℕ). IsSomeAnd (resource_at r k) P) same there)
 
--- what is mapped stays so where its resource does
+-- what is mapped stays mapped if its resource stays
 mapped_stays : (r r' : Resources) (space : ℕ) (g : Region) → resource_at r' g.resource ≡ resource_at r g.resource → IsMapped r space g → IsMapped r' space g
 mapped_stays r r' space g same there =
     subst (λ (o : Option Resource). IsSomeAnd o (λ x. (is_shared_with space x.owner ≡ true) × (g.first + g.pages ≤ x.pages))) (sym same) there

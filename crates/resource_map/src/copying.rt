@@ -60,7 +60,7 @@ pub fn private_pages(space: u32, held: &Held) -> u64
     sum
 }
 
-/// The number that stands for a resource in the new space: its copy's, where it has one.
+/// The number that stands for a resource in the new space: its copy's, if it has one.
 fn copy_of(copies: &[(u32, u32)], n: u32) -> u32
     ensures { result ≡ fork.copy_of copies.now n }
 {

@@ -9,7 +9,7 @@ use cloak_model::{Owner, Resource};
 /// The 16 numbers, each free or a resource.
 pub type Held = [Option<Resource>; 16];
 
-/// The pages of a number: 0 where it is free.
+/// The pages of a number: 0 if it is free.
 pub fn pages_of(held: &Option<Resource>) -> u32
     ensures { result ≡ spec.pages_of held.now }
 {

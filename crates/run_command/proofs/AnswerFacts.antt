@@ -1,33 +1,33 @@
--- What the commands answer.
+-- What the commands return.
 use Rattle.std.proofs.Common.{◌≡◌, ◌<◌, ◌-◌, ◌^◌, ℕ, Bool, true, false, List, [], refl, sym, ◌∙◌, ap, subst, inl}
 use Rattle.std.proofs.Common.{inr, Option, Some, Result}
 use Rattle.cloak_base.specs.declared.causes.Stop.{Stop}
 use Rattle.cloak_base.specs.declared.causes.Stop.TheVariants as stop
 use Rattle.cloak_machine.specs.declared.machine.Machine.{Machine}
-use Rattle.outside_io.specs.declared.shelf.Shelf as shelves
-use Rattle.outside_io.specs.declared.sink.Sink as sinks
-use Rattle.outside_io.specs.Told.{Tells, Grows, Rose, SameFiles, OtherFiles}
-use Rattle.outside_io.proofs.ToldFacts.{Tells_after, Rose-after}
+use Rattle.io_traits.specs.declared.shelf.Shelf as shelves
+use Rattle.io_traits.specs.declared.sink.Sink as sinks
+use Rattle.io_traits.specs.Told.{Tells, Grows, Rose, SameFiles, OtherFiles}
+use Rattle.io_traits.proofs.ToldFacts.{Tells_after, Rose-after}
 use Rattle.command_words.specs.Command as spec
 use Rattle.cloak_model.specs.Exchange.{Piece, recorded, shown, recorded_bytes, shown_bytes}
 use Rattle.std.specs.Result.{result_map_both}
 use Rattle.cloak_model.specs.Beginning.{Fresh}
 use Rattle.cloak_model.specs.Opening.{Opened, Lack}
 use Rattle.cloak_model.specs.Run.{Run, run_of, due}
-use Rattle.program_parts.specs.declared.refusal.Refusal.{Refusal}
-use Rattle.program_parts.specs.declared.refusal.Refusal.TheVariants as refusal
-use Rattle.program_parts.specs.declared.status.Status.{Status}
-use Rattle.program_parts.specs.declared.status.Status.TheVariants as status
+use Rattle.command_parts.specs.declared.refusal.Refusal.{Refusal}
+use Rattle.command_parts.specs.declared.refusal.Refusal.TheVariants as refusal
+use Rattle.command_parts.specs.declared.status.Status.{Status}
+use Rattle.command_parts.specs.declared.status.Status.TheVariants as status
 use Rattle.run_command.specs.declared.outlet.Outlet.{Outlet}
-use Rattle.program_parts.specs.Outside.{Raised, Output, Outside, OnlyRead, outside}
+use Rattle.command_parts.specs.Outside.{Raised, Output, Outside, OnlyRead, outside}
 use Rattle.run_command.specs.Outlet.{pieces_left, FailedAt, WroteAll, WroteFront, Writes, Gave}
-use Rattle.program_parts.specs.Refusal.{status_of_refusal}
+use Rattle.command_parts.specs.Refusal.{status_of_refusal}
 use Rattle.run_command.specs.Running.{NoClash, IsStatusOfStop, run_status, status_of, unless_refused}
 use Rattle.run_command.specs.Preparing.{IsPrepared}
 use Rattle.run_command.specs.Recording.{Records, GrowsSome}
-use Rattle.program_parts.specs.Refusing.{Refuses}
-use Rattle.program_parts.proofs.FaultFacts.{raised}
-use Rattle.program_parts.specs.NoRun.{NoRun, IsRefused}
+use Rattle.command_parts.specs.Refusing.{Refuses}
+use Rattle.command_parts.proofs.FaultFacts.{raised}
+use Rattle.command_parts.specs.NoRun.{NoRun, IsRefused}
 use Rattle.run_command.proofs.Lawful.{is_lawful}
 use Rattle.run_command.specs.Answering.{AsksRun, IsLawful, HasRun, RunAnswers, KeepsFiles}
 
@@ -49,7 +49,7 @@ answers_refused asked (refusal.BadState fault) before after refused = refused
 answers_refused asked (refusal.ChangedDomain domain) before after refused = refused
 answers_refused asked (refusal.ChangedFrame frame) before after refused = refused
 
--- what is answered where there is no run
+-- what is returned if there is no run
 pub answers_no_run : {S O : Type 0} {asked : spec.Asked} {r : Refusal} {before after : Outside S O} {given : Status} →
     NoRun asked r before.files after.files → before.output.faults < 2 ^ 64 - 1 →
     Refuses before.output after.output r given → RunAnswers asked before after given
@@ -214,7 +214,7 @@ pub failed_above : {S O : Type 0} (piece : Piece) (before after : Outside S O) �
 failed_above (recorded bytes) before after low_writing low_faults fault = (raised fault.0 low_writing, fault.1)
 failed_above (shown bytes) before after low_writing low_faults fault = (fault.0, raised fault.1 low_faults)
 
--- what the words ask for where a machine was prepared
+-- what the words ask for if a machine was prepared
 pub asks_run : {asked : spec.Asked} {held : List ℕ → Option (List ℕ)} {record_name : List ℕ} {steps : ℕ}
     {machine : Machine} (prepared : IsPrepared asked held (Some record_name) steps machine) →
     AsksRun asked held record_name (run_of prepared.bundle steps prepared.opened)

@@ -1,12 +1,12 @@
 -- A record that was begun, and what was written then, seen from before the files of the run were read.
 use Rattle.std.proofs.Common.{◌≡◌, ◌<◌, ◌≤◌, ◌-◌, ◌^◌, ◌∙◌, ℕ, Bool, false, List, [], ◌∷◌, ◌++◌, length, take, refl, sym, ap, subst, length-append, arith, Option, Some, None, Result, OnOk, is_err}
 use Rattle.cloak_base.specs.declared.causes.Failed.{Failed}
-use Rattle.outside_io.specs.declared.shelf.Shelf as shelves
-use Rattle.outside_io.specs.declared.sink.Sink as sinks
-use Rattle.outside_io.specs.Told.{Counts, Tells, Grows, GrowsByFront, Rose, OtherFiles}
+use Rattle.io_traits.specs.declared.shelf.Shelf as shelves
+use Rattle.io_traits.specs.declared.sink.Sink as sinks
+use Rattle.io_traits.specs.Told.{Counts, Tells, Grows, GrowsByFront, Rose, OtherFiles}
 use Rattle.cloak_model.specs.Exchange.{Piece, shown_bytes}
-use Rattle.program_parts.specs.Outside.{FilesOutside, NothingRose, OnlyRead, Output, Outside, Raised, outside}
-use Rattle.program_parts.proofs.FaultFacts.{counted, succeeded}
+use Rattle.command_parts.specs.Outside.{FilesOutside, NothingRose, OnlyRead, Output, Outside, Raised, outside}
+use Rattle.command_parts.proofs.FaultFacts.{counted, succeeded}
 use Rattle.run_command.specs.declared.outlet.Outlet.{Outlet}
 use Rattle.run_command.specs.Outlet.{FailedAt, Gave, Writes, WroteAll}
 use Rattle.run_command.specs.Recording.{GrowsSome}

@@ -12,7 +12,7 @@ before_step : (m : Moment) → NoClashYet (joint_step m).joint → NoClashYet m.
 unfolding joint_step
 before_step m none = step_unclashed m.joint (next_hart m) none
 
--- what follows a step, where none clashed in what may follow it
+-- what follows a step, if none clashed in what may follow it
 pub rest_unclashed : (stopped : Option Stop) (more : Moment → List Turn) (m : Moment) →
     (NoClashYet (joint_after m.joint (more m)) → NoClashYet m.joint) →
     NoClashYet (joint_after m.joint (unless_stopped stopped more m)) → NoClashYet m.joint
@@ -28,7 +28,7 @@ turns_unclashed (suc n) m none =
     before_step m
     (rest_unclashed (stop_of t) (turns_from n) (after_turn m t) (turns_unclashed n (after_turn m t)) none)
 
--- and none behind the steps of a run in which none did
+-- and none clashed after the steps of a run in which none did
 pub run_unclashed : (b : Bundle) (steps : ℕ) (o : Opened) → NoClash (run_of b steps o) →
     NoClashYet (joint_after o.joint (turns_from steps (first_moment b o.joint)))
 unfolding run_of

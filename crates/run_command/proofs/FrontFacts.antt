@@ -1,4 +1,4 @@
--- Where no item of a record is unfit, none is on the way: a machine alone whose item was unfit stays so.
+-- If no item of a record is unfit, none is on the way: a machine alone whose item was unfit stays that way.
 use Rattle.std.proofs.Common.{◌≡◌, ◌∙◌, ℕ, List, [], ◌∷◌, ◌++◌, Option, Some, None, is_some, refl, sym, ap}
 use Rattle.std.proofs.lemmas.Bool.{cond-true}
 use Rattle.cloak_model.specs.declared.image.KernelImage.{KernelImage}

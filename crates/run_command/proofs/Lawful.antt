@@ -7,8 +7,8 @@ use Rattle.cloak_model.specs.Bundle.{IsInGrammar}
 use Rattle.cloak_model.specs.DomainAlone.{domain_alone_from, part_from}
 use Rattle.cloak_model.specs.KernelAlone.{kernel_alone}
 use Rattle.cloak_model.specs.Run.{Run, run_from, exchange, record_bytes, most_steps}
-use Rattle.item_law.specs.Writing.{IsOfBytes, IsBeginningOfBytes}
-use Rattle.item_law.proofs.Runs.{writes_a_record}
+use Rattle.range_law.specs.Writing.{IsOfBytes, IsBeginningOfBytes}
+use Rattle.range_law.proofs.Runs.{writes_a_record}
 use Rattle.record_law.proofs.Judged.{one_record, not_both}
 use Rattle.kernel_isolation.proofs.Isolated.{kernel_ends_alone}
 use Rattle.domain_isolation.proofs.Isolated.{domain_ends_alone}
@@ -16,8 +16,8 @@ use Rattle.latest_store.proofs.Histories.{runs_give_latest}
 use Rattle.latest_store.proofs.Sums.{runs_add_up}
 use Rattle.reservation_law.proofs.Runs.{conditionals_store_reserved}
 use Rattle.context_law.proofs.Runs.{contexts_store_reserved}
-use Rattle.store_law.proofs.Ciphers.{ciphers_show_pages, pages_keep_their_keys}
-use Rattle.store_law.proofs.OwnDraws.{ciphers_have_own_draws}
+use Rattle.page_law.proofs.Ciphers.{ciphers_show_pages, pages_keep_their_keys}
+use Rattle.page_law.proofs.OwnDraws.{ciphers_have_own_draws}
 use Rattle.cause_law.proofs.Closed.{closing_owes_nothing}
 use Rattle.cause_law.proofs.Runs.{count_has_cause, end_has_cause, listed_have_ended, presented_is_refused, stopped_ends, violation_has_cause}
 use Rattle.run_command.specs.Answering.{IsLawful}

@@ -4,13 +4,13 @@ use Rattle.std.proofs.Common.{ap, subst, append_assoc, arith, length-append, Opt
 use Rattle.std.proofs.Common.{OnOk, OnErr, is_err}
 use Rattle.std.proofs.lemmas.List.{append-nil}
 use Rattle.cloak_base.specs.declared.causes.Failed.{Failed}
-use Rattle.outside_io.specs.declared.shelf.Shelf as shelves
-use Rattle.outside_io.specs.declared.sink.Sink as sinks
-use Rattle.outside_io.specs.Told.{Tells, Puts, Grows, GrowsByFront, Counts, SameFiles, OtherFiles}
-use Rattle.outside_io.proofs.ToldFacts.{Grows-none, Grows-append, GrowsByFront-whole, Rose-after}
+use Rattle.io_traits.specs.declared.shelf.Shelf as shelves
+use Rattle.io_traits.specs.declared.sink.Sink as sinks
+use Rattle.io_traits.specs.Told.{Tells, Puts, Grows, GrowsByFront, Counts, SameFiles, OtherFiles}
+use Rattle.io_traits.proofs.ToldFacts.{Grows-none, Grows-append, GrowsByFront-whole, Rose-after}
 use Rattle.cloak_model.specs.Exchange.{Piece, recorded, shown, recorded_bytes, shown_bytes, Emits}
 use Rattle.run_command.specs.declared.outlet.Outlet.{Outlet}
-use Rattle.program_parts.specs.Outside.{FilesOutside, Output, Outside, files, output, outside}
+use Rattle.command_parts.specs.Outside.{FilesOutside, Output, Outside, files, output, outside}
 use Rattle.run_command.specs.Adding.{Adds}
 use Rattle.run_command.specs.Outlet.{Wrote, WroteAll, WroteFront, Writes, Gave}
 

@@ -4,10 +4,10 @@ use Rattle.std.proofs.Common.{Option, Some, None, subst, refl, arith}
 use Rattle.std.specs.List.{AllByRecursion}
 use Rattle.cloak_base.specs.Random.{Random, numbered}
 use Rattle.command_words.specs.Command as spec
-use Rattle.outside_io.specs.Told.{SameFiles}
-use Rattle.program_parts.specs.NoRun.{AsksFile}
-use Rattle.program_parts.specs.Streams.{IsOfFile, IsStream}
-use Rattle.item_law.specs.Writing.{AreBytes, IsStreamOfBytes}
+use Rattle.io_traits.specs.Told.{SameFiles}
+use Rattle.command_parts.specs.NoRun.{AsksFile}
+use Rattle.command_parts.specs.Streams.{IsOfFile, IsStream}
+use Rattle.range_law.specs.Writing.{AreBytes, IsStreamOfBytes}
 
 -- What a loop over a slice found of each element so far.
 
@@ -38,7 +38,7 @@ pub each_below : (bytes : List ℕ) → ((i : ℕ) → get_or bytes i 0 < 256) �
 each_below [] all = tt
 each_below (b ∷ bytes) all = (all 0, each_below bytes (λ i. all (suc i)))
 
--- the words name the bundle of a run, also where it has no record
+-- the words name the bundle of a run, even if it has no record
 pub run_named : (bundle_name : List ℕ) (record_name : Option (List ℕ)) (steps : ℕ) (from : spec.Randomness) →
     AsksFile (spec.asked_run bundle_name record_name steps from) bundle_name
 run_named bundle_name (Some record_name) steps from = refl

@@ -17,11 +17,12 @@ use Rattle.cloak_machine.specs.declared.machine.Machine.{Machine}
 use Rattle.cloak_machine.specs.Standing.{StandsForMoment, ShowsOpening, MakesTurn, FinishesAs}
 use Rattle.cloak_machine.specs.Ending.{end_is_refused, end_report}
 use Rattle.cloak_machine.specs.declared.end.End.{End}
-use Rattle.program_parts.specs.declared.status.Status.{Status}
+use Rattle.command_parts.specs.declared.status.Status.{Status}
 use Rattle.run_command.specs.Running.{BeginsRun, NoClashYet, RunsSteps, EndsRun, WritesRun, first_pieces, last_pieces, moment_behind, status_of}
 use Rattle.run_command.proofs.ClashFacts.{rest_unclashed, turns_unclashed}
+use Rattle.cloaked_side.proofs.Emitting.{emits_then}
 
--- Steps behind steps.
+-- Steps after steps.
 
 turns_pieces-append : (number : ℕ) (ts us : List Turn) →
     turns_pieces number (ts ++ us) ≡ turns_pieces number ts ++ turns_pieces (number + length ts) us
@@ -41,22 +42,22 @@ turns_pieces-last number ts t =
     ap (λ (ps : List Piece). turns_pieces number ts ++ ps) (sym (append-nil (turn_pieces (number + length ts) t)))
     ∙ sym (turns_pieces-append number ts (t ∷ []))
 
-joint_after-append : (j : Joint) (ts us : List Turn) → joint_after j (ts ++ us) ≡ joint_after (joint_after j ts) us
+pub joint_after-append : (j : Joint) (ts us : List Turn) → joint_after j (ts ++ us) ≡ joint_after (joint_after j ts) us
 unfolding joint_after
 joint_after-append j [] us = refl
 joint_after-append j (t ∷ ts) us = joint_after-append t.joint ts us
 
-last_stop-append : (so_far : Option Stop) (ts us : List Turn) →
+pub last_stop-append : (so_far : Option Stop) (ts us : List Turn) →
     last_stop so_far (ts ++ us) ≡ last_stop (last_stop so_far ts) us
 unfolding last_stop
 last_stop-append so_far [] us = refl
 last_stop-append so_far (t ∷ ts) us = last_stop-append (stop_of t) ts us
 
-last_stop-last : (so_far : Option Stop) (ts : List Turn) (t : Turn) → last_stop so_far (ts ++ t ∷ []) ≡ stop_of t
+pub last_stop-last : (so_far : Option Stop) (ts : List Turn) (t : Turn) → last_stop so_far (ts ++ t ∷ []) ≡ stop_of t
 unfolding last_stop
 last_stop-last so_far ts t = last_stop-append so_far ts (t ∷ [])
 
-behind_none : (m : Moment) → moment_behind m [] ≡ m
+pub behind_none : (m : Moment) → moment_behind m [] ≡ m
 unfolding joint_after
 behind_none m i = record {
   schedule = m.schedule;
@@ -64,7 +65,7 @@ behind_none m i = record {
   joint = m.joint;
 }
 
-behind_last : (m : Moment) (ts : List Turn) (t : Turn) →
+pub behind_last : (m : Moment) (ts : List Turn) (t : Turn) →
     after_turn (moment_behind m ts) t ≡ moment_behind m (ts ++ t ∷ [])
 unfolding joint_after
 behind_last m ts t i = record {
@@ -75,18 +76,18 @@ behind_last m ts t i = record {
 }
 
 -- the next of the steps that are left
-turns_from-next : (n budget : ℕ) (m : Moment) → n < budget →
+pub turns_from-next : (n budget : ℕ) (m : Moment) → n < budget →
     turns_from (budget - n) m ≡ joint_step m ∷ unless_stopped (stop_of (joint_step m)) (turns_from (budget - (n + 1)))
     (after_turn m (joint_step m))
 unfolding turns_from
 turns_from-next n budget m within =
     ap (λ k. turns_from k m) (let e : budget - n ≡ suc (budget - (n + 1)) = omega (arith, within) in e)
 
-turns_from-none : (n budget : ℕ) (m : Moment) → n ≡ budget → turns_from (budget - n) m ≡ []
+pub turns_from-none : (n budget : ℕ) (m : Moment) → n ≡ budget → turns_from (budget - n) m ≡ []
 unfolding turns_from
 turns_from-none n budget m all = ap (λ k. turns_from k m) (let e : budget - n ≡ 0 = omega (arith, all) in e)
 
--- These steps were emitted, none stopped the run, the machine stands behind them, and those that are left follow.
+-- These steps were emitted, none stopped the run, the machine stands after them, and those that are left follow.
 pub record GoesOn {E : Type 0} (gave : E → E → List Piece → Type 0) (e e' : E) (machine : Machine) (n budget : ℕ)
     (m : Moment) : Type 0 where
   pub made : List Turn
@@ -100,15 +101,6 @@ pub record GoesOn {E : Type 0} (gave : E → E → List Piece → Type 0) (e e' 
 pub emits_nothing : {E : Type 0} {gave : E → E → List Piece → Type 0} (e : E) → Emits gave e e []
 emits_nothing {E} {gave} e =
     record { more = λ first before given. subst (λ (ps : List Piece). gave first e ps) (sym (append-nil before)) given }
-
--- pieces, and then others
-pub emits_then : {E : Type 0} {gave : E → E → List Piece → Type 0} {e f h : E} {ps qs : List Piece} →
-    Emits gave e f ps → Emits gave f h qs → Emits gave e h (ps ++ qs)
-emits_then {E} {gave} {e} {f} {h} {ps} {qs} first second = record {
-  more = λ start before given.
-      subst (λ (pieces : List Piece). gave start h pieces) (append_assoc before ps qs)
-      (second.more start (before ++ ps) (first.more start before given));
-}
 
 -- some pieces, and then others
 pub some_then : {E : Type 0} {gave : E → E → List Piece → Type 0} {e f h : E} →
@@ -133,7 +125,7 @@ goes_on-start gave e machine budget m stands = record {
   left = (λ i. turns_from ((let same : budget ≡ budget - 0 = omega arith in same) i) (sym (behind_none m) i));
 }
 
--- What one step more comes to, by why it stopped the run.
+-- What one more step results in, by why it stopped the run.
 record IsMade {E : Type 0} (gave : E → E → List Piece → Type 0) (e e' : E) (machine : Machine) (n budget : ℕ)
     (m : Moment) (given : Option Stop) : Type 0 where
   made : List Turn
@@ -173,8 +165,8 @@ is_made {E} gave e f h old new given n budget m on makes within =
           (after_turn here t)) (sym makes.answer);
     }
 
--- no clash behind the steps that are left: none behind the first of them
-next_unclashed : (n budget : ℕ) (m : Moment) (made : List Turn) →
+-- no clash after the steps that are left: none after the first of them
+pub next_unclashed : (n budget : ℕ) (m : Moment) (made : List Turn) →
     turns_from budget m ≡ made ++ turns_from (budget - n) (moment_behind m made) → n < budget →
     NoClashYet (joint_after m.joint (turns_from budget m)) →
     NoClashYet (joint_step (moment_behind m made)).joint

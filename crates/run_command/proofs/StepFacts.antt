@@ -1,64 +1,18 @@
 -- The steps of a run, one after another.
-use Rattle.std.proofs.Common.{◌≡◌, ◌<◌, ℕ, suc, ◌+◌, ◌-◌, List, [], ◌∷◌, ◌++◌, length}
+use Rattle.std.proofs.Common.{◌≡◌, ◌<◌, ℕ, ◌+◌, ◌-◌, List, [], ◌∷◌, ◌++◌, length}
 use Rattle.std.proofs.Common.{refl, sym, ◌∙◌, ap, subst, append_assoc, length-append, arith, Option, Some, None}
 use Rattle.std.proofs.lemmas.List.{append-nil}
 use Rattle.cloak_base.specs.declared.causes.Stop.{Stop}
-use Rattle.cloak_model.specs.Parts.{Joint}
 use Rattle.cloak_model.specs.Joint.{Moment, Turn, joint_step, after_turn, stop_of}
 use Rattle.cloak_model.specs.Run.{unless_stopped, turns_from, joint_after, last_stop}
 use Rattle.cloak_machine.specs.declared.machine.Machine.{Machine}
 use Rattle.cloak_machine.specs.Standing.{StandsForMoment}
 use Rattle.run_command.specs.Running.{MadeAll, NoClashYet, moment_behind}
-use Rattle.run_command.proofs.ClashFacts.{rest_unclashed, turns_unclashed}
+use Rattle.run_command.proofs.RunFacts.{last_stop-last, behind_none, behind_last, turns_from-next, turns_from-none, next_unclashed}
 
--- Steps behind steps.
+-- Steps after steps.
 
-joint_after-append : (j : Joint) (ts us : List Turn) → joint_after j (ts ++ us) ≡ joint_after (joint_after j ts) us
-unfolding joint_after
-joint_after-append j [] us = refl
-joint_after-append j (t ∷ ts) us = joint_after-append t.joint ts us
-
-last_stop-append : (so_far : Option Stop) (ts us : List Turn) →
-    last_stop so_far (ts ++ us) ≡ last_stop (last_stop so_far ts) us
-unfolding last_stop
-last_stop-append so_far [] us = refl
-last_stop-append so_far (t ∷ ts) us = last_stop-append (stop_of t) ts us
-
-last_stop-last : (so_far : Option Stop) (ts : List Turn) (t : Turn) → last_stop so_far (ts ++ t ∷ []) ≡ stop_of t
-unfolding last_stop
-last_stop-last so_far ts t = last_stop-append so_far ts (t ∷ [])
-
-pub behind_none : (m : Moment) → moment_behind m [] ≡ m
-unfolding joint_after
-behind_none m i = record {
-  schedule = m.schedule;
-  steps = (let e : m.steps + 0 ≡ m.steps = omega arith in e) i;
-  joint = m.joint;
-}
-
-behind_last : (m : Moment) (ts : List Turn) (t : Turn) →
-    after_turn (moment_behind m ts) t ≡ moment_behind m (ts ++ t ∷ [])
-unfolding joint_after
-behind_last m ts t i = record {
-  schedule = m.schedule;
-  steps = (let long = length-append ts (t ∷ []) in let e : m.steps + length ts + 1 ≡ m.steps + length (ts ++ t ∷ []) =
-      omega (arith, long) in e) i;
-  joint = sym (joint_after-append m.joint ts (t ∷ [])) i;
-}
-
--- the next of the steps that are left
-pub turns_from-next : (n budget : ℕ) (m : Moment) → n < budget →
-    turns_from (budget - n) m ≡ joint_step m ∷ unless_stopped (stop_of (joint_step m)) (turns_from (budget - (n + 1)))
-    (after_turn m (joint_step m))
-unfolding turns_from
-turns_from-next n budget m within =
-    ap (λ k. turns_from k m) (let e : budget - n ≡ suc (budget - (n + 1)) = omega (arith, within) in e)
-
-pub turns_from-none : (n budget : ℕ) (m : Moment) → n ≡ budget → turns_from (budget - n) m ≡ []
-unfolding turns_from
-turns_from-none n budget m all = ap (λ k. turns_from k m) (let e : budget - n ≡ 0 = omega (arith, all) in e)
-
--- These steps were made, none stopped the run, the machine stands behind them, and those that are left follow.
+-- These steps were made, none stopped the run, the machine stands after them, and those that are left follow.
 pub record GoesOn (machine : Machine) (n budget : ℕ) (m : Moment) : Type 0 where
   pub made : List Turn
   pub count : length made ≡ n
@@ -78,7 +32,7 @@ goes_on-start machine budget m stands = record {
   left = (λ i. turns_from ((let same : budget ≡ budget - 0 = omega arith in same) i) (sym (behind_none m) i));
 }
 
--- What one step more comes to, by why it stopped the run.
+-- What one more step results in, by why it stopped the run.
 record IsMade (machine : Machine) (n budget : ℕ) (m : Moment) (given : Option Stop) : Type 0 where
   made : List Turn
   now : Moment
@@ -110,23 +64,6 @@ is_made old new given n budget m on answer stands within =
           ∙ ap (λ (o : Option Stop). (on.made ++ t ∷ []) ++ unless_stopped o (turns_from (budget - (n + 1)))
           (after_turn here t)) (sym answer);
     }
-
--- no clash behind the steps that are left: none behind the first of them
-next_unclashed : (n budget : ℕ) (m : Moment) (made : List Turn) →
-    turns_from budget m ≡ made ++ turns_from (budget - n) (moment_behind m made) → n < budget →
-    NoClashYet (joint_after m.joint (turns_from budget m)) →
-    NoClashYet (joint_step (moment_behind m made)).joint
-unfolding joint_after
-next_unclashed n budget m made left within none =
-    let here = moment_behind m made in
-    let t = joint_step here in
-    let rest = unless_stopped (stop_of t) (turns_from (budget - (n + 1))) (after_turn here t) in
-    let behind : joint_after m.joint (turns_from budget m) ≡ joint_after t.joint rest =
-    ap (λ (ts : List Turn). joint_after m.joint ts)
-    (left ∙ ap (λ (ts : List Turn). made ++ ts) (turns_from-next n budget here within))
-    ∙ joint_after-append m.joint made (t ∷ rest) in
-    rest_unclashed (stop_of t) (turns_from (budget - (n + 1))) (after_turn here t)
-    (turns_unclashed (budget - (n + 1)) (after_turn here t)) (subst NoClashYet behind none)
 
 pub unclashed-next : (machine : Machine) (n budget : ℕ) (m : Moment) (on : GoesOn machine n budget m) → n < budget →
     NoClashYet (joint_after m.joint (turns_from budget m)) → NoClashYet (joint_step (moment_behind m on.made)).joint

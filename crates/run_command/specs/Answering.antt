@@ -1,7 +1,7 @@
--- What a run answers, each status with its cause.
+-- What a run returns, each status with its cause.
 use Rattle.std.specs.Prelude.{ℕ, ◌≡◌, ◌⊎◌, List, [], Option, Some, None, Ok}
 use Rattle.cloak_base.specs.Random.{Random}
-use Rattle.outside_io.specs.Told.{Tells, SameFiles, OtherFiles}
+use Rattle.io_traits.specs.Told.{Tells, SameFiles, OtherFiles}
 use Rattle.cloak_model.specs.declared.image.Bundle.{Bundle}
 use Rattle.cloak_model.specs.Beginning.{Beginning, Fresh}
 use Rattle.cloak_model.specs.Cloaking.{owed_in}
@@ -11,14 +11,14 @@ use Rattle.latest_store.specs.LatestStore.{GivesLatest}
 use Rattle.latest_store.specs.Sums.{AddsUp}
 use Rattle.reservation_law.specs.Reservations.{StoresOnlyReserved}
 use Rattle.context_law.specs.Inside.{StoresOnlyReservedInside}
-use Rattle.store_law.specs.Ciphers.{HaveOwnDraws, ShowsPages}
-use Rattle.store_law.specs.Keys.{HaveOwnKeys}
+use Rattle.page_law.specs.Ciphers.{HaveOwnDraws, ShowsPages}
+use Rattle.page_law.specs.Keys.{HaveOwnKeys}
 use Rattle.kernel_isolation.specs.Isolation.{joint_until}
 use Rattle.command_words.specs.Command as spec
-use Rattle.program_parts.specs.declared.status.Status.{Status}
-use Rattle.program_parts.specs.declared.status.Status.TheVariants as status
-use Rattle.program_parts.specs.NoRun.{AsksBundle, IsRefused, LineFailed}
-use Rattle.program_parts.specs.Outside.{Outside, Raised, NothingRose}
+use Rattle.command_parts.specs.declared.status.Status.{Status}
+use Rattle.command_parts.specs.declared.status.Status.TheVariants as status
+use Rattle.command_parts.specs.NoRun.{AsksBundle, IsRefused, LineFailed}
+use Rattle.command_parts.specs.Outside.{Outside, Raised, NothingRose}
 use Rattle.run_command.specs.Refusing.{RefusesRightly}
 use Rattle.run_command.specs.Recording.{IsWritten, IsCutOff, GrowsSome, FailedSome}
 use Rattle.run_command.specs.ReadingBack.{ReadsBack}
@@ -39,8 +39,8 @@ pub record AsksRun (asked : spec.Asked) (held : List ℕ → Option (List ℕ)) 
 -- give what was stored last; additions to a word of a program by atomic instructions add up; SC stores only a word
 -- that was not written since its LR; the kernel is shown pages as ciphertexts alone, each under its program's key and
 -- a draw of its own, and at no moment is a page to be sealed under another key; a domain ended only if the kernel's
--- side presented something other than what is recorded, and all that it presented so was refused; and as the run was
--- closed, no frame was owed a page any more.
+-- side presented something other than what is recorded, and all that it presented in this way was refused; and as the
+-- run was closed, no frame was owed a page any more.
 pub record IsLawful (b : Bundle) (from : Beginning) (r : Run) : Type 0 where
   pub reads_back : ReadsBack b from r
   pub latest : GivesLatest b from r
@@ -53,7 +53,7 @@ pub record IsLawful (b : Bundle) (from : Beginning) (r : Run) : Type 0 where
   pub refuses : RefusesRightly b r
   pub closed : (frame : ℕ) → owed_in (closed_memory r) frame ≡ None
 
--- The run was made. Where no pages clashed in it, all that is due of it was written.
+-- The run was made. If no pages clashed in it, all that is due of it was written.
 pub record HasRun {S O : Type 0} (asked : spec.Asked) (answer : Status) (before after : Outside S O) : Type 0 where
   pub record_name : List ℕ
   pub made : Run
@@ -77,7 +77,7 @@ pub record BeginFailed {S O : Type 0} (asked : spec.Asked) (before after : Outsi
   pub writing : Raised before.files.writing after.files.writing
   pub untouched : after.output ≡ before.output
 
--- A run broke off. Where no pages clashed in it, what is due of it was cut off at one place.
+-- A run broke off. If no pages clashed in it, what is due of it was cut off at one place.
 pub record BrokeOff {S O : Type 0} (asked : spec.Asked) (before after : Outside S O) : Type 0 where
   pub record_name : List ℕ
   pub due_run : Run
@@ -92,8 +92,8 @@ abbrev pub IsWriteFault : {S O : Type 0} → spec.Asked → Outside S O → Outs
 IsWriteFault asked before after =
     LineFailed asked before after ⊎ (BeginFailed asked before after ⊎ BrokeOff asked before after)
 
--- What each status says. Its causes exclude each other, so each status comes exactly there; only want of
--- memory may stand in the place of another, before anything is written.
+-- What each status says. The causes exclude each other, so each status is returned exactly for its own; only want of
+-- memory may be returned instead of another, before anything is written.
 abbrev pub RunAnswers : {S O : Type 0} → spec.Asked → Outside S O → Outside S O → Status → Type 0
 RunAnswers asked before after status.Done = HasRun asked status.Done before after
 RunAnswers asked before after status.Violation = HasRun asked status.Violation before after

@@ -1,10 +1,10 @@
 -- What an outlet wrote.
 use Rattle.std.specs.Prelude.{ℕ, ◌≡◌, Bool, true, false, List, [], ◌∷◌, ◌++◌, take}
-use Rattle.outside_io.specs.declared.shelf.Shelf as shelves
-use Rattle.outside_io.specs.declared.sink.Sink as sinks
-use Rattle.outside_io.specs.Told.{Grows, Rose, OtherFiles}
+use Rattle.io_traits.specs.declared.shelf.Shelf as shelves
+use Rattle.io_traits.specs.declared.sink.Sink as sinks
+use Rattle.io_traits.specs.Told.{Grows, Rose, OtherFiles}
 use Rattle.cloak_model.specs.Exchange.{Piece, recorded, shown, recorded_bytes, shown_bytes}
-use Rattle.program_parts.specs.Outside.{Outside, NothingRose, outside}
+use Rattle.command_parts.specs.Outside.{Outside, NothingRose, outside}
 use Rattle.run_command.specs.declared.outlet.Outlet.{Outlet}
 
 -- a front of a piece
@@ -12,8 +12,8 @@ abbrev pub front_of : ℕ → Piece → Piece
 front_of n (recorded bytes) = recorded (take n bytes)
 front_of n (shown bytes) = shown (take n bytes)
 
--- One list of pieces is cut at one place: those before it are whole, of the piece there a front is left, and nothing of
--- those behind it.
+-- One list of pieces is cut at one place: those before it are whole, a front of the piece there is left, and nothing of
+-- those after it.
 pub record Cut (pieces : List Piece) : Type 0 where
   pub whole : List Piece
   pub piece : Piece
@@ -26,7 +26,7 @@ pub record Cut (pieces : List Piece) : Type 0 where
 abbrev pub pieces_left : {pieces : List Piece} → Cut pieces → List Piece
 pieces_left cut = cut.whole ++ front_of cut.bytes cut.piece ∷ []
 
--- the count of faults of where the piece goes rose so, and no other
+-- the fault count of the place where the piece goes rose so, and no other
 abbrev pub FailedAt : {S O : Type 0} → (ℕ → ℕ → Type 0) → Piece → Outside S O → Outside S O → Type 0
 FailedAt rose (recorded bytes) before after =
     rose before.files.writing after.files.writing × (after.output.faults ≡ before.output.faults)
@@ -45,7 +45,7 @@ pub record WroteAll {S O : Type 0} (name : List ℕ) (before after : Outside S O
   pub wrote : Wrote name before after pieces
   pub nothing_rose : NothingRose before after
 
--- of these pieces was written what is left where they are cut at a fault
+-- of these pieces, what is left when they are cut at a fault was written
 pub record WroteFront {S O : Type 0} (name : List ℕ) (before after : Outside S O) (pieces : List Piece) : Type 0 where
   pub cut : Cut pieces
   pub wrote : Wrote name before after (pieces_left cut)

@@ -1,4 +1,4 @@
--- What opening the machine of a run answers.
+-- What opening the machine of a run returns.
 use Rattle.std.specs.Prelude.{ℕ, ◌≡◌, ◌≤◌, List, map, Option, Result, Ok, Err}
 use Rattle.cloak_base.specs.Random.{Random}
 use Rattle.cloak_model.specs.declared.image.Bundle.{Bundle}
@@ -7,13 +7,13 @@ use Rattle.cloak_model.specs.Opening.{Opened, opening}
 use Rattle.cloak_model.specs.Run.{first_moment, most_steps}
 use Rattle.cloak_machine.specs.Standing.{StandsForMoment, placings_of}
 use Rattle.cloak_machine.specs.declared.machine.Machine.{Machine}
-use Rattle.item_law.specs.Writing.{IsOfBytes, IsStreamOfBytes}
+use Rattle.range_law.specs.Writing.{IsOfBytes, IsStreamOfBytes}
 use Rattle.joint_machine.specs.Placings.{placing}
-use Rattle.program_parts.specs.declared.refusal.Refusal.{Refusal}
-use Rattle.program_parts.specs.NoRun.{AsksBundle, NoRun}
-use Rattle.program_parts.specs.Streams.{IsStream}
-use Rattle.program_parts.specs.Files.{ReadsFile}
-use Rattle.program_parts.specs.Outside.{FilesOutside, OnlyRead}
+use Rattle.command_parts.specs.declared.refusal.Refusal.{Refusal}
+use Rattle.command_parts.specs.NoRun.{AsksBundle, NoRun}
+use Rattle.command_parts.specs.Streams.{IsStream}
+use Rattle.command_parts.specs.Files.{ReadsFile}
+use Rattle.command_parts.specs.Outside.{FilesOutside, OnlyRead}
 
 -- a random stream of bytes, or why it was not read
 abbrev pub ReadsStream : (List ℕ → Option (List ℕ)) → spec.Randomness → ℕ → ℕ → Result Random Refusal → Type 0

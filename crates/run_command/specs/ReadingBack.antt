@@ -1,6 +1,6 @@
--- A record reads back: its bytes are the record of the items of the run and of no others, and have no fault; the kernel by
--- itself and each program by itself, with its files of the beginning, find none of the items unfit, however far they are
--- read, and given all of them come to the parts that the run ended with, of which the report gives the lines.
+-- A record reads back: its bytes are the record of the items of the run and of no others, and have no fault; the kernel
+-- alone and each program alone, with its files of the beginning, find none of the items unfit, however far they are
+-- read, and given all of them end with the parts that the run ended with, of which the report gives the lines.
 use Rattle.std.specs.Prelude.{ℕ, ◌≡◌, List, ◌++◌, slice_get, Some, None}
 use Rattle.cloak_model.specs.declared.fault.RecordFault.{RecordFault}
 use Rattle.cloak_model.specs.declared.image.Bundle.{Bundle}
@@ -16,7 +16,7 @@ use Rattle.cloak_model.specs.Run.{Run, exchange, record_bytes}
 use Rattle.domain_isolation.specs.Isolation.{HasDomain}
 use Rattle.kernel_isolation.specs.Isolation.{HasKernel}
 
--- The machines that run alone come to the ends of a run, given all its items: its console and the kernel's lines of its
+-- The machines that run alone end as a run did, given all its items: its console and the kernel's lines of its
 -- report, and the line of each program.
 pub record ComesToEnds (b : Bundle) (from : Beginning) (r : Run) : Type 0 where
   pub kernel : HasKernel (kernel_alone b.kernel (exchange r)) (kernel_part r.closed.joint)

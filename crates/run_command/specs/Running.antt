@@ -15,10 +15,10 @@ use Rattle.cloak_machine.specs.declared.end.End.{End}
 use Rattle.cloak_machine.specs.declared.machine.Machine.{Machine}
 use Rattle.cloak_machine.specs.Ending.{end_is_refused, end_short_report, short_report}
 use Rattle.cloak_machine.specs.Standing.{StandsForMoment}
-use Rattle.program_parts.specs.declared.status.Status.{Status}
-use Rattle.program_parts.specs.declared.status.Status.TheVariants as status
+use Rattle.command_parts.specs.declared.status.Status.{Status}
+use Rattle.command_parts.specs.declared.status.Status.TheVariants as status
 
--- the moment behind these steps
+-- the moment after these steps
 abbrev pub moment_behind : Moment → List Turn → Moment
 moment_behind m turns = record {
   schedule = m.schedule;
@@ -47,7 +47,7 @@ pub record BeginsRun {E : Type 0} (gave : E → E → List Piece → Type 0) (fa
   pub emits : Emits gave e e' (first_pieces o turns)
   pub made : failed ≡ false → MadeAll machine stopped (first_moment b o.joint) turns
 
--- the pieces behind the steps of a run that ended so
+-- the pieces after the steps of a run that ended so
 abbrev pub last_pieces : Stop → ℕ → Opened → List Piece
 last_pieces cause steps closed =
     item_pieces (item.Close steps ∷ (closed.items ++ item.End ∷ []))
@@ -87,7 +87,7 @@ run_status r = status_of r.stop (is_refused r)
 abbrev pub IsStatusOfStop : Status → Type 0
 IsStatusOfStop given = (cause : Stop) × (refused : Bool) × (given ≡ status_of cause refused)
 
--- The end of a run that this stopped behind so many steps, and that closed so, was given, and its status answered.
+-- The end of a run that this stopped after this many steps, and that closed so, was emitted, and its status returned.
 pub record EndsRun {E : Type 0} (gave : E → E → List Piece → Type 0) (e e' : E) (given : Status) (stopped : Stop)
     (steps : ℕ) (closed : Opened) : Type 0 where
   pub emits : Emits gave e e' (last_pieces (cause_of closed.joint (Some stopped)) steps closed)

@@ -7,7 +7,7 @@ ghost use Rattle.cloak_model.specs.Run.{first_moment, run_of};
 ghost use Rattle.cloak_machine.specs.Standing.{StandsForMoment, placings_of, steps_made};
 ghost use Rattle.command_words.specs.Request.{asked_of_run};
 ghost use Rattle.joint_machine.specs.Placings.{placing};
-ghost use Rattle.program_parts.specs.Outside.{outside};
+ghost use Rattle.command_parts.specs.Outside.{outside};
 ghost use Rattle.run_command.specs.Answering.{KeepsFiles, RunAnswers};
 ghost use Rattle.run_command.specs.Recording.{Records};
 
@@ -16,10 +16,10 @@ use crate::pen::RecordPen;
 use crate::prepare::prepare_run;
 use crate::run::write_run;
 use cloak_machine::Machine;
+use command_parts::{Status, refuse};
 use command_words::RunRequest;
 use exchange_log::LONGEST;
-use outside_io::{Shelf, Sink};
-use program_parts::{Status, refuse};
+use io_traits::{Shelf, Sink};
 use std::alloc::Global;
 
 /// Begins the record of a run and makes it.

@@ -1,8 +1,8 @@
 //! The command `run`: the joint run of a bundle, its record, its console and its report.
 //!
-//! The layer above may rely on this: `run_command` answers each status by its cause, and writes what is due of the run
-//! (`cloak_model`, `specs/Run`) to record and output, or a front of it where writing fails. Other commands that make a
-//! run take `prepare_run`, which opens its machine from the files that the words name, or says why there is none;
+//! The layer above may rely on this: `run_command` returns each status by its cause, and writes what is due of the run
+//! (`cloak_model`, `specs/Run`) to record and output, or a front of it if writing fails. Other commands that make a run
+//! take `prepare_run`, which opens its machine from the files that the words name, or says why there is none;
 //! `write_steps`, `run_steps` and `write_end`, which write its parts; `Unheard`, which writes nothing; and
 //! `stop_status`.
 #![tactic(auto)]

@@ -7,7 +7,7 @@ use crate::pen::RecordPen;
 use cloak_machine::End;
 use cloak_model::{Emit, Item};
 use exchange_log::{LONGEST, ok_bytes, step_bytes, word_bytes, write_cipher, write_item};
-use outside_io::{Shelf, Sink, put_all};
+use io_traits::{Shelf, Sink, put_all};
 
 /// Writes pieces up to the first that fails.
 #[derive(Drop)]

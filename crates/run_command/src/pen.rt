@@ -1,9 +1,9 @@
 //! The record as it is written.
 ghost use Rattle.std.specs.Prelude.{◌≡◌, false};
-ghost use Rattle.program_parts.specs.Outside.{files};
+ghost use Rattle.command_parts.specs.Outside.{files};
 ghost use Rattle.run_command.specs.Adding.{Adds};
 
-use outside_io::Shelf;
+use io_traits::Shelf;
 
 /// Adds pieces to the end of the record, up to the first that fails. The record is the file that was begun or added to
 /// last, so no piece has its name looked at.

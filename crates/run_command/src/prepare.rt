@@ -1,8 +1,8 @@
 //! A run that can begin, from the files that the words name.
 ghost use Rattle.std.specs.Prelude.{◌≡◌, ◌<◌, ◌≤◌, ◌-◌, ◌^◌, ℕ, List, Option, true, IfOk, length};
 ghost use Rattle.cloak_machine.specs.Standing.{steps_made};
-ghost use Rattle.outside_io.specs.Told.{SameFiles};
-ghost use Rattle.program_parts.specs.Outside.{files};
+ghost use Rattle.io_traits.specs.Told.{SameFiles};
+ghost use Rattle.command_parts.specs.Outside.{files};
 ghost use Rattle.run_command.specs.Preparing.{Prepares, ReadsStream};
 ghost use Rattle.command_words.specs.Command.{asked_run};
 ghost use Rattle.command_words.specs.Request.{randomness_of};
@@ -10,13 +10,13 @@ ghost use Rattle.std.specs.List.{AllByRecursion};
 ghost use Rattle.cloak_model.specs.declared.image.Program.{Program as ImageProgram};
 ghost use Rattle.cloak_model.specs.declared.image.Segment.{Segment as ImageSegment};
 ghost use Rattle.cloak_model.specs.Run.{most_steps};
-ghost use Rattle.item_law.specs.Writing.{AreBytes, IsOfBytes};
+ghost use Rattle.range_law.specs.Writing.{AreBytes, IsOfBytes};
 
 use cloak_machine::{Machine, OpenFault};
 use cloak_model::{Bundle, Program, Segment};
+use command_parts::{Refusal, read_bundle, read_front};
 use command_words::Randomness;
-use outside_io::{Shelf, Stream};
-use program_parts::{Refusal, read_bundle, read_front};
+use io_traits::{Shelf, Stream};
 use std::alloc::Global;
 
 /// The most bytes of a file that a run takes for its randomness.

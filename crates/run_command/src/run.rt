@@ -16,10 +16,10 @@ ghost use Rattle.run_command.specs.Running.{status_of, unless_refused};
 use crate::outlet::Outlet;
 use cloak_base::Stop;
 use cloak_machine::Machine;
-use outside_io::{Shelf, Sink};
-use program_parts::Status;
+use command_parts::Status;
+use io_traits::{Shelf, Sink};
 
-/// Makes up to this many steps, and answers why the last one stopped the run, if it did. Nothing more is
+/// Makes up to this many steps, and returns why the last one stopped the run, if it did. Nothing more is
 /// done once the outlet failed.
 pub fn run_steps<S: Shelf, O: Sink>(
     machine: &mut Machine,
@@ -49,7 +49,7 @@ pub fn run_steps<S: Shelf, O: Sink>(
 }
 
 /// Writes the first bytes of the record, what the opening shows, and up to this many steps of a run whose record is begun.
-/// Answers why the last step stopped the run, if it did. Nothing more is done once the outlet failed.
+/// Returns why the last step stopped the run, if it did. Nothing more is done once the outlet failed.
 pub fn write_steps<S: Shelf, O: Sink>(
     machine: &mut Machine,
     steps: u32,
@@ -92,8 +92,8 @@ fn ended_status(refused: bool) -> Status
     }
 }
 
-/// Writes the closing of the record, the rest of the console's line, and the report of a run that this
-/// stopped, and answers its status.
+/// Writes the closing of the record, the rest of the console's line, and the report of a run that this stopped, and
+/// returns its status.
 pub fn write_end<S: Shelf, O: Sink>(
     machine: Machine,
     stop: Stop,

@@ -1,4 +1,4 @@
-//! An emitter that nobody hears: what it is given goes nowhere.
+//! An emitter that discards everything that it is given.
 
 use cloak_model::{Emit, Item};
 

@@ -1,16 +1,16 @@
--- What `explain` answers.
+-- What `explain` returns.
 use Rattle.std.proofs.Common.{◌≡◌, ℕ, List, Option, Some, None, IfSome, Err, inl, inr, refl, sym, subst}
 use Rattle.cloak_model.specs.declared.image.Bundle.{Bundle}
 use Rattle.cloak_model.specs.declared.fault.BundleFault.{BundleFault}
 use Rattle.cloak_model.specs.BundleFault.{bundle_fault}
-use Rattle.program_parts.specs.Bundles.{ReadsBundle, ReadsJudging}
-use Rattle.program_parts.specs.Outside.{Outside, Output}
-use Rattle.program_parts.specs.Refusal.{status_of_refusal}
-use Rattle.program_parts.specs.Refusing.{Refuses}
-use Rattle.program_parts.specs.declared.refusal.Refusal.{Refusal}
-use Rattle.program_parts.specs.declared.refusal.Refusal.TheVariants as refusal
-use Rattle.program_parts.specs.declared.status.Status.{Status}
-use Rattle.program_parts.specs.declared.status.Status.TheVariants as status
+use Rattle.command_parts.specs.Bundles.{ReadsBundle, ReadsJudging}
+use Rattle.command_parts.specs.Outside.{Outside, Output}
+use Rattle.command_parts.specs.Refusal.{status_of_refusal}
+use Rattle.command_parts.specs.Refusing.{Refuses}
+use Rattle.command_parts.specs.declared.refusal.Refusal.{Refusal}
+use Rattle.command_parts.specs.declared.refusal.Refusal.TheVariants as refusal
+use Rattle.command_parts.specs.declared.status.Status.{Status}
+use Rattle.command_parts.specs.declared.status.Status.TheVariants as status
 use Rattle.read_back.specs.declared.ending.Ending.{Ending}
 use Rattle.read_back.specs.declared.ending.Ending.TheVariants as ending
 use Rattle.run_story.specs.Answering.{ExplainAnswers, HasBundleFault, LacksStory, ReadingEnds, ShowsEnding, ShowsStory, ShowsUntold}

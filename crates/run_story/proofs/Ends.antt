@@ -14,7 +14,7 @@ use Rattle.run_story.specs.Answering.{LacksItem, LacksStory, ReadingEnds, TellsD
 use Rattle.run_story.specs.declared.untold.Untold.{Untold}
 use Rattle.run_story.specs.declared.untold.Untold.TheVariants as untold
 
--- a reader stands behind some items of a file, where its bytes are told
+-- a reader stands after some items of a file, if its bytes are told
 pub record StandsSoFar (told : Option (List ℕ)) (reader : Reader) : Type 0 where
   pub items : List Item
   pub stands : StandsAt told reader items

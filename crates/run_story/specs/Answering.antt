@@ -1,6 +1,6 @@
--- What `explain` answers, each status with its cause.
+-- What `explain` returns, each status with its cause.
 use Rattle.std.specs.Prelude.{ℕ, ◌≡◌, ◌⊎◌, List, Option, Some, IfSome, Result, Ok, Err}
-use Rattle.outside_io.specs.Told.{Grows, Rose}
+use Rattle.io_traits.specs.Told.{Grows, Rose}
 use Rattle.cloak_model.specs.declared.item.Item.{Item}
 use Rattle.cloak_model.specs.declared.fault.BundleFault.{BundleFault}
 use Rattle.cloak_model.specs.declared.fault.RecordFault.{RecordFault}
@@ -8,11 +8,11 @@ use Rattle.cloak_model.specs.BundleFault.{bundle_fault}
 use Rattle.cloak_model.specs.Record.{IsRecord}
 use Rattle.record_reader.specs.Ahead.{readable}
 use Rattle.record_reader.specs.Reading.{HasFaultAt}
-use Rattle.program_parts.specs.Outside.{Outside, Output}
-use Rattle.program_parts.specs.declared.status.Status.{Status}
-use Rattle.program_parts.specs.declared.status.Status.TheVariants as status
-use Rattle.program_parts.specs.Refusing.{Refuses}
-use Rattle.program_parts.specs.declared.refusal.Refusal.TheVariants.{NoMemory}
+use Rattle.command_parts.specs.Outside.{Outside, Output}
+use Rattle.command_parts.specs.declared.status.Status.{Status}
+use Rattle.command_parts.specs.declared.status.Status.TheVariants as status
+use Rattle.command_parts.specs.Refusing.{Refuses}
+use Rattle.command_parts.specs.declared.refusal.Refusal.TheVariants.{NoMemory}
 use Rattle.read_back.specs.Reading.{status_of_ending}
 use Rattle.read_back.specs.Text.{fault_line}
 use Rattle.read_back.specs.declared.ending.Ending.{Ending}
@@ -20,11 +20,11 @@ use Rattle.read_back.specs.declared.ending.Ending.TheVariants as ending
 use Rattle.run_story.specs.declared.untold.Untold.{Untold}
 use Rattle.run_story.specs.declared.untold.Untold.TheVariants as untold
 
--- a file is a record, where its bytes are told
+-- a file is a record, if its bytes are told
 abbrev pub IsSomeRecord : Option (List ℕ) → Type 0
 IsSomeRecord told = IfSome told (λ bytes. (items : List Item) × IsRecord (readable bytes) items)
 
--- this is a file's first fault, where its bytes are told
+-- this is a file's first fault, if its bytes are told
 abbrev pub HasRecordFault : Option (List ℕ) → RecordFault → Type 0
 HasRecordFault told fault = IfSome told (λ bytes. (items : List Item) × HasFaultAt (readable bytes) items fault)
 
@@ -73,7 +73,7 @@ abbrev pub ShowsUntold : {O : Type 0} → Untold → Output O → Output O → S
 ShowsUntold untold.NoMemory before after answer = Refuses before after NoMemory answer
 ShowsUntold (untold.Ended ended) before after answer = ShowsEnding ended before after answer
 
--- the file of the bundle has a first fault, where its bytes are told
+-- the file of the bundle has a first fault, if its bytes are told
 abbrev pub HasBundleFault : Option (List ℕ) → Type 0
 HasBundleFault told = IfSome told (λ bytes. (fault : BundleFault) × (bundle_fault bytes ≡ Some fault))
 
@@ -85,7 +85,7 @@ pub record IsRefusedRecord {S O : Type 0} (record_name : List ℕ) (before after
   pub line : Grows before.output.taken after.output.taken (fault_line ended)
   pub faults : after.output.faults ≡ before.output.faults
 
--- What each status says of the two files and the output. Only want of memory may stand in the place of another.
+-- What each status says of the two files and the output. Only want of memory may stand instead of another.
 abbrev pub ExplainAnswers : {S O : Type 0} → List ℕ → List ℕ → Outside S O → Outside S O → Status → Type 0
 ExplainAnswers bundle_name record_name before after status.Done =
     ReadingEnds (before.files.held record_name) before.files.reading after.files.reading ending.Whole

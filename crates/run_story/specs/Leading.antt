@@ -4,7 +4,7 @@ use Rattle.cloak_base.specs.Constants.{frame_of}
 use Rattle.cloak_model.specs.Memory.{is_in_ram}
 use Rattle.cloak_model.specs.Walk.{Walk}
 
--- the frame of a physical address, where it is one of RAM
+-- the frame of a physical address, if it is one of RAM
 abbrev pub frame_in : List (List ℕ) → ℕ → Option ℕ
 frame_in ram pa = if is_in_ram ram pa then Some (frame_of pa) else None
 

@@ -1,4 +1,4 @@
--- An emitter that nobody hears.
+-- An emitter that discards everything.
 use Rattle.std.specs.Prelude.{List}
 use Rattle.cloak_model.specs.Exchange.{Piece}
 use Rattle.run_story.specs.declared.silent.Silent.{Silent}

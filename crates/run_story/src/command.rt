@@ -1,7 +1,7 @@
 //! The command `explain`.
 ghost use Rattle.std.specs.Prelude.{◌≡◌, ℕ, List, Option, IfErr};
-ghost use Rattle.outside_io.specs.Told.{SameFiles};
-ghost use Rattle.program_parts.specs.Outside.{outside, output};
+ghost use Rattle.io_traits.specs.Told.{SameFiles};
+ghost use Rattle.command_parts.specs.Outside.{outside, output};
 ghost use Rattle.cloak_model.specs.Bundle.{IsInGrammar};
 ghost use Rattle.run_story.specs.Answering.{ExplainAnswers, LacksItem, ReadingEnds, ShowsStory, ShowsUntold, TellsDeeds, TellsStory};
 
@@ -12,8 +12,8 @@ use crate::telling::Passage;
 use crate::untold::Untold;
 use crate::watch::Watch;
 use cloak_model::{Bundle, Item};
-use outside_io::{Shelf, Sink, put_all};
-use program_parts::{Refusal, Status, read_bundle, refuse};
+use command_parts::{Refusal, Status, read_bundle, refuse};
+use io_traits::{Shelf, Sink, put_all};
 use read_back::{Ending, show_fault, status};
 use record_reader::{KeptItems, Reader};
 use record_text::next_item;

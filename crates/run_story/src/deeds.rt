@@ -77,7 +77,7 @@ pub struct Deeds {
     target: Presented,
     /// The frame in which the page was last shown.
     shown_in: Seen,
-    /// The frame that was presented, where it is another one.
+    /// The frame that was presented, if it is another one.
     presented_in: Option<Seen>,
     events: Vec<Event>,
     /// How many earlier events were left out.
@@ -217,7 +217,7 @@ impl Deeds {
         watch.frame_for(self.target.tables, self.target.address, self.target.kind)
     }
 
-    /// What the step of the kernel that is open is about to find, where one is.
+    /// What the open step of the kernel is about to find, if one is open.
     pub fn before(&mut self, watch: &Watch) -> Option<Before> {
         let hart = watch.hart()?;
         if watch.step() == 0 || hart.inside.is_some() {

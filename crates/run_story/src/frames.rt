@@ -6,7 +6,7 @@ ghost use Rattle.run_story.specs.Leading.{frame_in, frame_led};
 use cloak_base::{Kind, Mode, RAM_START};
 use cloak_model::word_in;
 use host_calls::Hart;
-use sv32_walk::{Words, walk};
+use sv32_walk::{WordMemory, walk};
 
 /// The word of an ECALL.
 const ECALL: u32 = 0x0000_0073;
@@ -18,7 +18,7 @@ struct Frames<'f> {
 }
 
 #[tactic(auto, unfolding(cloak_model::specs::Ask::ask_word))]
-impl<'f> Words for Frames<'f> {
+impl<'f> WordMemory for Frames<'f> {
     ghost use Rattle.std.specs.Prelude.{[]};
     ghost use Rattle.cloak_model.specs.World.{Flat};
 
@@ -37,7 +37,7 @@ impl<'f> Words for Frames<'f> {
     }
 }
 
-/// The frame of a physical address, where it is one of RAM.
+/// The frame of a physical address, if it is one of RAM.
 fn frame_of(frames: &[[u8; 4096]], pa: u64) -> Option<usize>
     ensures value { result ≡ frame_in frames.now pa }
     ensures inside { IfSome result (λ f. f < length frames.now) }
@@ -98,13 +98,13 @@ pub fn frame_at(
 /// A host call of a hart outside that reaches the disk.
 #[derive(Clone, Copy)]
 pub struct DiskCall {
-    /// A frame goes to a block; else a block comes into a frame.
+    /// A frame goes to a block; otherwise a block comes into a frame.
     pub is_write: bool,
     pub block: u32,
     pub frame: u32,
 }
 
-/// The host call that a hart outside is about to make, where it reaches the disk.
+/// The host call that a hart outside is about to make, if it reaches the disk.
 pub fn disk_call(frames: &[[u8; 4096]], hart: &Hart) -> Option<DiskCall> {
     let frame = frame_at(frames, tables_of(hart), hart.mode, hart.pc, Kind::Fetch)?;
     let number = hart.regs.get(17);

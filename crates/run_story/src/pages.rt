@@ -19,7 +19,7 @@ pub struct Showing {
 pub struct Pages {
     /// The page that each frame holds: a program reached it there, and it was not shown since.
     held: Vec<Option<PageId>>,
-    /// What was last shown of each page, where that is known.
+    /// What was last shown of each page, if that is known.
     last: Vec<Option<Showing>>,
 }
 

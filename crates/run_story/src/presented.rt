@@ -4,7 +4,7 @@ use crate::contexts::{FirstTable, Told};
 use crate::frames::Tables;
 use crate::pages::Showing;
 use crate::watch::Watch;
-use alone_views::Asked;
+use alone_views::AskedAccess;
 use cloak_base::{HartId, Kind, PageId};
 use sha2::{Digest, Sha256};
 
@@ -59,7 +59,7 @@ pub enum Target {
 /// has what was last shown of the page.
 fn presented_page(watch: &Watch, domain: u8) -> Option<Presented> {
     let (page, frame) = watch.presented(domain)?;
-    let Asked::Page { address, kind, .. } = watch.last_asked(domain) else {
+    let AskedAccess::Page { address, kind, .. } = watch.last_asked(domain) else {
         return None;
     };
     let digest = Sha256::digest(watch.frames().get(frame)?.as_slice());

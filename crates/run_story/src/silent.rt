@@ -1,4 +1,4 @@
-//! An emitter that nobody hears.
+//! An emitter that discards everything.
 
 use cloak_model::{Emit, Item};
 

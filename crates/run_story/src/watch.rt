@@ -5,7 +5,7 @@ use crate::contexts::{Contexts, FirstTable, Told};
 use crate::frames::{Tables, frame_at, tables_of};
 use crate::pages::{Pages, Showing};
 use crate::silent::Silent;
-use alone_views::{Asked, DomainAlone, KernelAlone, Unfit};
+use alone_views::{AskedAccess, DomainAlone, KernelAlone, Unfit};
 use cloak_base::{HartId, Kind, Mode, NoMemory, PageId, Shown};
 use cloak_model::{Bundle, Item};
 use host_calls::Hart;
@@ -30,7 +30,7 @@ pub struct Watch {
     asked: Option<u32>,
 }
 
-/// The programs of a bundle, each by itself.
+/// The programs of a bundle, each alone.
 fn open_programs(alloc: Global, bundle: &Bundle) -> Result<Vec<DomainAlone>, NoMemory>
     requires { IsInGrammar bundle.now }
 {
@@ -135,7 +135,7 @@ impl Watch {
         self.contexts.table(space)
     }
 
-    /// The space of a context, counted so, and the hart on which it runs, where there is such a context.
+    /// The space of a context, counted so, and the hart on which it runs, if there is such a context.
     pub fn context(&self, ctx: u32) -> Option<(u32, Option<HartId>)> {
         let domain = ctx / 8;
         let (space, on) = self.programs.get(domain as usize)?.context(ctx % 8)?;
@@ -143,19 +143,19 @@ impl Watch {
     }
 
     /// The question that the last answer in this step, which a program got, is for.
-    pub fn last_asked(&self, domain: u8) -> Asked {
+    pub fn last_asked(&self, domain: u8) -> AskedAccess {
         let Some(program) = self.programs.get(domain as usize) else {
-            return Asked::Nothing;
+            return AskedAccess::Nothing;
         };
         let [first, second] = program.asked();
         match self.answers {
             1 => first,
             2 => second,
-            _ => Asked::Nothing,
+            _ => AskedAccess::Nothing,
         }
     }
 
-    /// A frame is shown. Answers the page of which the bytes are.
+    /// A frame is shown. Returns the page to which the bytes belong.
     fn note_cipher(&mut self, frame: u32, bytes: &[u8; 4096]) -> Option<Showing> {
         if is_wiped(bytes) {
             self.pages.wipe(frame);
@@ -167,7 +167,7 @@ impl Watch {
 
     /// The page of a question, and the frame in which the kernel presents it.
     pub fn presented(&self, domain: u8) -> Option<(PageId, usize)> {
-        let Asked::Page {
+        let AskedAccess::Page {
             page,
             address,
             kind,
@@ -209,7 +209,7 @@ impl Watch {
         true
     }
 
-    /// A context left. Where it ended, a space may have ended with it.
+    /// A context left. If it ended, a space may have ended with it.
     fn note_leave(&mut self, shown: &Shown) {
         if self.context(shown.ctx).is_some() {
             return;
@@ -257,7 +257,7 @@ impl Watch {
         Ok(())
     }
 
-    /// Takes the next item. Answers what it shows of a page, if it does.
+    /// Takes the next item. Returns what it shows of a page, if it does.
     pub fn take(&mut self, item: &Item) -> Result<Option<Showing>, Unfit> {
         let was_inside = self.inside().is_some();
         self.give(item)?;

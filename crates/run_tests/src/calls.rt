@@ -3,9 +3,9 @@
 use crate::checks::same;
 use crate::images::image;
 use crate::reports::{EMPTY, Outcome, report};
-use cloak_commands::{Words, run_program};
-use outside_io::{MemoryShelf, MemorySink};
-use program_parts::Status;
+use cloak_commands::{ProgramWords, run_program};
+use command_parts::Status;
+use io_traits::{MemoryShelf, MemorySink};
 use std::alloc::Global;
 use std::process::Abort;
 use std::test::*;
@@ -13,7 +13,7 @@ use std::test::*;
 /// Shows a byte, and halts.
 pub const SMALLEST: &str = "addi x10, x0, 65\necall\naddi x17, x0, 4\necall";
 
-/// The same code with an EBREAK in the place of its first word.
+/// The same code with an EBREAK instead of its first word.
 const BREAKS: &str = "ebreak\necall\naddi x17, x0, 4\necall";
 
 /// The whole run of the first image.
@@ -57,8 +57,8 @@ pub struct Left {
     pub sink: MemorySink,
 }
 
-/// The words, separated by spaces, over the files `a.b` and `other`, where the call on the files and the one on the output
-/// of these numbers fail. They are counted from 1.
+/// The words, separated by spaces, over the files `a.b` and `other`, when the calls of these numbers on the files and
+/// on the output fail. Calls are counted from 1.
 pub fn called(
     alloc: Global,
     line: &str,
@@ -74,7 +74,7 @@ pub fn called(
     for word in line.split_whitespace() {
         words.push(String::from_str(alloc, word)?)?;
     }
-    let status = run_program(alloc, &Words::Taken(words), &mut shelf, &mut sink);
+    let status = run_program(alloc, &ProgramWords::Taken(words), &mut shelf, &mut sink);
     Ok(Left {
         status,
         shelf,
@@ -82,7 +82,7 @@ pub fn called(
     })
 }
 
-/// A call over the file `a.b` comes to this status, this output and these bytes of the record `a.r`.
+/// A call over the file `a.b` ends with this status, this output and these bytes of the record `a.r`.
 fn comes_to(
     rt: &impl Abort,
     alloc: Global,
@@ -99,7 +99,7 @@ fn comes_to(
     Ok(())
 }
 
-/// Words of runs, the code of their images, what they come to, and their records.
+/// Words of runs, the code of their images, what they end with, and their records.
 static RUNS: [(&str, &str, Outcome, &[u8]); 5] = [
     (WHOLE_LINE, SMALLEST, WHOLE_RUN, &RECORD),
     (
@@ -239,7 +239,7 @@ fn refused_words(rt: HostRuntime) -> Result<(), Fail> {
     Ok(())
 }
 
-/// A file with one of its bytes in the place of another, or with fewer or more of them.
+/// A file with one of its bytes replaced by another, or with fewer or more of them.
 fn damaged(alloc: Global, whole: &[u8], length: u64, at: usize, byte: u8) -> Result<Vec<u8>, Fail> {
     let mut file = Vec::new(alloc);
     for i in 0..length.min(100) as usize {
@@ -249,7 +249,7 @@ fn damaged(alloc: Global, whole: &[u8], length: u64, at: usize, byte: u8) -> Res
     Ok(file)
 }
 
-/// What is shown of the smallest image with one byte in the place of another, cut short, or with a byte more.
+/// What is shown of the smallest image with one byte replaced by another, cut short, or with a byte more.
 static DAMAGED: [(u64, usize, u8, &str); 8] = [
     (64, 0, b'C', "bundle: short at 49\n"),
     (66, 0, b'C', "bundle: extra at 65\n"),
@@ -309,7 +309,7 @@ fn failing_calls(rt: HostRuntime) -> Result<(), Fail> {
     Ok(())
 }
 
-/// What is shown behind the console and these bytes.
+/// What is shown after the console and these bytes.
 fn shown_behind<'a>(shown: &'a [u8], before: &str) -> &'a [u8] {
     let shown = shown.strip_prefix(b"A").unwrap_or(shown);
     shown.strip_prefix(before.as_bytes()).unwrap_or(b"")

@@ -1,12 +1,12 @@
-//! Runs that are frozen and go on, over files in memory. What both parts have to write comes from the whole run.
+//! Runs that are frozen and go on, over files in memory. What both parts must write comes from the whole run.
 
 use crate::calls::{Left, SMALLEST};
 use crate::checks::{holds, same};
 use crate::images::image;
 use crate::programs::{CALLS, EXITS, FLIPS, HALTS, REMAPS, RESUMES_3_AND_8, RESUMES_AGAIN, START};
-use cloak_commands::{Words, run_program};
-use outside_io::{MemoryShelf, MemorySink};
-use program_parts::Status;
+use cloak_commands::{ProgramWords, run_program};
+use command_parts::Status;
+use io_traits::{MemoryShelf, MemorySink};
 use std::alloc::Global;
 use std::process::Abort;
 use std::test::*;
@@ -46,7 +46,7 @@ fn called_on(alloc: Global, line: &str, files: &Files<'_>, failing: u64) -> Resu
     for word in line.split_whitespace() {
         words.push(String::from_str(alloc, word)?)?;
     }
-    let status = run_program(alloc, &Words::Taken(words), &mut shelf, &mut sink);
+    let status = run_program(alloc, &ProgramWords::Taken(words), &mut shelf, &mut sink);
     Ok(Left {
         status,
         shelf,
@@ -64,7 +64,7 @@ fn files_with(bundle: &[u8]) -> Files<'_> {
     }
 }
 
-/// The run of a bundle that is frozen after so many steps.
+/// The run of a bundle that is frozen after this many steps.
 fn frozen(alloc: Global, files: &Files<'_>, steps: u32) -> Result<Left, Fail> {
     let line = format!(in alloc; "freeze a.b a.r f --ivs v --steps {steps} --stream s")?;
     called_on(alloc, &line, files, 0)
@@ -91,7 +91,7 @@ fn without_past(alloc: Global, shown: &[u8]) -> Result<Vec<u8>, Fail> {
     Ok(lines)
 }
 
-/// The run of a bundle that is frozen after so many steps and goes on for so many more is its run over all of them.
+/// The run of a bundle that is frozen after this many steps and goes on for that many more is its run over all of them.
 fn is_one_run(
     rt: &impl Abort,
     alloc: Global,

@@ -20,7 +20,7 @@ fn add_words(file: &mut Vec<u8>, words: &[u32]) -> Result<(), Fail> {
     Ok(())
 }
 
-/// Adds the words of each text as a segment. The first begins with RAM, each other one behind the last.
+/// Adds the words of each text as a segment. The first begins with RAM, each other one after the last.
 fn add_segments(alloc: Global, file: &mut Vec<u8>, texts: &[&str]) -> Result<(), Fail> {
     let mut address = 0x8000_0000u32;
     for text in texts {

@@ -4,7 +4,7 @@ use crate::calls::called;
 use crate::checks::same;
 use crate::images::image;
 use crate::reports::{EMPTY, Outcome, report};
-use program_parts::Status;
+use command_parts::Status;
 use std::test::*;
 
 /// A READ of block 64, and then a halt.

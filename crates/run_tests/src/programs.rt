@@ -4,8 +4,8 @@ use crate::calls::{Left, called};
 use crate::checks::{holds, same};
 use crate::images::image;
 use crate::reports::{EMPTY, Outcome, report};
-use cloak_commands::{Words, sentence};
-use program_parts::Status;
+use cloak_commands::{ProgramWords, read_again, sentence};
+use command_parts::Status;
 use std::alloc::Global;
 use std::test::*;
 
@@ -19,7 +19,7 @@ fn ran(alloc: Global, bundle: &[u8], steps: u32, bytes: u8) -> Result<Left, Fail
     called(alloc, &line, bundle, stream.as_slice(), (0, 0))
 }
 
-/// Sets the trap's vector to the handler behind it, and resumes context 0.
+/// Sets the trap's vector to the handler after it, and resumes context 0.
 pub const START: &str = "la x6, handler\ncsrrw x0, 0x105, x6\nlui x17, 0x4F560\necall\nhandler:";
 
 pub const HALTS: &str = "addi x17, x0, 4\necall";
@@ -95,7 +95,7 @@ const CALLED_LINE: &str =
     "domain 0 state 57f402f27d52d0ab34baac3ab1c5a3062548b040812cf8c40e61e161f4c6d610 \
     loads 1 3bc4fec69186869eae2e7a3fbd93442330a26866e505d5eae0d9342ad904819c\n";
 
-/// The status, the first lines behind the console's where these are not the whole report, and the length of the record
+/// The status, the first lines after the console's if these are not the whole report, and the length of the record
 /// of runs by the bytes of their stream.
 static ENDS: [(u8, Status, Option<&str>, usize); 6] = [
     (48, Status::Done, None, 8355),
@@ -196,7 +196,7 @@ fn violations(rt: HostRuntime) -> Result<(), Fail> {
     Ok(())
 }
 
-/// A resume where there is no program is counted.
+/// A resume when there is no program is counted.
 #[test]
 fn refused_without_a_program(rt: HostRuntime) -> Result<(), Fail> {
     let bundle = image(rt.alloc(), &[0], &[RESUMES_AGAIN], 0, &[])?;
@@ -216,8 +216,8 @@ const ENDED_LINE: &str =
 const SECOND_LOADS: &str =
     "loads 1 422eeafc3b7a7b5fca03d3ddd88fe48acaa5af12d12eadbcf3a3a2d697427a68\n";
 
-/// The first program ends by a resume that is refused, and the kernel runs the second one on the same hart. This one comes to
-/// what it comes to where the first one is left alone.
+/// The first program ends by a resume that is refused, and the kernel runs the second one on the same hart. This one
+/// ends with what it ends with when the first one is left alone.
 #[test]
 fn the_other_program_goes_on(rt: HostRuntime) -> Result<(), Fail> {
     let programs = [CALLS, CALLS];
@@ -262,7 +262,7 @@ fn the_other_program_goes_on(rt: HostRuntime) -> Result<(), Fail> {
 }
 
 /// What is said of a status, with the names of the files that these words name.
-static SENTENCES: [(&str, Status, &str); 13] = [
+static SENTENCES: [(&str, Status, &str); 14] = [
     ("demo 9 --steps 10", Status::Done, ""),
     (
         "run a.b a.r --steps 10 --number 7",
@@ -310,6 +310,11 @@ static SENTENCES: [(&str, Status, &str); 13] = [
         "cloak: the bundle `a.b` or the state `f` cannot be read\n",
     ),
     (
+        "freeze a.b a.r f --ivs v --steps 10 --stream s",
+        Status::NoRandom,
+        "cloak: the stream `s` or the vectors `v` have too few bytes for this run\n",
+    ),
+    (
         "thaw a.b a.r f --steps 10 --stream s",
         Status::NoRandom,
         "cloak: the stream `s` has too few bytes for this run\n",
@@ -333,8 +338,8 @@ fn sentences(rt: HostRuntime) -> Result<(), Fail> {
         for word in line.split_whitespace() {
             words.push(String::from_str(rt.alloc(), word)?)?;
         }
-        let words = Words::Taken(words);
-        let told = sentence(rt.alloc(), &words, status).to_string(rt.alloc())?;
+        let words = ProgramWords::Taken(words);
+        let told = sentence(read_again(rt.alloc(), &words), status).to_string(rt.alloc())?;
         same(&rt, &told.as_str(), &said, line);
     }
     Ok(())

@@ -6,7 +6,7 @@ use std::test::Fail;
 /// The digest of no bytes.
 pub const EMPTY: &str = "e3b0c44298fc1c149afbf4c8996fb92427ae41e4649b934ca495991b7852b855";
 
-/// What a run comes to: why it stops, its steps and its draws; the bytes of its console and their digest; of each hart
+/// What a run ends with: why it stops, its steps and its draws; the bytes of its console and their digest; of each hart
 /// its line up to the timer, which is 0, and by number the registers of both kinds that are not 0.
 #[derive(Clone, Copy)]
 pub struct Outcome {
@@ -22,14 +22,14 @@ const CSRS: [u32; 9] = [
     0x100, 0x104, 0x105, 0x140, 0x141, 0x142, 0x143, 0x144, 0x180,
 ];
 
-/// Adds the value of this number, which is 0 where none is named.
+/// Adds the value of this number, which is 0 if none is named.
 fn add_value(lines: &mut String, values: &[(u32, u32)], number: u32) -> Result<(), Fail> {
     let named = values.iter().find(|named| named.0 == number);
     let value = named.map_or(0, |named| named.1);
     Ok(write!(lines, " {value:08x}")?)
 }
 
-/// Adds the lines of values behind a hart's first one.
+/// Adds the lines of values after a hart's first one.
 fn add_values(lines: &mut String, values: &[(u32, u32)]) -> Result<(), Fail> {
     lines.push_str("regs")?;
     for number in 1..32 {

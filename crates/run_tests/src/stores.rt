@@ -3,9 +3,9 @@
 use crate::calls::Left;
 use crate::checks::{holds, same};
 use crate::images::image;
-use cloak_commands::{Words, run_program};
-use outside_io::{MemoryShelf, MemorySink};
-use program_parts::Status;
+use cloak_commands::{ProgramWords, run_program};
+use command_parts::Status;
+use io_traits::{MemoryShelf, MemorySink};
 use std::alloc::Global;
 use std::test::*;
 
@@ -43,7 +43,7 @@ fn files_of(left: &Left) -> Files<'_> {
     }
 }
 
-/// What the words leave over these files, where the call on files of this number fails. Calls are counted from 1.
+/// What the words leave over these files, when the call of this number on files fails. Calls are counted from 1.
 fn stored(alloc: Global, line: &str, files: &Files<'_>, failing: u64) -> Result<Left, Fail> {
     let mut shelf = MemoryShelf::open(alloc, vec![in alloc; failing]?);
     shelf.add("a.b", files.bundle)?;
@@ -55,7 +55,7 @@ fn stored(alloc: Global, line: &str, files: &Files<'_>, failing: u64) -> Result<
     for word in line.split_whitespace() {
         words.push(String::from_str(alloc, word)?)?;
     }
-    let status = run_program(alloc, &Words::Taken(words), &mut shelf, &mut sink);
+    let status = run_program(alloc, &ProgramWords::Taken(words), &mut shelf, &mut sink);
     Ok(Left {
         status,
         shelf,
@@ -63,7 +63,7 @@ fn stored(alloc: Global, line: &str, files: &Files<'_>, failing: u64) -> Result<
     })
 }
 
-/// What a first run leaves of an image that halts, where the call on files of this number fails.
+/// What a first run leaves of an image that halts, when the call of this number on files fails.
 fn first_run(alloc: Global, failing: u64) -> Result<Left, Fail> {
     let bundle = image(alloc, &[0], &[HALTS], 0, &[])?;
     let files = Files {

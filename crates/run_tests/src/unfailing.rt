@@ -2,9 +2,9 @@
 
 use crate::checks::same;
 use crate::images::image;
-use cloak_commands::{Words, run_program};
+use cloak_commands::{ProgramWords, run_program};
+use command_parts::Status;
 use never_fails::{NeverShelf, NeverSink};
-use program_parts::Status;
 use std::test::*;
 
 /// The SHA-256 digest of the 34 bytes of the smallest run's record.
@@ -24,7 +24,12 @@ fn the_smallest_run_where_no_call_fails(rt: HostRuntime) -> Result<(), Fail> {
     for word in "run a.b a.r --steps 10 --number 0".split_whitespace() {
         words.push(String::from_str(rt.alloc(), word)?)?;
     }
-    let status = run_program(rt.alloc(), &Words::Taken(words), &mut shelf, &mut sink);
+    let status = run_program(
+        rt.alloc(),
+        &ProgramWords::Taken(words),
+        &mut shelf,
+        &mut sink,
+    );
     same(&rt, &status, &Status::Done, "status");
     same(&rt, &shelf.sum(), &(34, RECORD_DIGEST), "record");
     Ok(())

@@ -2,7 +2,7 @@
 use Rattle.std.proofs.Common.{◌≡◌, ℕ, suc, ◌+◌, ◌<◌, ◌≤◌, Bool, true, false, cond, not, eqb, List, [], ◌∷◌, ◌++◌, length, take, drop, Result, Ok, Err, refl, sym, ap, ◌∙◌, append_assoc, length-drop, length-append, arith}
 use Rattle.std.specs.List.{before_first, after_first, prefix_len, position_or_len, onto_first}
 use Rattle.std.proofs.lemmas.List.{append-nil}
-use Rattle.rv_asm.specs.declared.item.Item.{Item}
+use Rattle.rv_asm.specs.declared.image_word.ImageWord.{ImageWord}
 use Rattle.rv_asm.specs.declared.labels.Mark.{Mark}
 use Rattle.rv_asm.specs.declared.fault.AsmFault.{AsmFault}
 use Rattle.rv_asm.specs.declared.fault.AsmFault.TheVariants.{UnknownWord, BadOperand, BadLabel, OutOfReach, TooLong, NoMemory}
@@ -44,18 +44,18 @@ shorter text h = omega (arith, length-drop (position_or_len feed text + 1) text)
 -- ---- the items
 
 -- what was read before, and what is still read
-abbrev pub with_front : List Item → Result (List Item) AsmFault → Result (List Item) AsmFault
+abbrev pub with_front : List ImageWord → Result (List ImageWord) AsmFault → Result (List ImageWord) AsmFault
 with_front front read = read >>= λ x. Ok (front ++ x)
 
-pub starts : (read : Result (List Item) AsmFault) → with_front [] read ≡ read
+pub starts : (read : Result (List ImageWord) AsmFault) → with_front [] read ≡ read
 starts (Ok x) = refl
 starts (Err e) = refl
 
-regroup : (front items : List Item) (read : Result (List Item) AsmFault) → with_front front (read >>= λ x. Ok (items ++ x)) ≡ with_front (front ++ items) read
+regroup : (front items : List ImageWord) (read : Result (List ImageWord) AsmFault) → with_front front (read >>= λ x. Ok (items ++ x)) ≡ with_front (front ++ items) read
 regroup front items (Ok x) = ap (λ xs. Ok xs) (sym (append_assoc front items x))
 regroup front items (Err e) = refl
 
-pub goes_on : (find : List ℕ → Option Mark) (front : List Item) (line : ℕ) (text : List ℕ) (items : List Item) (total : Result (List Item) AsmFault) → 0 < length text
+pub goes_on : (find : List ℕ → Option Mark) (front : List ImageWord) (line : ℕ) (text : List ℕ) (items : List ImageWord) (total : Result (List ImageWord) AsmFault) → 0 < length text
     → line_items find (line + 1) (length front) (first text) ≡ Ok items → with_front front (items_from find line (length front) (lines_of text)) ≡ total
     → with_front (front ++ items) (items_from find (line + 1) (length (front ++ items)) (lines_of (others text))) ≡ total
 goes_on find front line text items total pos h so_far =
@@ -71,13 +71,13 @@ fails (BadLabel n) read h = h
 fails (OutOfReach n) read h = h
 fails TooLong read h = h
 
-pub ends : (e : AsmFault) (find : List ℕ → Option Mark) (front : List Item) (line : ℕ) (text : List ℕ) (total : Result (List Item) AsmFault) → 0 < length text
+pub ends : (e : AsmFault) (find : List ℕ → Option Mark) (front : List ImageWord) (line : ℕ) (text : List ℕ) (total : Result (List ImageWord) AsmFault) → 0 < length text
     → line_items find (line + 1) (length front) (first text) ≡ Err e → with_front front (items_from find line (length front) (lines_of text)) ≡ total → FailsAs e total
 ends e find front line text total pos h so_far =
     let one : with_front front (items_from find line (length front) (lines_of text)) ≡ Err e = rw (next_line text pos, h) refl in
     fails e total (sym so_far ∙ one)
 
-pub is_done : (find : List ℕ → Option Mark) (front : List Item) (line here : ℕ) (text : List ℕ) (total : Result (List Item) AsmFault) → length text ≡ 0
+pub is_done : (find : List ℕ → Option Mark) (front : List ImageWord) (line here : ℕ) (text : List ℕ) (total : Result (List ImageWord) AsmFault) → length text ≡ 0
     → with_front front (items_from find line here (lines_of text)) ≡ total → total ≡ Ok front
 is_done find front line here [] total h so_far = sym so_far ∙ ap (λ xs. Ok xs) (append-nil front)
 is_done find front line here (b ∷ bs) total h so_far = absurd (omega arith)

@@ -12,8 +12,8 @@ use denote.Ref.{Bor}
 use Rattle.rv_isa.specs.Table.{instruction}
 use Rattle.rv_isa.specs.declared.instr.Instr.TheVariants as instr
 use Rattle.rv_atomic.specs.Table.{atomic_instruction}
-use Rattle.rv_asm.specs.declared.item.Item.{Item}
-use Rattle.rv_asm.specs.declared.item.Item.TheVariants.{Instruction, Atomic, Data}
+use Rattle.rv_asm.specs.declared.image_word.ImageWord.{ImageWord}
+use Rattle.rv_asm.specs.declared.image_word.ImageWord.TheVariants.{Instruction, Atomic, Data}
 use Rattle.rv_asm.specs.declared.fault.FaultKind.{FaultKind}
 use Rattle.rv_asm.specs.declared.fault.FaultKind.TheVariants as kinds
 use Rattle.rv_asm.specs.declared.fault.AsmFault.{AsmFault}
@@ -49,7 +49,7 @@ abbrev pub mark : ℕ → ℕ → Result Meaning FaultKind → List (List ℕ ×
 mark line place (Ok (Label name)) = (name, record { line = line; place = place }) ∷ []
 mark line place _ = []
 
--- the labels of lines, behind so many lines and words
+-- the labels of lines, after this many lines and words
 abbrev pub labels_of : ℕ → ℕ → List (List ℕ) → List (List ℕ × Mark)
 labels_of before place [] = []
 labels_of before place (line ∷ lines) =
@@ -74,7 +74,7 @@ relative here there = (there + (2 ^ 30 - here % 2 ^ 30)) % 2 ^ 30 * 4
 
 -- what stands for the words of a statement, by its line and place. A branch reaches -4096 to 4094 bytes, a jump
 -- -1048576 to 1048574
-abbrev pub items_of_line : (List ℕ → Option Mark) → ℕ → ℕ → Meaning → Result (List Item) FaultKind
+abbrev pub items_of_line : (List ℕ → Option Mark) → ℕ → ℕ → Meaning → Result (List ImageWord) FaultKind
 items_of_line find line here Nothing = Ok []
 items_of_line find line here (Label name) = do
   m ← ok_or (find name) kinds.BadLabel
@@ -106,11 +106,11 @@ at_line line (Ok x) = Ok x
 at_line line (Err kind) = Err (fault_at line kind)
 
 -- the items of a line by its number and place, or its fault
-unfoldable pub line_items : (List ℕ → Option Mark) → ℕ → ℕ → List ℕ → Result (List Item) AsmFault
+unfoldable pub line_items : (List ℕ → Option Mark) → ℕ → ℕ → List ℕ → Result (List ImageWord) AsmFault
 line_items find line here text = at_line line (statement text >>= items_of_line find line here)
 
--- the items of lines, behind so many lines and words, or the fault of the first faulty line
-abbrev pub items_from : (List ℕ → Option Mark) → ℕ → ℕ → List (List ℕ) → Result (List Item) AsmFault
+-- the items of lines, after this many lines and words, or the fault of the first faulty line
+abbrev pub items_from : (List ℕ → Option Mark) → ℕ → ℕ → List (List ℕ) → Result (List ImageWord) AsmFault
 items_from find before here [] = Ok []
 items_from find before here (line ∷ lines) = do
   items ← line_items find (before + 1) here line
@@ -118,24 +118,24 @@ items_from find before here (line ∷ lines) = do
   Ok (items ++ others)
 
 -- what stands for the words of a text, or its first fault
-unfoldable pub assembled : List ℕ → Result (List Item) AsmFault
+unfoldable pub assembled : List ℕ → Result (List ImageWord) AsmFault
 assembled text = do
   items ← items_from (find_in (labels_of 0 0 (lines_of text))) 0 0 (lines_of text)
   if nat_lt 65536 (length items) then Err TooLong else Ok items
 
 -- the word of an instruction is one to which its table gives the instruction
-abbrev pub SpellsItem : Item → ℕ → Type 0
+abbrev pub SpellsItem : ImageWord → ℕ → Type 0
 SpellsItem (Instruction i) w = (w < 2 ^ 32) × (instruction w ≡ Some i)
 SpellsItem (Atomic a) w = (w < 2 ^ 32) × (atomic_instruction w ≡ Some a)
 SpellsItem (Data n) w = w ≡ n
 
-abbrev pub AreWords : List Item → List ℕ → Type 0
+abbrev pub AreWords : List ImageWord → List ℕ → Type 0
 AreWords [] [] = Unit {0}
 AreWords [] (w ∷ ws) = ⊥
 AreWords (i ∷ is) [] = ⊥
 AreWords (i ∷ is) (w ∷ ws) = SpellsItem i w × AreWords is ws
 
--- a fault is the text's, but for want of memory
+-- a fault is the text's, except for want of memory
 abbrev pub FailsAs : {Y : Type 0} → AsmFault → Result Y AsmFault → Type 0
 FailsAs NoMemory given = Unit {0}
 FailsAs (UnknownWord n) given = given ≡ Err (UnknownWord n)

@@ -141,7 +141,7 @@ atomic_name word =
     if bytes_eq word (codes "amomaxu") then Some amo.Maxu else
     None
 
--- the bits aq and rl, by what stands behind it
+-- the bits aq and rl, by what stands after its first point
 unfoldable pub atomic_order : List ℕ → Option ℕ
 atomic_order word =
     if bytes_eq word (codes "w") then Some 0b00 else
@@ -178,7 +178,7 @@ single word =
     if bytes_eq word (codes ".word") then Some Word else
     None
 
--- the first of two, where there is one
+-- the first of two, if there is one
 abbrev pub or_else : {A : Type 0} → Option A → Option A → Option A
 or_else (Some x) other = Some x
 or_else None other = other

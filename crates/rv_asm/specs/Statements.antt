@@ -22,8 +22,8 @@ use Rattle.rv_asm.specs.declared.operation.StoreOp.{StoreOp}
 use Rattle.rv_asm.specs.declared.operation.BranchOp.{BranchOp}
 use Rattle.rv_asm.specs.declared.operation.CsrOp.{CsrOp}
 use Rattle.rv_asm.specs.declared.operation.CsrImmediateOp.{CsrImmediateOp}
-use Rattle.rv_asm.specs.declared.item.Item.{Item}
-use Rattle.rv_asm.specs.declared.item.Item.TheVariants.{Instruction, Atomic, Data}
+use Rattle.rv_asm.specs.declared.image_word.ImageWord.{ImageWord}
+use Rattle.rv_asm.specs.declared.image_word.ImageWord.TheVariants.{Instruction, Atomic, Data}
 use Rattle.rv_asm.specs.declared.fault.FaultKind.{FaultKind}
 use Rattle.rv_asm.specs.declared.fault.FaultKind.TheVariants.{UnknownWord, BadOperand}
 use Rattle.rv_asm.specs.declared.statement.Statement as code
@@ -210,7 +210,7 @@ wrapped (negsuc n) = 2 ^ 32 - suc n
 pub data Meaning : Type 0 where
   Nothing : Meaning
   Label : List ℕ → Meaning
-  Fixed : List Item → Meaning
+  Fixed : List ImageWord → Meaning
   Branch : BranchOp → ℕ → ℕ → List ℕ → Meaning
   Jump : ℕ → List ℕ → Meaning
   Address : ℕ → List ℕ → Meaning
@@ -291,7 +291,7 @@ label_word word = do
   name ← cut 58 word
   if is_name name.0 && (length name.1 == 0) then Some name.0 else None
 
--- a line by its first word, if that is a label or an operation, and the text behind it
+-- a line by its first word, if that is a label or an operation, and the text after it
 abbrev pub line_with : Option (List ℕ) → Option Operation → List ℕ → Result Meaning FaultKind
 line_with (Some name) op text = if list_all is_blank text then Ok (Label name) else Err BadOperand
 line_with None (Some op) text = ok_or (statement_of op text) BadOperand
@@ -305,7 +305,7 @@ statement line =
 
 -- ---- a statement of the code
 
--- without where its names lie in memory
+-- without the places in memory where its names lie
 abbrev pub read : code.Statement → Meaning
 read shape.Nothing = Nothing
 read (shape.Label name) = Label name.now
@@ -321,7 +321,7 @@ pub record IsAtomicInRange (a : atomics.Atomic) : Type 0 where
   pub without : a.op ≡ Lr → a.rs2 ≡ 0
 
 -- a word can hold the fields
-abbrev pub IsItemInRange : Item → Type 0
+abbrev pub IsItemInRange : ImageWord → Type 0
 IsItemInRange (Instruction i) = InRange i
 IsItemInRange (Atomic a) = IsAtomicInRange a
 IsItemInRange (Data n) = n < 2 ^ 32

@@ -19,7 +19,7 @@ is_blank b = (b == 32) || (b == 9)
 abbrev pub is_digit : ℕ → Bool
 is_digit b = nat_le 48 b && nat_le b 57
 
--- before and behind the first byte c, where there is one
+-- before and after the first byte c, if there is one
 unfoldable pub cut : ℕ → List ℕ → Option (List ℕ × List ℕ)
 cut c text = do
   i ← position (λ b. b == c) text
@@ -29,7 +29,7 @@ cut c text = do
 unfoldable pub from_word : List ℕ → List ℕ
 from_word text = drop (prefix_len is_blank text) text
 
--- the first word of a text, empty where there is none, and what stands behind it
+-- the first word of a text, empty if there is none, and what stands after it
 unfoldable pub leading_word : List ℕ → List ℕ × List ℕ
 leading_word text = let word = from_word text in (before_first is_blank word, after_first is_blank word)
 
@@ -56,7 +56,7 @@ digit base b =
     else if base == 16 && (nat_le 65 b && nat_le b 70) then Some (b - 55)
     else None
 
--- the value of digits behind others of value n
+-- the value of digits after others of value n
 abbrev pub digits : ℕ → ℕ → List ℕ → Option ℕ
 digits base n [] = Some n
 digits base n (b ∷ bs) = digit base b >>= λ d. digits base (base * n + d) bs
@@ -69,7 +69,7 @@ narrow n = if nat_lt n (2 ^ 32) then Some n else None
 unfoldable pub value : ℕ → List ℕ → Option ℕ
 value base text = if length text == 0 then None else digits base 0 text >>= narrow
 
--- decimal, or hexadecimal behind `0x`
+-- decimal, or hexadecimal after `0x`
 unfoldable pub magnitude : List ℕ → Option ℕ
 magnitude (o ∷ x ∷ bs) = if (o == 48) && (x == 120) then value 16 bs else value 10 (o ∷ x ∷ bs)
 magnitude bs = value 10 bs
@@ -77,7 +77,7 @@ magnitude bs = value 10 bs
 abbrev pub signed_numeral : Bool → ℕ → Option Numeral
 signed_numeral negative n = Some (record { negative = negative; magnitude = n })
 
--- a magnitude, behind a `-` where it is negative. No operand takes one of more than 32 bits
+-- a magnitude, after a `-` if it is negative. No operand takes one of more than 32 bits
 unfoldable pub numeral : List ℕ → Option Numeral
 numeral (sign ∷ bs) = if sign == 45 then magnitude bs >>= signed_numeral true else magnitude (sign ∷ bs) >>= signed_numeral false
 numeral [] = None

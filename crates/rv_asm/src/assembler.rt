@@ -4,7 +4,7 @@ ghost use Rattle.std.specs.Prelude.{◌≡◌, ℕ, ◌+◌, ◌*◌, ◌-◌, �
 ghost use Rattle.std.specs.Prelude.{MatchResult, All, Ok};
 ghost use Rattle.rv_isa.specs.Range.{FitsSigned, IsEven};
 ghost use Rattle.rv_asm.specs.declared.fault.AsmFault.TheVariants as faults;
-ghost use Rattle.rv_asm.specs.declared.item.Item.{Item};
+ghost use Rattle.rv_asm.specs.declared.image_word.ImageWord.{ImageWord};
 ghost use Rattle.rv_asm.specs.Statements.{Reads, read, IsLineReady, IsItemInRange};
 ghost use Rattle.rv_asm.specs.Assembly.{lines_of, offset_between, relative, items_of_line, line_items, items_from};
 ghost use Rattle.rv_asm.specs.Assembly.{assembled, SpellsItem, AreWords, FailsAs, AnswersAs, table};
@@ -12,7 +12,7 @@ ghost use Rattle.rv_asm.specs.Listing.{listed, AreItems};
 
 use crate::atomic::encode_atomic;
 use crate::fault::{AsmFault, FaultKind, fault_at};
-use crate::item::Item;
+use crate::image_word::ImageWord;
 use crate::labels::{Mark, find, labels};
 use crate::operation::branch_instruction;
 use crate::statement::{Statement, lower_part, parse, upper_part};
@@ -25,7 +25,7 @@ use std::collections::BTreeMap;
 #[derive(Clone, Copy)]
 pub enum Items {
     None,
-    One(Item),
+    One(ImageWord),
     Two(Instr, Instr),
 }
 
@@ -90,12 +90,12 @@ fn resolve(
             let mark = find(marks, to)?;
             let imm = offset(1024, here, mark.place)?;
             let branch = branch_instruction(op, rs1, rs2, imm);
-            Ok(Items::One(Item::Instruction(branch)))
+            Ok(Items::One(ImageWord::Instruction(branch)))
         }
         Statement::Jump { rd, to } => {
             let mark = find(marks, to)?;
             let imm = offset(262_144, here, mark.place)?;
-            Ok(Items::One(Item::Instruction(Instr::Jal { rd, imm })))
+            Ok(Items::One(ImageWord::Instruction(Instr::Jal { rd, imm })))
         }
         Statement::Address { rd, to } => {
             let mark = find(marks, to)?;
@@ -136,7 +136,7 @@ fn line_items(
     }
 }
 
-fn append(out: &mut Vec<Item>, items: Items) -> Result<(), AsmFault>
+fn append(out: &mut Vec<ImageWord>, items: Items) -> Result<(), AsmFault>
     requires { AreItems items }
     ensures items { OnOk result (out.new.items ≡ out.old.items ++ listed items) }
     ensures ready { All IsItemInRange out.old.items → OnOk result (All IsItemInRange out.new.items) }
@@ -146,8 +146,8 @@ fn append(out: &mut Vec<Item>, items: Items) -> Result<(), AsmFault>
         Items::None => {}
         Items::One(item) => out.push(item)?,
         Items::Two(first, second) => {
-            out.push(Item::Instruction(first))?;
-            out.push(Item::Instruction(second))?;
+            out.push(ImageWord::Instruction(first))?;
+            out.push(ImageWord::Instruction(second))?;
         }
     }
     Ok(())
@@ -158,7 +158,7 @@ fn all_items(
     alloc: Global,
     marks: &BTreeMap<&[u8], Mark>,
     text: &[u8],
-) -> Result<Vec<Item>, AsmFault>
+) -> Result<Vec<ImageWord>, AsmFault>
     requires { length text.now < 2 ^ 32 }
     ensures value { AnswersAs (λ v. v.items) result (items_from (table marks.now) 0 0 (lines_of text.now)) }
     ensures ready { IfOk result (λ v. All IsItemInRange v.items) }
@@ -175,18 +175,18 @@ fn all_items(
     Ok(out)
 }
 
-fn word_of(item: &Item) -> u32
+fn word_of(item: &ImageWord) -> u32
     requires { IsItemInRange item.now }
     ensures { SpellsItem item.now result }
 {
     match item {
-        Item::Instruction(i) => encode(i),
-        Item::Atomic(a) => encode_atomic(a),
-        Item::Data(n) => *n,
+        ImageWord::Instruction(i) => encode(i),
+        ImageWord::Atomic(a) => encode_atomic(a),
+        ImageWord::Data(n) => *n,
     }
 }
 
-fn words_of(alloc: Global, items: &[Item]) -> Result<Vec<u32>, AllocError>
+fn words_of(alloc: Global, items: &[ImageWord]) -> Result<Vec<u32>, AllocError>
     requires { All IsItemInRange items.now }
     ensures { IfOk result (λ v. AreWords items.now v.items) }
 {
@@ -201,7 +201,7 @@ fn words_of(alloc: Global, items: &[Item]) -> Result<Vec<u32>, AllocError>
 #[tactic(auto, unfolding(crate::specs::Assembly::assembled))]
 pub fn assemble(alloc: Global, text: &str) -> Result<Vec<u32>, AsmFault>
     requires { length text.now < 2 ^ 32 }
-    ensures { MatchResult result (λ v. (items : List Item) × (assembled text.now ≡ Ok items) × AreWords items v.items)
+    ensures { MatchResult result (λ v. (items : List ImageWord) × (assembled text.now ≡ Ok items) × AreWords items v.items)
         (λ e. FailsAs e (assembled text.now)) }
 {
     let text = text.as_bytes();

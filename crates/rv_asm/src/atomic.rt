@@ -44,7 +44,7 @@ fn atomic_name(word: &[u8]) -> Option<AtomicOp>
     }
 }
 
-/// The bits `aq` and `rl`, by what stands behind the first point.
+/// The bits `aq` and `rl`, by what stands after the first point.
 #[tactic(auto, unfolding(crate::specs::Operations::atomic_order))]
 fn atomic_order(word: &[u8]) -> Option<u32>
     ensures value { result ≡ atomic_order word.now }

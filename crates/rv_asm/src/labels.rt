@@ -33,7 +33,7 @@ pub fn find(marks: &BTreeMap<&[u8], Mark>, name: &[u8]) -> Result<Mark, FaultKin
     }
 }
 
-/// Adds a mark where the name has none.
+/// Adds a mark if the name has none.
 fn add<'a>(marks: &mut BTreeMap<&'a [u8], Mark>, name: &'a [u8], mark: Mark) -> Result<(), AsmFault>
     ensures added { OnOk result
         ((q : List ℕ) → table marks.new q ≡ or_else (table marks.old q) (if bytes_eq q name.now then Some mark else

@@ -4,7 +4,7 @@
 //! a mnemonic, `Statements` the operands of each and the statement of a line, `Assembly` labels, reach and the
 //! words of a text. The word of an instruction is that of `rv_isa`'s table, or of `rv_atomic`'s.
 //!
-//! `assemble` is exact for every text: it gives the words of a text that follows the rule, and of any other
+//! `assemble` is exact for every text: it returns the words of a text that follows the rule, and for any other
 //! text the first faulty line with what is wrong there. Only want of memory is said without a cause.
 #![tactic(auto)]
 
@@ -12,7 +12,7 @@ mod assembler;
 mod atomic;
 mod fault;
 mod form;
-mod item;
+mod image_word;
 mod labels;
 mod operand;
 mod operation;

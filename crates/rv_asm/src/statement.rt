@@ -15,7 +15,7 @@ use crate::form::{
     csr_form, csr_immediate_form, fence_form, immediate_form, load_form, register_form, shift_form,
     store_form, upper_form,
 };
-use crate::item::Item;
+use crate::image_word::ImageWord;
 use crate::operand::{modular_operand, name_operand, register_operand, three};
 use crate::operation::{BranchOp, Operation, find_operation};
 use crate::words::{before, cut, first_word, is_all_blank, is_name};
@@ -28,7 +28,7 @@ pub enum Statement<'a> {
     Nothing,
     /// A label is defined.
     Label(&'a [u8]),
-    Single(Item),
+    Single(ImageWord),
     Pair(Instr, Instr),
     Branch {
         op: BranchOp,
@@ -77,7 +77,7 @@ fn bare_statement<'a>(i: Instr, text: &'a [u8]) -> Option<Statement<'a>>
     ensures ready { IfSome result IsLineReady }
 {
     if is_all_blank(text) {
-        Some(Statement::Single(Item::Instruction(i)))
+        Some(Statement::Single(ImageWord::Instruction(i)))
     } else {
         None
     }
@@ -152,7 +152,7 @@ fn word_statement<'a>(text: &'a [u8]) -> Option<Statement<'a>>
     ensures ready { IfSome result IsLineReady }
 {
     let v = modular_operand(text)?;
-    Some(Statement::Single(Item::Data(v)))
+    Some(Statement::Single(ImageWord::Data(v)))
 }
 
 /// The statement of an operation with the text of its operands, if they are those that it takes.
@@ -173,7 +173,7 @@ fn statement_of<'a>(op: Operation, text: &'a [u8]) -> Option<Statement<'a>>
         Operation::Fence => fence_form(text)?,
         Operation::Atomic { op, order } => {
             let a = atomic_form(op, order, text)?;
-            return Some(Statement::Single(Item::Atomic(a)));
+            return Some(Statement::Single(ImageWord::Atomic(a)));
         }
         Operation::Bare(i) => return bare_statement(i, text),
         Operation::Branch(op) => return branch_statement(op, text),
@@ -183,7 +183,7 @@ fn statement_of<'a>(op: Operation, text: &'a [u8]) -> Option<Statement<'a>>
         Operation::La => return la_statement(text),
         Operation::Word => return word_statement(text),
     };
-    Some(Statement::Single(Item::Instruction(i)))
+    Some(Statement::Single(ImageWord::Instruction(i)))
 }
 
 /// The name of a label with its colon.

@@ -25,7 +25,7 @@ fn first_at(text: &[u8], c: u8) -> Option<usize>
     text.iter().position(|b| *b == c)
 }
 
-/// What stands before and behind the first byte `c`.
+/// What stands before and after the first byte `c`.
 #[tactic(auto, unfolding(crate::specs::Words::cut))]
 pub fn cut(text: &[u8], c: u8) -> Option<(&[u8], &[u8])>
     ensures { FindsAs (λ x. (x.0.now, x.1.now)) result (cut c text.now) }
@@ -54,7 +54,7 @@ fn word_len(text: &[u8]) -> usize
     text.iter().take_while(|b| !is_blank(**b)).count()
 }
 
-/// The first word, empty where there is none, and what stands behind it.
+/// The first word, empty if there is none, and what stands after it.
 #[tactic(auto, unfolding(crate::specs::Words::leading_word))]
 pub fn first_word(text: &[u8]) -> (&[u8], &[u8])
     ensures word { result.0.now ≡ (leading_word text.now).0 }
@@ -89,7 +89,7 @@ pub fn before(text: &[u8], c: u8) -> &[u8]
     &text[..len_before(text, c)]
 }
 
-/// What stands behind the first byte `c`, or nothing.
+/// What stands after the first byte `c`, or nothing.
 pub fn behind(text: &[u8], c: u8) -> &[u8]
     ensures { result.now ≡ after_first (λ b. b == c) text.now }
 {

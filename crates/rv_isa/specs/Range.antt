@@ -14,8 +14,8 @@ IsEven (negsuc n) = n % 2 ≡ 1
 
 -- the fields of an instruction are such that a word can hold them
 abbrev pub InRange : Instr → Type 0
-InRange (Lui rd imm) = (rd < 32) × (imm % 4096 ≡ 0)
-InRange (Auipc rd imm) = (rd < 32) × (imm % 4096 ≡ 0)
+InRange (Lui rd imm) = (rd < 32) × (imm < 2 ^ 32) × (imm % 4096 ≡ 0)
+InRange (Auipc rd imm) = (rd < 32) × (imm < 2 ^ 32) × (imm % 4096 ≡ 0)
 InRange (Jal rd imm) = (rd < 32) × FitsSigned 21 imm × IsEven imm
 InRange (Jalr rd rs1 imm) = (rd < 32) × (rs1 < 32) × FitsSigned 12 imm
 InRange (Beq rs1 rs2 imm) = (rs1 < 32) × (rs2 < 32) × FitsSigned 13 imm × IsEven imm
@@ -59,8 +59,8 @@ InRange (Div rd rs1 rs2) = (rd < 32) × (rs1 < 32) × (rs2 < 32)
 InRange (Divu rd rs1 rs2) = (rd < 32) × (rs1 < 32) × (rs2 < 32)
 InRange (Rem rd rs1 rs2) = (rd < 32) × (rs1 < 32) × (rs2 < 32)
 InRange (Remu rd rs1 rs2) = (rd < 32) × (rs1 < 32) × (rs2 < 32)
-InRange (Fence rest) = (rest % 2 ^ 7 ≡ 0) × (rest / 2 ^ 12 % 2 ^ 3 ≡ 0)
-InRange (FenceI rest) = (rest % 2 ^ 7 ≡ 0) × (rest / 2 ^ 12 % 2 ^ 3 ≡ 0)
+InRange (Fence rest) = (rest < 2 ^ 32) × (rest % 2 ^ 7 ≡ 0) × (rest / 2 ^ 12 % 2 ^ 3 ≡ 0)
+InRange (FenceI rest) = (rest < 2 ^ 32) × (rest % 2 ^ 7 ≡ 0) × (rest / 2 ^ 12 % 2 ^ 3 ≡ 0)
 InRange (Csrrw rd rs1 csr) = (rd < 32) × (rs1 < 32) × (csr < 4096)
 InRange (Csrrs rd rs1 csr) = (rd < 32) × (rs1 < 32) × (csr < 4096)
 InRange (Csrrc rd rs1 csr) = (rd < 32) × (rs1 < 32) × (csr < 4096)

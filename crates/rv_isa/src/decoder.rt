@@ -7,7 +7,7 @@ ghost use Rattle.rv_isa.specs.Table.{jalr_line, branch_line, load_line, store_li
 use crate::fields::{bits, imm_b, imm_i, imm_j, imm_s, imm_u, rest};
 use crate::{Instr, opcode};
 
-/// The instruction of a word, or none where the word is illegal. Any `u32` may be given.
+/// The instruction of a word, or none if the word is illegal. Any `u32` may be given.
 #[inline(always)]
 #[tactic(auto, unfolding(crate::specs::Table::instruction))]
 pub fn decode(word: u32) -> Option<Instr>

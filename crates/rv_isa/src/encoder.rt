@@ -181,7 +181,7 @@ fn j_type(opcode: u32, rd: u32, imm: i32) -> u32
     r_type(opcode, rd, bits(n, 14, 12), bits(n, 19, 15), rs2, funct7)
 }
 
-/// A CSR instruction: the number of the register in the place of rs2 and funct7.
+/// A CSR instruction: the number of the register instead of rs2 and funct7.
 fn csr_type(rd: u32, funct3: u32, rs1: u32, csr: u32) -> u32
     requires rd { rd < 2 ^ 5 }
     requires funct3 { funct3 < 2 ^ 3 }

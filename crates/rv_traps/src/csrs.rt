@@ -94,7 +94,7 @@ impl Csrs {
         }
     }
 
-    /// The word of the register with this number, or none where there is no such register.
+    /// The word of the register with this number, or none if there is no such register.
     #[tactic(auto, unfolding(cloak_model::specs::Csr::csr_read))]
     pub fn read(&self, n: u32) -> Option<u32>
         ensures value { result ≡ model.csr_read self.now n }
@@ -114,7 +114,7 @@ impl Csrs {
         }
     }
 
-    /// Writes the register with this number, which keeps what it has bits for. `false` where there is no
+    /// Writes the register with this number, which keeps what it has bits for. `false` if there is no
     /// such register.
     #[tactic(auto, unfolding(cloak_model::specs::Csr::csr_write))]
     pub fn write(&mut self, n: u32, v: u32) -> bool
@@ -169,7 +169,7 @@ impl Csrs {
         (self.sepc, mode)
     }
 
-    /// The timer interrupt is to be taken, before the next instruction in this mode.
+    /// The timer interrupt must be taken, before the next instruction in this mode.
     #[tactic(auto, unfolding(cloak_model::specs::Csr::interrupt_due))]
     pub fn due(&self, mode: Mode) -> bool
         ensures { result ≡ model.interrupt_due mode self.now }

@@ -4,7 +4,7 @@
 //! of a domain asks keeps it too (`proofs/Endings`). The laws here have one of these properties: the page tables that
 //! spaces were first resumed with. `limit_law` stands on the same for owed pages.
 //!
-//! No body turns a law, so there is no wrong body to refuse here. With this changed definition, tried on a copy, the
+//! No body changes a law, so there is no wrong body to refuse here. With this changed definition, tried on a copy, the
 //! proofs did not go through: the pages of a resource are dropped with all page tables that are recorded.
 #![tactic(auto)]
 

@@ -1,7 +1,7 @@
 //! Store files: what is known of the cloaked files of a run, sealed for the next one by a code (HMAC-SHA-256,
 //! FIPS 198-1 (2008)) that needs a key, and with a counter, so that an older file is not taken for the newest.
 //!
-//! `read_store` answers exactly the first test that a file fails, and otherwise the table that it spells; `write_store`
+//! `read_store` returns exactly the first test that a file fails, and otherwise the table that it spells; `write_store`
 //! spells a table; `law_of_stores` says that a file spells at most one, and has no fault exactly if it spells one. No
 //! call takes memory.
 //!

@@ -37,7 +37,7 @@ module _ {A : Type 0} (P : A → Type 0) where
       by_test true is rest = All-cons Q x _ (step x is (All-head P x xs all)) rest
       by_test false is rest = rest
 
--- a change of the world that gives each entry that does not end the fact Q
+-- a change of the world that makes Q true of each entry that does not end
 pub keeps_ending : (P Q : Entry → Type 0) (ends : Entry → Bool) (t : Table) → ((e : Entry) → ends e ≡ false → P e → Q e)
     → All P t.live → All Q (ending ends t).live
 unfolding ending

@@ -7,7 +7,7 @@ one : {A : Type 0} (b : Bool) (x : A) (r : Option A) (t : Bool) → is_some r �
 one true x r t e = refl
 one false x r t e = e
 
--- something is found exactly where one passes
+-- something is found exactly if one passes
 pub is_some-find : {A : Type 0} (p : A → Bool) (xs : List A) → is_some (find p xs) ≡ list_any p xs
 is_some-find p [] = refl
 is_some-find p (x ∷ xs) = one (p x) x (find p xs) (list_any p xs) (is_some-find p xs)

@@ -9,15 +9,15 @@ use Rattle.cloak_base.specs.declared.names.Kind.{Kind}
 use Rattle.cloak_base.specs.declared.names.PageId.{PageId}
 use Rattle.cloak_base.specs.declared.names.SpaceId.{SpaceId}
 use Rattle.shadow_fold.specs.declared.entry.Entry.{Entry}
-use Rattle.shadow_fold.specs.declared.entry.ShadowView.{ShadowView}
+use Rattle.shadow_fold.specs.declared.entry.Regime.{Regime}
 use Rattle.shadow_fold.specs.Entries.{is_for, is_target, is_table, is_frame, is_of_space}
 use Rattle.shadow_fold.specs.Table.{Table, one_more, is_known, looked, ending, killed, emptied, with_room, with_live, born}
 use Rattle.cloak_model.specs.Events.{Event, Look, Touch, Offer, Born, Read, Write, Drop, Space}
-use Rattle.shadow_fold.specs.Fold.{Fold, frame, view_in, entry_in, is_own_table, born_unless, holds, table_holds, part_holds, touched, touched_where, with_held, with_table, granted, offered, after_event, after_events}
+use Rattle.shadow_fold.specs.Fold.{Fold, frame, regime_in, entry_in, is_own_table, born_unless, holds, table_holds, part_holds, touched, touched_where, with_held, with_table, granted, offered, after_event, after_events}
 use Rattle.shadow_fold.specs.Following.{Follows, killed_if, killed_each, HasAll, AreOfferCalls, AreBirthCalls, AreBirthCallsUnless, AreCallsFor, AreCallsForAll, CallsFollow}
 use Rattle.shadow_fold.proofs.Counting.{same_from_permutation, same_cons, passing, same_filter, same_any, same_length}
 
-follows_look : (v : ShadowView) (page : ℕ) (kind : Kind) (t u : Table) → Follows t u → Follows (looked v page kind t) (looked v page kind u)
+follows_look : (v : Regime) (page : ℕ) (kind : Kind) (t u : Table) → Follows t u → Follows (looked v page kind t) (looked v page kind u)
 unfolding looked is_known
 follows_look v page kind t u f = record {
   live = f.live;
@@ -53,11 +53,11 @@ follows_room t u f = by_test (nat_le 1024 (length t.live)) (nat_le 1024 (length 
     by_test false false e = f
 
 -- an entry that was not known is inserted, and one that was known stays
-follows_birth : (e : Entry) (t u t' : Table) → Follows t u → AreBirthCalls (is_known e.view e.page e.kind t) e t t' → Follows t' (born e u)
+follows_birth : (e : Entry) (t u t' : Table) → Follows t u → AreBirthCalls (is_known e.regime e.page e.kind t) e t t' → Follows t' (born e u)
 unfolding born is_known
 follows_birth e t u t' f calls =
-    by_test (list_any (is_for e.view e.page e.kind) t.live) (list_any (is_for e.view e.page e.kind) u.live)
-    (same_any (is_for e.view e.page e.kind) _ _ f.live) calls
+    by_test (list_any (is_for e.regime e.page e.kind) t.live) (list_any (is_for e.regime e.page e.kind) u.live)
+    (same_any (is_for e.regime e.page e.kind) _ _ f.live) calls
   where
     by_test : (a b : Bool) → a ≡ b → AreBirthCalls a e t t'
         → Follows t' (if b then u else with_live (e ∷ (with_room u).live) (with_room u))
@@ -249,8 +249,8 @@ module _ (space : Option SpaceId) where
   pub follows_event : (e : Event) (s : Fold) (t t' : Table) → Follows t s.table → AreCallsFor space e s t t' → Follows t' (after_event space e s).table
   unfolding after_event
   follows_event (Look satp a) s t t' f calls =
-      let view = view_in space satp a in
-      subst (λ u. Follows u (looked view (a.va / 4096) a.kind s.table)) (sym calls) (follows_look view (a.va / 4096) a.kind t s.table f)
+      let regime = regime_in space satp a in
+      subst (λ u. Follows u (looked regime (a.va / 4096) a.kind s.table)) (sym calls) (follows_look regime (a.va / 4096) a.kind t s.table f)
   follows_event (Touch g) s t t' f calls = subst (λ u. Follows u (touched (frame g) s).table) (sym calls) (follows_touch (frame g) s t f)
   follows_event (Offer q g grant) s t t' f calls = follows_offer q (frame g) grant s t t' f calls
   follows_event (Born satp a walked cloaked) s t t' f calls =

@@ -11,9 +11,9 @@ use Rattle.cloak_base.specs.declared.names.Mode.TheVariants.{U, S}
 use Rattle.cloak_base.specs.declared.names.SpaceId.{SpaceId}
 use Rattle.cloak_model.specs.Contexts.{same_space}
 use Rattle.shadow_fold.specs.declared.entry.Entry.{Entry}
-use Rattle.shadow_fold.specs.declared.entry.ShadowView.{ShadowView}
-use Rattle.shadow_fold.specs.declared.entry.ShadowView.TheVariants.{Outside, Inside}
-use Rattle.shadow_fold.specs.Entries.{same_mode, same_kind, same_view, is_for}
+use Rattle.shadow_fold.specs.declared.entry.Regime.{Regime}
+use Rattle.shadow_fold.specs.declared.entry.Regime.TheVariants.{Outside, Inside}
+use Rattle.shadow_fold.specs.Entries.{same_mode, same_kind, same_regime, is_for}
 
 pub and_true : (a b : Bool) → (a && b) ≡ true → (a ≡ true) × (b ≡ true)
 and_true true b e = (refl, e)
@@ -50,20 +50,20 @@ space_equal a b e =
     let h = and_true _ _ e in let d = eqb_equal _ _ h.0 in let n = eqb_equal _ _ h.1 in
     λ i. record { domain = d i; number = n i }
 
-pub view_equal : (a b : ShadowView) → same_view a b ≡ true → a ≡ b
-view_equal (Outside satp mode sum mxr) (Outside satp' mode' sum' mxr') e =
+pub regime_equal : (a b : Regime) → same_regime a b ≡ true → a ≡ b
+regime_equal (Outside satp mode sum mxr) (Outside satp' mode' sum' mxr') e =
     let h = and_true _ _ e in let k = and_true _ _ h.1 in let l = and_true _ _ k.1 in
     λ i. Outside (eqb_equal satp satp' h.0 i) (mode_equal mode mode' k.0 i) (beq_equal sum sum' l.0 i) (beq_equal mxr mxr' l.1 i)
-view_equal (Outside satp mode sum mxr) (Inside satp' sum' mxr' space') e = absurd (false≢true e)
-view_equal (Inside satp sum mxr space) (Outside satp' mode' sum' mxr') e = absurd (false≢true e)
-view_equal (Inside satp sum mxr space) (Inside satp' sum' mxr' space') e =
+regime_equal (Outside satp mode sum mxr) (Inside satp' sum' mxr' space') e = absurd (false≢true e)
+regime_equal (Inside satp sum mxr space) (Outside satp' mode' sum' mxr') e = absurd (false≢true e)
+regime_equal (Inside satp sum mxr space) (Inside satp' sum' mxr' space') e =
     let h = and_true _ _ e in let k = and_true _ _ h.1 in let l = and_true _ _ k.1 in
     λ i. Inside (eqb_equal satp satp' h.0 i) (beq_equal sum sum' k.0 i) (beq_equal mxr mxr' l.0 i) (space_equal space space' l.1 i)
 
--- an entry for an access is of its view, page and kind
-pub is_for-key : (view : ShadowView) (page : ℕ) (kind : Kind) (e : Entry) → is_for view page kind e ≡ true
-    → (e.view ≡ view) × (e.page ≡ page) × (e.kind ≡ kind)
+-- an entry for an access is of its regime, page and kind
+pub is_for-key : (regime : Regime) (page : ℕ) (kind : Kind) (e : Entry) → is_for regime page kind e ≡ true
+    → (e.regime ≡ regime) × (e.page ≡ page) × (e.kind ≡ kind)
 unfolding is_for
-is_for-key view page kind e is =
+is_for-key regime page kind e is =
     let h = and_true _ _ is in let k = and_true _ _ h.1 in
-    (view_equal e.view view h.0, eqb_equal e.page page k.0, kind_equal e.kind kind k.1)
+    (regime_equal e.regime regime h.0, eqb_equal e.page page k.0, kind_equal e.kind kind k.1)

@@ -9,8 +9,8 @@ use Rattle.cloak_model.specs.declared.access.Access.{Access}
 use Rattle.cloak_base.specs.Constants.{ram_start}
 use Rattle.cloak_model.specs.Walk.{walk}
 use Rattle.shadow_fold.specs.declared.entry.Entry.{Entry}
-use Rattle.shadow_fold.specs.declared.entry.ShadowView.{ShadowView}
-use Rattle.shadow_fold.specs.declared.entry.ShadowView.TheVariants.{Outside, Inside}
+use Rattle.shadow_fold.specs.declared.entry.Regime.{Regime}
+use Rattle.shadow_fold.specs.declared.entry.Regime.TheVariants.{Outside, Inside}
 
 -- What agreement speaks of: the frames as the kernel sees them, the page that each frame holds, and the page that it is
 -- owed.
@@ -19,12 +19,12 @@ pub record Present : Type 0 where
   pub held : ℕ → Option PageId
   pub owed : ℕ → Option PageId
 
-abbrev pub satp_in : ShadowView → ℕ
+abbrev pub satp_in : Regime → ℕ
 satp_in (Outside satp mode sum mxr) = satp
 satp_in (Inside satp sum mxr space) = satp
 
--- an access of a view
-abbrev pub access_in : ShadowView → ℕ → Kind → Access
+-- an access of a regime
+abbrev pub access_in : Regime → ℕ → Kind → Access
 access_in (Outside satp mode sum mxr) va kind = record { mode = mode; sum = sum; mxr = mxr; va = va; kind = kind }
 access_in (Inside satp sum mxr space) va kind = record { mode = U; sum = sum; mxr = mxr; va = va; kind = kind }
 
@@ -33,26 +33,26 @@ abbrev pub start_of : ℕ → ℕ
 start_of f = ram_start + 4096 * f
 
 -- An entry without a cloaked page has an outside target. One with a page has a target that holds it, and that is owed
--- it where the entry is for stores.
+-- it if the entry is for stores.
 abbrev pub TargetAgrees : Present → Entry → Option PageId → Type 0
 TargetAgrees p e None = p.held e.frame.0 ≡ None
 TargetAgrees p e (Some q) = (p.held e.frame.0 ≡ Some q) × (e.kind ≡ Store → p.owed e.frame.0 ≡ Some q)
 
 pub record EntryAgrees (p : Present) (e : Entry) : Type 0 where
   -- the walk of its page gives its frame and its table frames
-  pub walks : walk p.ram (satp_in e.view) (access_in e.view (4096 * e.page) e.kind)
+  pub walks : walk p.ram (satp_in e.regime) (access_in e.regime (4096 * e.page) e.kind)
       ≡ Ok (record { pa = start_of e.frame.0; pt1 = e.pt1; pt0 = e.pt0 })
   -- no table frame is plain
   pub first : IfSome e.pt1 (λ f. p.held f.0 ≡ None)
   pub second : IfSome e.pt0 (λ f. p.held f.0 ≡ None)
   pub target : TargetAgrees p e e.cloaked
 
--- A program's regions are no part of memory: beside that, the space of a view has the cloaked page of an entry at its
+-- A program's regions are no part of memory: beside that, the space of a regime has the cloaked page of an entry at its
 -- address.
 
-abbrev pub HasInSpace : (SpaceId → ℕ → Option PageId) → ShadowView → ℕ → PageId → Type 0
+abbrev pub HasInSpace : (SpaceId → ℕ → Option PageId) → Regime → ℕ → PageId → Type 0
 HasInSpace mapped (Outside satp mode sum mxr) va q = ⊥
 HasInSpace mapped (Inside satp sum mxr space) va q = mapped space va ≡ Some q
 
 abbrev pub IsMapped : (SpaceId → ℕ → Option PageId) → Entry → Type 0
-IsMapped mapped e = IfSome e.cloaked (HasInSpace mapped e.view (4096 * e.page))
+IsMapped mapped e = IfSome e.cloaked (HasInSpace mapped e.regime (4096 * e.page))

@@ -10,7 +10,7 @@ abbrev pub Makes : (Entry → Type 0) → Option SpaceId → Event → Type 0
 Makes P space (Born satp a walked cloaked) = P (entry_in space satp a walked cloaked)
 Makes P space _ = Unit {0}
 
--- and so of all that events make
+-- and of all that events make
 abbrev pub MakeAll : (Entry → Type 0) → Option SpaceId → List Event → Type 0
 MakeAll P space [] = Unit {0}
 MakeAll P space (e ∷ events) = Makes P space e × MakeAll P space events

@@ -9,8 +9,8 @@ use Rattle.cloak_base.specs.declared.names.Mode.TheVariants.{U, S}
 use Rattle.cloak_base.specs.declared.names.SpaceId.{SpaceId}
 use Rattle.cloak_model.specs.Contexts.{same_space}
 use Rattle.shadow_fold.specs.declared.entry.Entry.{Entry}
-use Rattle.shadow_fold.specs.declared.entry.ShadowView.{ShadowView}
-use Rattle.shadow_fold.specs.declared.entry.ShadowView.TheVariants.{Outside, Inside}
+use Rattle.shadow_fold.specs.declared.entry.Regime.{Regime}
+use Rattle.shadow_fold.specs.declared.entry.Regime.TheVariants.{Outside, Inside}
 
 abbrev pub same_mode : Mode → Mode → Bool
 same_mode U U = true
@@ -23,16 +23,16 @@ same_kind Load Load = true
 same_kind Store Store = true
 same_kind _ _ = false
 
-abbrev pub same_view : ShadowView → ShadowView → Bool
-same_view (Outside satp mode sum mxr) (Outside satp' mode' sum' mxr') =
+abbrev pub same_regime : Regime → Regime → Bool
+same_regime (Outside satp mode sum mxr) (Outside satp' mode' sum' mxr') =
     (satp == satp') && (same_mode mode mode' && (beq sum sum' && beq mxr mxr'))
-same_view (Inside satp sum mxr space) (Inside satp' sum' mxr' space') =
+same_regime (Inside satp sum mxr space) (Inside satp' sum' mxr' space') =
     (satp == satp') && (beq sum sum' && (beq mxr mxr' && same_space space space'))
-same_view _ _ = false
+same_regime _ _ = false
 
--- the entry is of this view, page and kind
-unfoldable pub is_for : ShadowView → ℕ → Kind → Entry → Bool
-is_for view page kind e = same_view e.view view && ((e.page == page) && same_kind e.kind kind)
+-- the entry is of this regime, page and kind
+unfoldable pub is_for : Regime → ℕ → Kind → Entry → Bool
+is_for regime page kind e = same_regime e.regime regime && ((e.page == page) && same_kind e.kind kind)
 
 -- the entry leads to the frame
 unfoldable pub is_target : Frame → Entry → Bool
@@ -46,13 +46,13 @@ is_frame f (Some g) = g.0 == f.0
 unfoldable pub is_table : Frame → Entry → Bool
 is_table f e = is_frame f e.pt1 || is_frame f e.pt0
 
-abbrev pub sees_space : SpaceId → ShadowView → Bool
+abbrev pub sees_space : SpaceId → Regime → Bool
 sees_space s (Outside satp mode sum mxr) = false
 sees_space s (Inside satp sum mxr space) = same_space space s
 
--- the entry is of a view of the space
+-- the entry is of a regime of the space
 unfoldable pub is_of_space : SpaceId → Entry → Bool
-is_of_space s e = sees_space s e.view
+is_of_space s e = sees_space s e.regime
 
 -- the frames of the entry are below n
 pub record IsWithin (n : ℕ) (e : Entry) : Type 0 where

@@ -113,17 +113,17 @@ asked_with_end j number =
 abbrev pub asked_in : Moment → Asked
 asked_in m = asked_with_end m.joint (next_hart m)
 
--- the fold behind it
+-- the fold after it
 unfoldable pub after_step : Moment → Fold → Fold
 after_step m s = let a = asked_in m in after_events a.space (events_in a) s
 
--- behind these steps
+-- after these steps
 unfoldable pub after_turns : Moment → List Turn → Fold → Fold
 after_turns m [] s = s
 after_turns m (t ∷ turns) s = after_turns (after_turn m t) turns (after_step m s)
 
--- The counts of a run of a bundle, which was opened so, with at most so many steps. It begins with no live entry, and
--- each frame of a program's page is outside.
+-- The counts of a run of a bundle, which was opened like this, with at most `budget` steps. It begins with no live
+-- entry, and each frame of a program's page is outside.
 unfoldable pub counts_of : Bundle → ℕ → Opened → ShadowCounts
 counts_of b budget o =
     let m = first_moment b o.joint in

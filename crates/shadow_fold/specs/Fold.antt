@@ -12,8 +12,8 @@ use Rattle.cloak_model.specs.declared.access.Walked.{Walked}
 use Rattle.cloak_model.specs.Events.{Event, Look, Touch, Offer, Born, Read, Write, Drop, Space}
 use Rattle.cloak_model.specs.Walk.{frame_at}
 use Rattle.shadow_fold.specs.declared.entry.Entry.{Entry}
-use Rattle.shadow_fold.specs.declared.entry.ShadowView.{ShadowView}
-use Rattle.shadow_fold.specs.declared.entry.ShadowView.TheVariants.{Outside, Inside}
+use Rattle.shadow_fold.specs.declared.entry.Regime.{Regime}
+use Rattle.shadow_fold.specs.declared.entry.Regime.TheVariants.{Outside, Inside}
 use Rattle.shadow_fold.specs.Entries.{is_table, is_of_space}
 use Rattle.shadow_fold.specs.Table.{Table, empty_table, looked, ending, killed, born}
 
@@ -69,14 +69,14 @@ offered q g grant s =
     else granted q g grant (touched_where (same_page q) (touched g s))
 
 -- who translates: a hart outside, or one inside, whose context has this space
-abbrev pub view_in : Option SpaceId → ℕ → Access → ShadowView
-view_in None satp a = Outside satp a.mode a.sum a.mxr
-view_in (Some space) satp a = Inside satp a.sum a.mxr space
+abbrev pub regime_in : Option SpaceId → ℕ → Access → Regime
+regime_in None satp a = Outside satp a.mode a.sum a.mxr
+regime_in (Some space) satp a = Inside satp a.sum a.mxr space
 
 -- the entry of a walk
-abbrev pub entry_of : ShadowView → ℕ → Kind → Walked → Option PageId → Entry
-entry_of view page kind walked cloaked = record {
-  view = view;
+abbrev pub entry_of : Regime → ℕ → Kind → Walked → Option PageId → Entry
+entry_of regime page kind walked cloaked = record {
+  regime = regime;
   page = page;
   kind = kind;
   frame = frame_at walked.pa;
@@ -87,7 +87,7 @@ entry_of view page kind walked cloaked = record {
 
 -- the entry of the walk of an access
 abbrev pub entry_in : Option SpaceId → ℕ → Access → Walked → Option PageId → Entry
-entry_in space satp a walked cloaked = entry_of (view_in space satp a) (a.va / 4096) a.kind walked cloaked
+entry_in space satp a walked cloaked = entry_of (regime_in space satp a) (a.va / 4096) a.kind walked cloaked
 
 -- an entry whose page lies in one of its own table frames never becomes live
 abbrev pub is_own_table : Entry → Bool
@@ -102,7 +102,7 @@ frame f = record { 0 = f }
 
 -- an event of a step of a hart outside, or of a context that has a space
 unfoldable pub after_event : Option SpaceId → Event → Fold → Fold
-after_event space (Look satp a) s = with_table (looked (view_in space satp a) (a.va / 4096) a.kind s.table) s
+after_event space (Look satp a) s = with_table (looked (regime_in space satp a) (a.va / 4096) a.kind s.table) s
 after_event space (Touch f) s = touched (frame f) s
 after_event space (Offer q g grant) s = offered q (frame g) grant s
 after_event space (Born satp a walked cloaked) s =
@@ -112,7 +112,7 @@ after_event space (Write f) s = with_table (ending (is_table (frame f)) s.table)
 after_event space (Drop d resource) s = touched_where (is_of d resource) s
 after_event space (Space changed) s = with_table (ending (is_of_space changed) s.table) s
 
--- what is live and counted behind the events of a step
+-- what is live and counted after the events of a step
 unfoldable pub after_events : Option SpaceId → List Event → Fold → Fold
 after_events space [] s = s
 after_events space (e ∷ events) s = after_events space events (after_event space e s)

@@ -1,4 +1,4 @@
--- A table follows the fold where it is told of each event by these calls.
+-- A table follows the fold if it is told of each event by these calls.
 use Rattle.std.specs.Prelude.{ℕ, ◌/◌, ◌≡◌, ◌==◌, Bool, true, false, List, [], ◌∷◌, length, filter, is_some, Option, if◌then◌else◌}
 use Rattle.std.specs.List.{list_any}
 use Rattle.std.specs.List.Sorted.{IsPermutation}
@@ -10,7 +10,7 @@ use Rattle.shadow_fold.specs.declared.entry.Entry.{Entry}
 use Rattle.shadow_fold.specs.Entries.{is_table, is_of_space}
 use Rattle.shadow_fold.specs.Table.{Table, is_known, looked, ending, killed, with_room, with_live}
 use Rattle.cloak_model.specs.Events.{Event, Look, Touch, Offer, Born, Read, Write, Drop, Space}
-use Rattle.shadow_fold.specs.Fold.{Fold, frame, view_in, entry_in, is_own_table, holds, touched, after_event, after_events}
+use Rattle.shadow_fold.specs.Fold.{Fold, frame, regime_in, entry_in, is_own_table, holds, touched, after_event, after_events}
 
 -- the same entries are live, in any order, as no test can tell them apart, and the counts are the same
 pub record Follows (t u : Table) : Type 0 where
@@ -30,8 +30,8 @@ module _ (held : ℕ → Option PageId) (passes : PageId → Bool) where
   abbrev pub HasAll : List Frame → Type 0
   HasAll fs = (f : ℕ) → holds passes (held f) ≡ true → list_any (λ g. g.0 == f) fs ≡ true
 
--- Page q is offered in frame g. Where it holds the page already there is no call. Otherwise g is killed where it holds
--- a page, then each frame that holds q, and then g where the offer is granted.
+-- Page q is offered in frame g. If it holds the page already, there is no call. Otherwise g is killed if it holds a
+-- page, then each frame that holds q, and then g if the offer is granted.
 abbrev pub AreOfferCalls : Bool → PageId → Frame → Bool → Fold → Table → Table → Type 0
 AreOfferCalls true q g grant s t t' = t' ≡ t
 AreOfferCalls false q g grant s t t' =
@@ -46,12 +46,13 @@ AreBirthCalls false e t t' = IsPermutation (e ∷ (with_room t).live) t'.live ×
 -- the same, unless the entry is one that never becomes live
 abbrev pub AreBirthCallsUnless : Bool → Entry → Table → Table → Type 0
 AreBirthCallsUnless true e t t' = t' ≡ t
-AreBirthCallsUnless false e t t' = AreBirthCalls (is_known e.view e.page e.kind t) e t t'
+AreBirthCallsUnless false e t t' = AreBirthCalls (is_known e.regime e.page e.kind t) e t t'
 
 module _ (space : Option SpaceId) where
-  -- the calls for an event of a step of a hart outside, or of a context that has a space, behind the events that led to s, make t' of a table t
+  -- the calls for an event of a step of a hart outside, or of a context that has a space, after the events that led
+  -- to s, make t' of a table t
   abbrev pub AreCallsFor : Event → Fold → Table → Table → Type 0
-  AreCallsFor (Look satp a) s t t' = t' ≡ looked (view_in space satp a) (a.va / 4096) a.kind t
+  AreCallsFor (Look satp a) s t t' = t' ≡ looked (regime_in space satp a) (a.va / 4096) a.kind t
   AreCallsFor (Touch f) s t t' = t' ≡ killed_if (is_some (s.held f)) (frame f) t
   AreCallsFor (Offer q g grant) s t t' = AreOfferCalls (holds (same_page q) (s.held g)) q (frame g) grant s t t'
   AreCallsFor (Born satp a walked cloaked) s t t' =
@@ -68,7 +69,7 @@ module _ (space : Option SpaceId) where
   AreCallsForAll (e ∷ events) s t t' =
       (u : Table) × AreCallsFor e s t u × AreCallsForAll events (after_event space e s) u t'
 
--- The law: a table that followed the fold follows it behind the events of a step.
+-- The law: a table that followed the fold follows it after the events of a step.
 abbrev pub CallsFollow : Type 0
 CallsFollow = (space : Option SpaceId) (events : List Event) (s : Fold) (t t' : Table) → Follows t s.table
     → AreCallsForAll space events s t t' → Follows t' (after_events space events s).table

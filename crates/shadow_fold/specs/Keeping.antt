@@ -4,7 +4,7 @@ use Rattle.std.specs.List.{All}
 use Rattle.std.specs.List.Sorted.{IsPermutation}
 use Rattle.cloak_base.specs.declared.names.Kind.{Kind}
 use Rattle.shadow_fold.specs.declared.entry.Entry.{Entry}
-use Rattle.shadow_fold.specs.declared.entry.ShadowView.{ShadowView}
+use Rattle.shadow_fold.specs.declared.entry.Regime.{Regime}
 use Rattle.shadow_fold.specs.Agreement.{Present, EntryAgrees}
 use Rattle.shadow_fold.specs.Entries.{is_for}
 use Rattle.shadow_fold.specs.Table.{Table, ending, with_room}
@@ -15,8 +15,8 @@ Agrees p t = All (EntryAgrees p) t.live
 
 -- a hit: what is found is for the access, and agrees
 abbrev pub FoundAgrees : Type 0
-FoundAgrees = (p : Present) (view : ShadowView) (page : ℕ) (kind : Kind) (t : Table) (e : Entry) → Agrees p t
-    → find (is_for view page kind) t.live ≡ Some e → (is_for view page kind e ≡ true) × EntryAgrees p e
+FoundAgrees = (p : Present) (regime : Regime) (page : ℕ) (kind : Kind) (t : Table) (e : Entry) → Agrees p t
+    → find (is_for regime page kind) t.live ≡ Some e → (is_for regime page kind e ≡ true) × EntryAgrees p e
 
 -- A change of memory, and a call that ends entries: enough is that each entry that does not end agrees afterwards.
 abbrev pub EndingKeeps : Type 0

@@ -32,8 +32,8 @@ pub record Spent : Type 0 where
   pub reads : ℕ
   pub misses : ℕ
 
--- From one to the other there were at most so many reads beside two for each miss, of which so many are left. A count of
--- misses that came to its last number tells nothing.
+-- From one to the other there were at most `due` reads besides two for each miss, of which `left` are left. A count of
+-- misses that has reached its last number tells nothing.
 pub record Spends (left due : ℕ) (old new : Spent) : Type 0 where
   pub on : new.misses < 2 ^ 64 - 1 → old.misses ≤ new.misses
   pub reads : new.misses < 2 ^ 64 - 1 → new.reads + left + 2 * old.misses ≤ old.reads + due + 2 * new.misses

@@ -5,7 +5,7 @@ use Rattle.cloak_base.specs.declared.names.Frame.{Frame}
 use Rattle.cloak_base.specs.declared.names.Kind.{Kind}
 use Rattle.shadow_fold.specs.declared.entry.Entry.{Entry}
 use Rattle.shadow_fold.specs.declared.entry.ShadowCounts.{ShadowCounts}
-use Rattle.shadow_fold.specs.declared.entry.ShadowView.{ShadowView}
+use Rattle.shadow_fold.specs.declared.entry.Regime.{Regime}
 use Rattle.shadow_fold.specs.Entries.{is_for, is_target, is_table}
 
 pub record Table : Type 0 where
@@ -23,16 +23,16 @@ empty_table frames = record { frames = frames; live = []; counts = record { acce
 abbrev pub one_more : ℕ → ℕ
 one_more n = min (n + 1) (2 ^ 64 - 1)
 
--- a live entry is of this view, page and kind
-unfoldable pub is_known : ShadowView → ℕ → Kind → Table → Bool
-is_known view page kind t = list_any (is_for view page kind) t.live
+-- a live entry is of this regime, page and kind
+unfoldable pub is_known : Regime → ℕ → Kind → Table → Bool
+is_known regime page kind t = list_any (is_for regime page kind) t.live
 
--- an access, and a miss where no live entry is of its view, page and kind
-unfoldable pub looked : ShadowView → ℕ → Kind → Table → Table
-looked view page kind t = record t {
+-- an access, and a miss if no live entry is of its regime, page and kind
+unfoldable pub looked : Regime → ℕ → Kind → Table → Table
+looked regime page kind t = record t {
   counts = record t.counts {
     accesses = one_more t.counts.accesses;
-    misses = if is_known view page kind t then t.counts.misses else one_more t.counts.misses;
+    misses = if is_known regime page kind t then t.counts.misses else one_more t.counts.misses;
   };
 }
 
@@ -48,7 +48,7 @@ killed f t = ending (is_table f) (ending (is_target f) t)
 unfoldable pub emptied : Table → Table
 emptied t = record t { live = []; counts = record t.counts { flushes = one_more t.counts.flushes } }
 
--- with room for one more entry: where 1024 are live, all end
+-- with room for one more entry: if 1024 are live, all end
 unfoldable pub with_room : Table → Table
 with_room t = if nat_le 1024 (length t.live) then emptied t else t
 
@@ -56,6 +56,6 @@ with_room t = if nat_le 1024 (length t.live) then emptied t else t
 abbrev pub with_live : List Entry → Table → Table
 with_live entries t = record t { live = entries }
 
--- the entry becomes live, where none is of its view, page and kind
+-- the entry becomes live, if none is of its regime, page and kind
 unfoldable pub born : Entry → Table → Table
-born e t = if is_known e.view e.page e.kind t then t else with_live (e ∷ (with_room t).live) (with_room t)
+born e t = if is_known e.regime e.page e.kind t then t else with_live (e ∷ (with_room t).live) (with_room t)

@@ -1,9 +1,9 @@
 use cloak_base::{Frame, Kind, Mode, PageId, SpaceId};
 
-/// Who translates an address. Two accesses have one view exactly where the same page table is walked for them by the
+/// Who translates an address. Two accesses have one regime exactly if the same page table is walked for them by the
 /// same rules.
 #[derive(Clone, Copy, Debug, PartialEq, Eq)]
-pub enum ShadowView {
+pub enum Regime {
     /// A hart outside.
     Outside {
         satp: u32,
@@ -23,7 +23,7 @@ pub enum ShadowView {
 /// A translation that is known: where a page leads for a kind of access.
 #[derive(Clone, Copy, Debug, PartialEq, Eq)]
 pub struct Entry {
-    pub view: ShadowView,
+    pub regime: Regime,
     /// The virtual address divided by 4096.
     pub page: u32,
     pub kind: Kind,
@@ -31,9 +31,9 @@ pub struct Entry {
     pub frame: Frame,
     /// The frame of the table entry of level 1; none without paging.
     pub pt1: Option<Frame>,
-    /// The frame of the table entry of level 0; none without paging, and where the leaf is one of level 1.
+    /// The frame of the table entry of level 0; none without paging, or if the leaf is one of level 1.
     pub pt0: Option<Frame>,
-    /// The cloaked page at the address, where there is one.
+    /// The cloaked page at the address, if there is one.
     pub cloaked: Option<PageId>,
 }
 

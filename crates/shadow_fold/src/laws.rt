@@ -8,8 +8,8 @@ pub fn law_of_following()
     ensures { CallsFollow }
 {}
 
-/// What is found agrees where all live entries do, and each call keeps that all do, where single entries keep it. It
-/// does nothing: its contract is the law.
+/// What is found agrees if all live entries do, and each call keeps that all do, if single entries keep it. It does
+/// nothing: its contract is the law.
 pub fn law_of_agreement()
     ensures found { FoundAgrees }
     ensures ending { EndingKeeps }

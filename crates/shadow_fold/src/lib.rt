@@ -1,7 +1,7 @@
 //! Shadow page tables as a matter of definitions: translations that are known, so that a hit needs no walk, which
 //! events of a run end them, and what is counted.
 //!
-//! No body turns a law, so there is no wrong body of one to refuse here. These changed definitions were tried on a
+//! No body changes a law, so there is no wrong body of one to refuse here. These changed definitions were tried on a
 //! copy, and with none of them did the proof of its law go through. Of following: an offer ends no entry of another
 //! frame that held the page. Of agreement: an entry becomes live that need not agree. Of the rows: each access counts
 //! as a miss.
@@ -10,5 +10,5 @@
 mod entry;
 mod laws;
 
-pub use entry::{Entry, ShadowCounts, ShadowView};
+pub use entry::{Entry, Regime, ShadowCounts};
 pub use laws::{law_of_agreement, law_of_following, rows_of_counts};

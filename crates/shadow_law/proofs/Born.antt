@@ -1,5 +1,5 @@
 -- The entry of a miss agrees: it is of the page's start.
-use Rattle.std.proofs.Common.{◌≡◌, ◌∙◌, ℕ, ◌+◌, ◌*◌, ◌/◌, ◌%◌, ◌≤◌, Bool, true, false, not, cond, List, Option, Some, None, Ok, Err, refl, sym, ap, subst, arith, nat_le}
+use Rattle.std.proofs.Common.{◌≡◌, ◌∙◌, ℕ, ◌+◌, ◌*◌, ◌/◌, ◌%◌, ◌≤◌, true, not, List, Option, Some, None, Ok, Err, refl, sym, ap, subst, arith, nat_le}
 use Rattle.std.proofs.lemmas.Bool.{leb-true}
 use Rattle.rv_isa.specs.Fields.{bits}
 use Rattle.cloak_base.specs.declared.names.Kind.{Kind}
@@ -9,14 +9,14 @@ use Rattle.cloak_model.specs.declared.access.Walked.{Walked}
 use Rattle.cloak_base.specs.Constants.{frame_of}
 use Rattle.cloak_model.specs.Memory.{is_in_ram}
 use Rattle.cloak_model.specs.Walk.{Walk, FirstWord, Ends, GoesOn, has_paging, first_entry, is_valid, is_pointer, is_plain_pointer, first_leaf, second_leaf, first_word, second_word, word_in_ram, walk_after, walk}
-use Rattle.shadow_fold.specs.declared.entry.ShadowView.{ShadowView}
-use Rattle.shadow_fold.specs.declared.entry.ShadowView.TheVariants.{Outside, Inside}
+use Rattle.shadow_fold.specs.declared.entry.Regime.{Regime}
+use Rattle.shadow_fold.specs.declared.entry.Regime.TheVariants.{Outside, Inside}
 use Rattle.shadow_fold.specs.Agreement.{Present, EntryAgrees, TargetAgrees, satp_in, access_in, start_of}
 use Rattle.shadow_fold.specs.Fold.{entry_of}
 use Rattle.shadow_fold.proofs.Keys.{and_true}
 use Rattle.shadow_law.specs.Walks.{moved, page_access}
 use Rattle.shadow_law.specs.Agreeing.{AreOutside}
-use Rattle.shadow_law.proofs.Walks.{walk_of_page}
+use Rattle.shadow_law.proofs.Walks.{walk_of_page, either}
 
 -- A walk leads as far into a page as its address stands in one.
 record KeepsPlace (va : ℕ) (walk : Walk) : Type 0 where
@@ -27,10 +27,6 @@ kept_ok va v keeps = record { kept = λ w is. let same : v ≡ w = cc in subst (
 
 kept_err : (va cause : ℕ) → KeepsPlace va (Err cause)
 kept_err va cause = record { kept = λ w is. absurd cc }
-
-either : {A : Type 0} (P : A → Type 0) (b : Bool) (x y : A) → P x → P y → P (cond b x y)
-either P true x y here there = here
-either P false x y here there = there
 
 first_place : (x va : ℕ) → (4194304 * x + bits va 21 0) % 4096 ≡ va % 4096
 first_place x va = omega arith
@@ -92,11 +88,11 @@ before k (Ok v) w is =
     record { from = v; leads = refl; further = ap (λ (u : Walked). u.pa) same; pt1 = ap (λ (u : Walked). u.pt1) same; pt0 = ap (λ (u : Walked). u.pt0) same }
 before k (Err cause) w is = absurd cc
 
-pub page_of_access : (view : ShadowView) (va : ℕ) (kind : Kind) → page_access (access_in view va kind) ≡ access_in view (4096 * (va / 4096)) kind
+pub page_of_access : (regime : Regime) (va : ℕ) (kind : Kind) → page_access (access_in regime va kind) ≡ access_in regime (4096 * (va / 4096)) kind
 page_of_access (Outside satp mode sum mxr) va kind = refl
 page_of_access (Inside satp sum mxr space) va kind = refl
 
-pub va_of_access : (view : ShadowView) (va : ℕ) (kind : Kind) → (access_in view va kind).va ≡ va
+pub va_of_access : (regime : Regime) (va : ℕ) (kind : Kind) → (access_in regime va kind).va ≡ va
 va_of_access (Outside satp mode sum mxr) va kind = refl
 va_of_access (Inside satp sum mxr space) va kind = refl
 
@@ -106,18 +102,18 @@ in_ram_from ram pa is = leb-true 0x80000000 pa (and_true (nat_le 0x80000000 pa) 
 start_place : (from pa va : ℕ) → from + va % 4096 ≡ pa → from % 4096 ≡ 4096 * (va / 4096) % 4096 → 0x80000000 ≤ pa → from ≡ start_of (frame_of pa)
 start_place from pa va further even low = omega (arith, further, even, low)
 
-pub born_agrees : (p : Present) (view : ShadowView) (va : ℕ) (kind : Kind) (w : Walked) (cloaked : Option PageId)
-    → walk p.ram (satp_in view) (access_in view va kind) ≡ Ok w → is_in_ram p.ram w.pa ≡ true → AreOutside p.held w
-    → TargetAgrees p (entry_of view (va / 4096) kind w cloaked) cloaked → EntryAgrees p (entry_of view (va / 4096) kind w cloaked)
-born_agrees p view va kind w cloaked leads inside out target =
-    let a = access_in view va kind in
-    let to_page : walk p.ram (satp_in view) a ≡ moved (va % 4096) (walk p.ram (satp_in view) (access_in view (4096 * (va / 4096)) kind)) =
-    walk_of_page p.ram (satp_in view) a
-    ∙ (λ i. moved (va_of_access view va kind i % 4096) (walk p.ram (satp_in view) (page_of_access view va kind i))) in
-    let b = before (va % 4096) (walk p.ram (satp_in view) (access_in view (4096 * (va / 4096)) kind)) w (sym to_page ∙ leads) in
+pub born_agrees : (p : Present) (regime : Regime) (va : ℕ) (kind : Kind) (w : Walked) (cloaked : Option PageId)
+    → walk p.ram (satp_in regime) (access_in regime va kind) ≡ Ok w → is_in_ram p.ram w.pa ≡ true → AreOutside p.held w
+    → TargetAgrees p (entry_of regime (va / 4096) kind w cloaked) cloaked → EntryAgrees p (entry_of regime (va / 4096) kind w cloaked)
+born_agrees p regime va kind w cloaked leads inside out target =
+    let a = access_in regime va kind in
+    let to_page : walk p.ram (satp_in regime) a ≡ moved (va % 4096) (walk p.ram (satp_in regime) (access_in regime (4096 * (va / 4096)) kind)) =
+    walk_of_page p.ram (satp_in regime) a
+    ∙ (λ i. moved (va_of_access regime va kind i % 4096) (walk p.ram (satp_in regime) (page_of_access regime va kind i))) in
+    let b = before (va % 4096) (walk p.ram (satp_in regime) (access_in regime (4096 * (va / 4096)) kind)) w (sym to_page ∙ leads) in
     let even : b.from.pa % 4096 ≡ 4096 * (va / 4096) % 4096 =
-    (keeps_walk p.ram (satp_in view) (access_in view (4096 * (va / 4096)) kind)).kept b.from b.leads
-    ∙ ap (λ n. n % 4096) (va_of_access view (4096 * (va / 4096)) kind) in
+    (keeps_walk p.ram (satp_in regime) (access_in regime (4096 * (va / 4096)) kind)).kept b.from b.leads
+    ∙ ap (λ n. n % 4096) (va_of_access regime (4096 * (va / 4096)) kind) in
     let start : b.from.pa ≡ start_of (frame_of w.pa) = start_place b.from.pa w.pa va b.further even (in_ram_from p.ram w.pa inside) in
     record {
       walks = b.leads ∙ (λ i. Ok (record { pa = start i; pt1 = b.pt1 i; pt0 = b.pt0 i }));

@@ -18,13 +18,13 @@ use Rattle.cloak_model.specs.Contexts.{same_space}
 use Rattle.cloak_model.specs.Ledger.{vector_of}
 use Rattle.cloak_model.specs.Cloaking.{CloakedMemory, AfterSettling, AfterOffer, Ready, Mismatch, Missed, owed_in, with_shown_frame, with_owed, settle_owed, settle_if, settle, owes, owing_frame, settle_frame_if, with_comparison, taken, compared, unless_missed, offer}
 use Rattle.shadow_fold.specs.declared.entry.Entry.{Entry}
-use Rattle.shadow_fold.specs.declared.entry.ShadowView.{ShadowView}
-use Rattle.shadow_fold.specs.declared.entry.ShadowView.TheVariants.{Outside, Inside}
+use Rattle.shadow_fold.specs.declared.entry.Regime.{Regime}
+use Rattle.shadow_fold.specs.declared.entry.Regime.TheVariants.{Outside, Inside}
 use Rattle.shadow_fold.specs.Agreement.{EntryAgrees, TargetAgrees, HasInSpace, IsMapped}
 use Rattle.shadow_fold.specs.Entries.{is_target, is_frame, is_table, sees_space, is_of_space}
 use Rattle.shadow_fold.specs.Fold.{holds, table_holds, part_holds}
 use Rattle.shadow_law.specs.Walks.{IsSame}
-use Rattle.shadow_law.specs.Agreeing.{Held, present, frame, OwedIsHeld}
+use Rattle.shadow_law.specs.Agreeing.{HeldPages, present, frame, OwedIsHeld}
 use Rattle.shadow_law.proofs.Walks.{walk_kept}
 
 -- target and table frames of an entry
@@ -87,11 +87,11 @@ unfolding is_target
 not_part f e target table =
     let t = not_tables f e table in record { target = other_number e.frame.0 f target; first = t.0; second = t.1 }
 
-not_table_held : (held : Held) (passes : PageId → Bool) (o : Option Frame) → table_holds held passes o ≡ false → IfSome o (λ f. holds passes (held f.0) ≡ false)
+not_table_held : (held : HeldPages) (passes : PageId → Bool) (o : Option Frame) → table_holds held passes o ≡ false → IfSome o (λ f. holds passes (held f.0) ≡ false)
 not_table_held held passes None e = tt
 not_table_held held passes (Some f) e = e
 
-not_holding : (held : Held) (passes : PageId → Bool) (e : Entry) → part_holds held passes e ≡ false → Parts (λ x. holds passes (held x) ≡ false) e
+not_holding : (held : HeldPages) (passes : PageId → Bool) (e : Entry) → part_holds held passes e ≡ false → Parts (λ x. holds passes (held x) ≡ false) e
 unfolding part_holds
 not_holding held passes e none =
     let h = or_false _ _ none in let k = or_false _ _ h.1 in
@@ -110,7 +110,7 @@ pub spared_trans : (x : ℕ) (a b c : CloakedMemory) → Spared x a b → Spared
 spared_trans x a b c f g = record { ram = g.ram ∙ f.ram; owed = g.owed ∙ f.owed }
 
 -- an entry whose frames are spared, and hold what they held
-pub keeps : (held held' : Held) (m m' : CloakedMemory) (e : Entry) → length m'.ram ≡ length m.ram
+pub keeps : (held held' : HeldPages) (m m' : CloakedMemory) (e : Entry) → length m'.ram ≡ length m.ram
     → Parts (λ x. Spared x m m' × (held' x ≡ held x)) e → EntryAgrees (present held m) e → EntryAgrees (present held' m') e
 keeps held held' m m' e count parts agrees = record {
   walks = walk_kept m.ram m'.ram _ _ _ (record {
@@ -131,7 +131,7 @@ keeps held held' m m' e count parts agrees = record {
 
 -- Writes.
 
-pub write_keeps : (held : Held) (m : CloakedMemory) (f : ℕ) (bytes : List ℕ) (e : Entry) → is_table (frame f) e ≡ false
+pub write_keeps : (held : HeldPages) (m : CloakedMemory) (f : ℕ) (bytes : List ℕ) (e : Entry) → is_table (frame f) e ≡ false
     → EntryAgrees (present held m) e → EntryAgrees (present held (with_shown_frame f bytes m)) e
 write_keeps held m f bytes e out agrees =
     let t = not_tables f e out in
@@ -184,7 +184,7 @@ pub settle_count : (f : ℕ) (m : CloakedMemory) → length (settle f m).memory.
 unfolding settle
 settle_count f m = count_if f (owed_in m f) m
 
-pub touch_keeps : (held held' : Held) (m : CloakedMemory) (f : ℕ) (e : Entry) → ((x : ℕ) → x ≢ f → held' x ≡ held x)
+pub touch_keeps : (held held' : HeldPages) (m : CloakedMemory) (f : ℕ) (e : Entry) → ((x : ℕ) → x ≢ f → held' x ≡ held x)
     → is_target (frame f) e ≡ false → is_table (frame f) e ≡ false
     → EntryAgrees (present held m) e → EntryAgrees (present held' (settle f m).memory) e
 touch_keeps held held' m f e same target table agrees =
@@ -248,7 +248,7 @@ module _ (q : PageId) (x : ℕ) where
       by_test true = one
       by_test false = spared_trans x m s.memory (next s.memory).memory one two
 
-  pub offer_spares : (held : Held) (g : ℕ) (write : Bool) (m : CloakedMemory) → OwedIsHeld held m → (x ≡ g → ⊥) → holds (same_page q) (held x) ≡ false
+  pub offer_spares : (held : HeldPages) (g : ℕ) (write : Bool) (m : CloakedMemory) → OwedIsHeld held m → (x ≡ g → ⊥) → holds (same_page q) (held x) ≡ false
       → Spared x m (offer q g write m).memory
   unfolding offer
   offer_spares held g write m owed other out = by_test (owes q (owed_in m g))
@@ -329,7 +329,7 @@ offer_count q g write m = by_test (owes q (owed_in m g))
     by_test false = count_unless (length m.ram) (settle g m) (λ m'. unless_missed (settle_frame_if (owing_frame m' q) m') last) (settle_count g m)
         (count_unless (length m.ram) (settle_frame_if (owing_frame m1 q) m1) last second (count_compared q g write _ _ ∙ second))
 
-pub offer_keeps : (held held' : Held) (m : CloakedMemory) (q : PageId) (g : ℕ) (write : Bool) (e : Entry) → OwedIsHeld held m
+pub offer_keeps : (held held' : HeldPages) (m : CloakedMemory) (q : PageId) (g : ℕ) (write : Bool) (e : Entry) → OwedIsHeld held m
     → ((x : ℕ) → x ≢ g → held x ≢ Some q → held' x ≡ held x)
     → is_target (frame g) e ≡ false → is_table (frame g) e ≡ false → part_holds held (same_page q) e ≡ false
     → EntryAgrees (present held m) e → EntryAgrees (present held' (offer q g write m).memory) e
@@ -350,14 +350,14 @@ pub remap_keeps : (mapped mapped' : SpaceId → ℕ → Option PageId) (s : Spac
 unfolding is_of_space
 remap_keeps mapped mapped' s e out same has = by_page e.cloaked has
   where
-    by_view : (view : ShadowView) (q : PageId) → sees_space s view ≡ false → HasInSpace mapped view (4096 * e.page) q
-        → HasInSpace mapped' view (4096 * e.page) q
-    by_view (Outside satp mode sum mxr) q out k = k
-    by_view (Inside satp sum mxr space) q out k = same space (4096 * e.page) out ∙ k
+    by_regime : (regime : Regime) (q : PageId) → sees_space s regime ≡ false → HasInSpace mapped regime (4096 * e.page) q
+        → HasInSpace mapped' regime (4096 * e.page) q
+    by_regime (Outside satp mode sum mxr) q out k = k
+    by_regime (Inside satp sum mxr space) q out k = same space (4096 * e.page) out ∙ k
 
-    by_page : (o : Option PageId) → IfSome o (HasInSpace mapped e.view (4096 * e.page)) → IfSome o (HasInSpace mapped' e.view (4096 * e.page))
+    by_page : (o : Option PageId) → IfSome o (HasInSpace mapped e.regime (4096 * e.page)) → IfSome o (HasInSpace mapped' e.regime (4096 * e.page))
     by_page None k = k
-    by_page (Some q) k = by_view e.view q out k
+    by_page (Some q) k = by_regime e.regime q out k
 
 -- A page that a frame holds is changed.
 
@@ -367,7 +367,7 @@ owed_there m f q is = elim (cases_lt f (length m.ledger.owed)) [
   | inr h ↦ absurd (none-some q (sym (get_or_past m.ledger.owed f None h) ∙ is))
 ]
 
-pub change_keeps : (held : Held) (m : CloakedMemory) (q : PageId) (g : ℕ) (e : Entry) → held g ≡ Some q
+pub change_keeps : (held : HeldPages) (m : CloakedMemory) (q : PageId) (g : ℕ) (e : Entry) → held g ≡ Some q
     → EntryAgrees (present held m) e → EntryAgrees (present held (with_owed g (Some q) m)) e
 change_keeps held m q g e here agrees =
     record { walks = agrees.walks; first = agrees.first; second = agrees.second; target = target e.cloaked agrees.target }

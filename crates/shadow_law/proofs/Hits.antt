@@ -25,7 +25,7 @@ use Rattle.cloak_model.specs.Events.{Event, Touch}
 use Rattle.shadow_fold.specs.declared.entry.Entry.{Entry}
 use Rattle.shadow_fold.specs.Agreement.{EntryAgrees, TargetAgrees, satp_in, access_in, start_of}
 use Rattle.shadow_law.specs.Walks.{listed, tables_of, moved}
-use Rattle.shadow_law.specs.Agreeing.{Held, present, OwedIsHeld, CleanIsShown, touches}
+use Rattle.shadow_law.specs.Agreeing.{HeldPages, present, OwedIsHeld, CleanIsShown, touches}
 use Rattle.shadow_law.proofs.Walks.{Leads, Bare, One, Two, listed_one, listed_two, walk_leads, walk_of_page}
 use Rattle.shadow_law.proofs.Born.{page_of_access, va_of_access}
 use Rattle.shadow_law.proofs.Changes.{owing_at}
@@ -99,14 +99,14 @@ leads_still satp a c w clean (Two paging h) =
     ∙ ap (λ (fs : List ℕ). let u : Told Walk = record { answer = Ok w; world = Cloaked (after (touches fs) c) } in u) (sym (listed_two w.pt1 w.pt0 _ _ h.pt1 h.pt0))
 
 -- what is not held is owed nothing
-not_owed : (held : Held) (m : CloakedMemory) (f : ℕ) → OwedIsHeld held m → held f ≡ None → owed_in m f ≡ None
+not_owed : (held : HeldPages) (m : CloakedMemory) (f : ℕ) → OwedIsHeld held m → held f ≡ None → owed_in m f ≡ None
 not_owed held m f owed out = by_owed (owed_in m f) refl
   where
     by_owed : (o : Option PageId) → owed_in m f ≡ o → o ≡ None
     by_owed None is = refl
     by_owed (Some q) is = absurd (none-some q (sym out ∙ owed f q is))
 
-clean_tables : (held : Held) (m : CloakedMemory) (o : Option Frame) → OwedIsHeld held m → IfSome o (λ f. held f.0 ≡ None) → IfSome o (λ f. owed_in m f.0 ≡ None)
+clean_tables : (held : HeldPages) (m : CloakedMemory) (o : Option Frame) → OwedIsHeld held m → IfSome o (λ f. held f.0 ≡ None) → IfSome o (λ f. owed_in m f.0 ≡ None)
 clean_tables held m None owed out = tt
 clean_tables held m (Some f) owed out = not_owed held m f.0 owed out
 
@@ -117,29 +117,29 @@ below_frames n f k low small =
     λ i. le-leb 0x80000000 (start_of f + k) from i && lt-ltb (frame_of (start_of f + k)) n there i
 
 -- the walk of an access by an entry that agrees
-hit_leads : (held : Held) (m : CloakedMemory) (e : Entry) (va : ℕ) → EntryAgrees (present held m) e → va / 4096 ≡ e.page
-    → walk m.ram (satp_in e.view) (access_in e.view va e.kind) ≡ Ok (record { pa = start_of e.frame.0 + va % 4096; pt1 = e.pt1; pt0 = e.pt0 })
+hit_leads : (held : HeldPages) (m : CloakedMemory) (e : Entry) (va : ℕ) → EntryAgrees (present held m) e → va / 4096 ≡ e.page
+    → walk m.ram (satp_in e.regime) (access_in e.regime va e.kind) ≡ Ok (record { pa = start_of e.frame.0 + va % 4096; pt1 = e.pt1; pt0 = e.pt0 })
 hit_leads held m e va agrees page =
-    let a = access_in e.view va e.kind in
-    let satp = satp_in e.view in
+    let a = access_in e.regime va e.kind in
+    let satp = satp_in e.regime in
     let k = va % 4096 in
     walk_of_page m.ram satp a
-    ∙ (λ i. moved (va_of_access e.view va e.kind i % 4096) (walk m.ram satp (page_of_access e.view va e.kind i)))
-    ∙ ap (λ n. moved k (walk m.ram satp (access_in e.view (4096 * n) e.kind))) page
+    ∙ (λ i. moved (va_of_access e.regime va e.kind i % 4096) (walk m.ram satp (page_of_access e.regime va e.kind i)))
+    ∙ ap (λ n. moved k (walk m.ram satp (access_in e.regime (4096 * n) e.kind))) page
     ∙ ap (moved k) agrees.walks
 
 -- what is asked at a hit is what the entry says, whether that is an address of RAM or none
-hit_asks : (held : Held) (c : Cloak) (e : Entry) (va : ℕ) (b : Bool) → OwedIsHeld held c.memory
+hit_asks : (held : HeldPages) (c : Cloak) (e : Entry) (va : ℕ) (b : Bool) → OwedIsHeld held c.memory
     → EntryAgrees (present held c.memory) e → va / 4096 ≡ e.page → is_in_ram c.memory.ram (start_of e.frame.0 + va % 4096) ≡ b
-    → ask_translate (satp_in e.view) (access_in e.view va e.kind) (Cloaked c)
+    → ask_translate (satp_in e.regime) (access_in e.regime va e.kind) (Cloaked c)
     ≡ record {
-      answer = cond b (Ok (start_of e.frame.0 + va % 4096)) (Err (access_fault (access_in e.view va e.kind).kind));
+      answer = cond b (Ok (start_of e.frame.0 + va % 4096)) (Err (access_fault (access_in e.regime va e.kind).kind));
       world = noted (touches (listed e.pt1 ++ listed e.pt0)) (Cloaked c);
     }
 unfolding ask_translate ask_inside
 hit_asks held c e va b owed agrees page inside =
-    let a = access_in e.view va e.kind in
-    let satp = satp_in e.view in
+    let a = access_in e.regime va e.kind in
+    let satp = satp_in e.regime in
     let m = c.memory in
     let w : Walked = record { pa = start_of e.frame.0 + va % 4096; pt1 = e.pt1; pt0 = e.pt0 } in
     let clean : AreClean m w = record { first = clean_tables held m e.pt1 owed agrees.first; second = clean_tables held m e.pt0 owed agrees.second } in
@@ -147,21 +147,21 @@ hit_asks held c e va b owed agrees page inside =
     ∙ ap (λ (b : Bool). let t : Told (Result ℕ ℕ) = record { answer = cond b (Ok w.pa) (Err (access_fault a.kind)); world = Cloaked (after (touches (tables_of w)) c) } in t)
     inside
 
-pub hit_is_led : (held : Held) (c : Cloak) (e : Entry) (va : ℕ) → OwedIsHeld held c.memory
+pub hit_is_led : (held : HeldPages) (c : Cloak) (e : Entry) (va : ℕ) → OwedIsHeld held c.memory
     → EntryAgrees (present held c.memory) e → va / 4096 ≡ e.page
-    → (walk c.memory.ram (satp_in e.view) (access_in e.view va e.kind) ≡ Ok (record { pa = start_of e.frame.0 + va % 4096; pt1 = e.pt1; pt0 = e.pt0 }))
+    → (walk c.memory.ram (satp_in e.regime) (access_in e.regime va e.kind) ≡ Ok (record { pa = start_of e.frame.0 + va % 4096; pt1 = e.pt1; pt0 = e.pt0 }))
     × ((b : Bool) → is_in_ram c.memory.ram (start_of e.frame.0 + va % 4096) ≡ b
-    → ask_translate (satp_in e.view) (access_in e.view va e.kind) (Cloaked c)
+    → ask_translate (satp_in e.regime) (access_in e.regime va e.kind) (Cloaked c)
     ≡ record {
-      answer = cond b (Ok (start_of e.frame.0 + va % 4096)) (Err (access_fault (access_in e.view va e.kind).kind));
+      answer = cond b (Ok (start_of e.frame.0 + va % 4096)) (Err (access_fault (access_in e.regime va e.kind).kind));
       world = noted (touches (listed e.pt1 ++ listed e.pt0)) (Cloaked c);
     })
 hit_is_led held c e va owed agrees page =
     (hit_leads held c.memory e va agrees page, λ b inside. hit_asks held c e va b owed agrees page inside)
 
-pub hit_is_walk : (held : Held) (c : Cloak) (e : Entry) (va : ℕ) → OwedIsHeld held c.memory
+pub hit_is_walk : (held : HeldPages) (c : Cloak) (e : Entry) (va : ℕ) → OwedIsHeld held c.memory
     → EntryAgrees (present held c.memory) e → va / 4096 ≡ e.page → e.frame.0 < length c.memory.ram
-    → ask_translate (satp_in e.view) (access_in e.view va e.kind) (Cloaked c) ≡ record { answer = Ok (start_of e.frame.0 + va % 4096); world = noted (touches (listed e.pt1 ++ listed e.pt0)) (Cloaked c) }
+    → ask_translate (satp_in e.regime) (access_in e.regime va e.kind) (Cloaked c) ≡ record { answer = Ok (start_of e.frame.0 + va % 4096); world = noted (touches (listed e.pt1 ++ listed e.pt0)) (Cloaked c) }
 hit_is_walk held c e va owed agrees page low =
     let k = va % 4096 in
     let small : k < 4096 = omega arith in
@@ -225,7 +225,7 @@ clean_offer q g write m clean newest shown =
     ∙ (ap (λ (o : Option ℕ). unless_missed (record { memory = m; ciphers = []; missed = false }) (λ (m' : CloakedMemory). unless_missed (settle_frame_if o m') last)) (no_owing q m newest)
     ∙ clean_compared q g write m shown))
 
-pub hit_is_offer : (held : Held) (m : CloakedMemory) (e : Entry) (q : PageId) → OwedIsHeld held m → CleanIsShown held m
+pub hit_is_offer : (held : HeldPages) (m : CloakedMemory) (e : Entry) (q : PageId) → OwedIsHeld held m → CleanIsShown held m
     → EntryAgrees (present held m) e → e.cloaked ≡ Some q → offer q e.frame.0 (is_store e.kind) m ≡ record { memory = m; ciphers = []; answer = Ready }
 hit_is_offer held m e q owed clean agrees is =
     let target : TargetAgrees (present held m) e (Some q) = subst (TargetAgrees (present held m) e) is agrees.target in

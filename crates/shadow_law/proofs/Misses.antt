@@ -1,4 +1,4 @@
--- What a miss makes live agrees: its walk stays as it was, behind what the access does then.
+-- What a miss makes live agrees: its walk stays as it was, after what the access does then.
 use Rattle.std.proofs.Common.{◌≡◌, ◌∙◌, ℕ, ◌/◌, inl, inr, Bool, true, false, List, [], length, Option, Some, None, Ok, refl, sym, ap, subst}
 use Rattle.std.specs.Prelude.{IfSome}
 use Rattle.std.specs.List.{All}
@@ -23,7 +23,7 @@ use Rattle.cloak_model.proofs.FlatWalk.{ask_walk-flat}
 use Rattle.settling_ahead.proofs.Plans.{answer_in, along, paid, follow-flat, follow-cloaked, count_along}
 use Rattle.settling_ahead.proofs.Planning.{plan_walk, walk_planned}
 use Rattle.shadow_fold.specs.declared.entry.Entry.{Entry}
-use Rattle.shadow_fold.specs.declared.entry.ShadowView.{ShadowView}
+use Rattle.shadow_fold.specs.declared.entry.Regime.{Regime}
 use Rattle.shadow_fold.specs.Agreement.{EntryAgrees, satp_in, access_in}
 use Rattle.shadow_fold.specs.Entries.{IsWithin, is_frame, is_table}
 use Rattle.shadow_fold.specs.Fold.{holds, entry_of}
@@ -31,7 +31,7 @@ use Rattle.shadow_fold.specs.Following.{AreBirthCalls}
 use Rattle.shadow_fold.specs.Table.{Table}
 use Rattle.shadow_fold.proofs.Agreeing.{keeps_insert}
 use Rattle.shadow_law.specs.Walks.{IsSame}
-use Rattle.shadow_law.specs.Agreeing.{Held, present, frame, OwedIsHeld, AreOutside}
+use Rattle.shadow_law.specs.Agreeing.{HeldPages, present, frame, OwedIsHeld, AreOutside}
 use Rattle.shadow_law.specs.Misses.{StayOutsideBut}
 use Rattle.shadow_law.proofs.Walks.{walk_kept, walk_within, low_frame}
 use Rattle.shadow_law.proofs.Changes.{Spared, or_false, map_some, both_some, not_frame}
@@ -85,7 +85,7 @@ walk_stays m m' satp a w count first second = walk_kept m.ram m'.ram satp a w (r
   second = map_some (λ f. Spared f.0 m m') (IsSame m.ram m'.ram) w.pt0 (λ f s. s.ram) second;
 })
 
-pub settled_walk : (held : Held) (m : CloakedMemory) (f satp : ℕ) (a : Access) (w : Walked) → OwedIsHeld held m
+pub settled_walk : (held : HeldPages) (m : CloakedMemory) (f satp : ℕ) (a : Access) (w : Walked) → OwedIsHeld held m
     → AreOutside held w → walk m.ram satp a ≡ Ok w → walk (settle f m).memory.ram satp a ≡ Ok w
 settled_walk held m f satp a w owed out leads = by_owed (owed_in m f) refl
   where
@@ -102,7 +102,7 @@ settled_walk held m f satp a w owed out leads = by_owed (owed_in m f) refl
     by_owed (Some q) is =
         walk_stays m m' satp a w (settle_count f m) (spared q is w.pt1 out.first) (spared q is w.pt0 out.second) leads
 
-pub offered_walk : (held : Held) (m : CloakedMemory) (q : PageId) (g : ℕ) (write : Bool) (satp : ℕ) (a : Access) (w : Walked)
+pub offered_walk : (held : HeldPages) (m : CloakedMemory) (q : PageId) (g : ℕ) (write : Bool) (satp : ℕ) (a : Access) (w : Walked)
     → OwedIsHeld held m → AreOutside held w → is_frame (frame g) w.pt1 ≡ false → is_frame (frame g) w.pt0 ≡ false
     → walk m.ram satp a ≡ Ok w → walk (offer q g write m).memory.ram satp a ≡ Ok w
 offered_walk held m q g write satp a w owed out other1 other0 =
@@ -117,13 +117,13 @@ offered_walk held m q g write satp a w owed out other1 other0 =
 
 -- The entry of the walk.
 
-pub open_entry_agrees : (held held' : Held) (m : CloakedMemory) (view : ShadowView) (va : ℕ) (kind : Kind) (w : Walked)
-    → walk m.ram (satp_in view) (access_in view va kind) ≡ Ok w → is_in_ram m.ram w.pa ≡ true → OwedIsHeld held m
+pub open_entry_agrees : (held held' : HeldPages) (m : CloakedMemory) (regime : Regime) (va : ℕ) (kind : Kind) (w : Walked)
+    → walk m.ram (satp_in regime) (access_in regime va kind) ≡ Ok w → is_in_ram m.ram w.pa ≡ true → OwedIsHeld held m
     → AreOutside held w → StayOutsideBut (frame_of w.pa) held held' → held' (frame_of w.pa) ≡ None
-    → let m' = (settle (frame_of w.pa) m).memory in EntryAgrees (present held' m') (entry_of view (va / 4096) kind w None)
-open_entry_agrees held held' m view va kind w leads inside owed out stay target =
-    born_agrees (present held' m') view va kind w None
-    (settled_walk held m (frame_of w.pa) (satp_in view) (access_in view va kind) w owed out leads)
+    → let m' = (settle (frame_of w.pa) m).memory in EntryAgrees (present held' m') (entry_of regime (va / 4096) kind w None)
+open_entry_agrees held held' m regime va kind w leads inside owed out stay target =
+    born_agrees (present held' m') regime va kind w None
+    (settled_walk held m (frame_of w.pa) (satp_in regime) (access_in regime va kind) w owed out leads)
     (subst (λ n. is_in_frames n w.pa ≡ true) (sym (settle_count (frame_of w.pa) m)) inside)
     (record { first = stays w.pt1 out.first; second = stays w.pt0 out.second }) target
   where
@@ -136,18 +136,18 @@ open_entry_agrees held held' m view va kind w leads inside owed out stay target 
     stays : (o : Option Frame) → IfSome o (λ x. held x.0 ≡ None) → IfSome o (λ x. held' x.0 ≡ None)
     stays o = map_some (λ x. held x.0 ≡ None) (λ x. held' x.0 ≡ None) o stay_each
 
-pub page_entry_agrees : (held held' : Held) (m : CloakedMemory) (view : ShadowView) (va : ℕ) (kind : Kind) (w : Walked)
-    (q : PageId) → walk m.ram (satp_in view) (access_in view va kind) ≡ Ok w → is_in_ram m.ram w.pa ≡ true
+pub page_entry_agrees : (held held' : HeldPages) (m : CloakedMemory) (regime : Regime) (va : ℕ) (kind : Kind) (w : Walked)
+    (q : PageId) → walk m.ram (satp_in regime) (access_in regime va kind) ≡ Ok w → is_in_ram m.ram w.pa ≡ true
     → OwedIsHeld held m → AreOutside held w → let g = frame_of w.pa in
-    let m' = (offer q g (is_store kind) m).memory in let e = entry_of view (va / 4096) kind w (Some q) in
+    let m' = (offer q g (is_store kind) m).memory in let e = entry_of regime (va / 4096) kind w (Some q) in
     is_table e.frame e ≡ false → StayOutsideBut g held held'
     → held' g ≡ Some q → (kind ≡ Store → owed_in m' g ≡ Some q) → EntryAgrees (present held' m') e
 unfolding is_table
-page_entry_agrees held held' m view va kind w q leads inside owed out apart stay here stored =
+page_entry_agrees held held' m regime va kind w q leads inside owed out apart stay here stored =
     let others = or_false (is_frame (frame (frame_of w.pa)) w.pt1) (is_frame (frame (frame_of w.pa)) w.pt0) apart in
     let other1 = others.0 in let other0 = others.1 in
-    born_agrees (present held' m') view va kind w (Some q)
-    (offered_walk held m q g (is_store kind) (satp_in view) (access_in view va kind) w owed out other1 other0 leads)
+    born_agrees (present held' m') regime va kind w (Some q)
+    (offered_walk held m q g (is_store kind) (satp_in regime) (access_in regime va kind) w owed out other1 other0 leads)
     (subst (λ n. is_in_frames n w.pa ≡ true) (sym (offer_count q g (is_store kind) m)) inside)
     (record { first = stays w.pt1 out.first other1; second = stays w.pt0 out.second other0 }) (here, stored)
   where
@@ -161,11 +161,11 @@ page_entry_agrees held held' m view va kind w q leads inside owed out apart stay
     stays o none other = both_some (λ x. held x.0 ≡ None) (λ x. x.0 ≡ g → ⊥) (λ x. held' x.0 ≡ None) o
         (λ x h k. stay x.0 k h) none (not_frame g o other)
 
-pub entry_within : (ram : List (List ℕ)) (view : ShadowView) (va : ℕ) (kind : Kind) (w : Walked) (cloaked : Option PageId)
-    → walk ram (satp_in view) (access_in view va kind) ≡ Ok w → is_in_ram ram w.pa ≡ true
-    → IsWithin (length ram) (entry_of view (va / 4096) kind w cloaked)
-entry_within ram view va kind w cloaked leads inside =
-    let tables = walk_within ram (satp_in view) (access_in view va kind) w leads in
+pub entry_within : (ram : List (List ℕ)) (regime : Regime) (va : ℕ) (kind : Kind) (w : Walked) (cloaked : Option PageId)
+    → walk ram (satp_in regime) (access_in regime va kind) ≡ Ok w → is_in_ram ram w.pa ≡ true
+    → IsWithin (length ram) (entry_of regime (va / 4096) kind w cloaked)
+entry_within ram regime va kind w cloaked leads inside =
+    let tables = walk_within ram (satp_in regime) (access_in regime va kind) w leads in
     record { target = low_frame ram w.pa inside; first = tables.0; second = tables.1 }
 
 -- The table with the entry.

@@ -19,11 +19,11 @@ use Rattle.shadow_fold.specs.Keeping.{Agrees}
 use Rattle.shadow_fold.specs.Table.{Table, ending, killed}
 use Rattle.shadow_fold.proofs.Agreeing.{keeps_ending}
 use Rattle.shadow_fold.proofs.Follows.{ending_twice, ending_none}
-use Rattle.shadow_law.specs.Agreeing.{Held, present, frame, OwedIsHeld, CleanIsShown, ChangeKeeps}
+use Rattle.shadow_law.specs.Agreeing.{HeldPages, present, frame, OwedIsHeld, CleanIsShown, ChangeKeeps}
 use Rattle.shadow_law.proofs.Changes.{Parts, Spared, all_parts, map_parts, keeps, not_part, or_false, offer_spares, offer_count, write_keeps, touch_keeps, remap_keeps}
 use Rattle.shadow_law.proofs.Hits.{untouched, owed_offer, no_owing, clean_offer}
 
--- all entries keep it where none ends
+-- all entries keep it if none ends
 keeps_all : (P Q : Entry → Type 0) (t : Table) → ((e : Entry) → P e → Q e) → All P t.live → All Q t.live
 keeps_all P Q t step all = subst (λ (u : Table). All Q u.live) (ending_none t) (keeps_ending P Q (λ e. false) t (λ e stays. step e) all)
 
@@ -35,12 +35,12 @@ keeps_killed P Q f t step all =
     (keeps_ending P Q (λ e. is_target (frame f) e || is_table (frame f) e) t
     (λ e stays. let h = or_false (is_target (frame f) e) (is_table (frame f) e) stays in step e h.0 h.1) all)
 
-pub write_agrees : (held : Held) (m : CloakedMemory) (f : ℕ) (bytes : List ℕ) (t : Table) → Agrees (present held m) t
+pub write_agrees : (held : HeldPages) (m : CloakedMemory) (f : ℕ) (bytes : List ℕ) (t : Table) → Agrees (present held m) t
     → Agrees (present held (with_shown_frame f bytes m)) (ending (is_table (frame f)) t)
 write_agrees held m f bytes t = keeps_ending (EntryAgrees (present held m)) (EntryAgrees (present held (with_shown_frame f bytes m))) (is_table (frame f)) t
     (λ e out. write_keeps held m f bytes e out)
 
-pub touch_agrees : (held held' : Held) (m : CloakedMemory) (f : ℕ) (t : Table) → ((x : ℕ) → x ≢ f → held' x ≡ held x)
+pub touch_agrees : (held held' : HeldPages) (m : CloakedMemory) (f : ℕ) (t : Table) → ((x : ℕ) → x ≢ f → held' x ≡ held x)
     → Agrees (present held m) t → Agrees (present held' (settle f m).memory) (killed (frame f) t)
 touch_agrees held held' m f t same = keeps_killed (EntryAgrees (present held m)) (EntryAgrees (present held' (settle f m).memory)) f t
     (λ e target table. touch_keeps held held' m f e same target table)
@@ -61,7 +61,7 @@ not_holding_page q o other = by_test (holds (same_page q) o) refl
     by_test true is = absurd (other (held_page q o is))
     by_test false is = refl
 
-pub grant_agrees : (held held' : Held) (m : CloakedMemory) (q : PageId) (g : ℕ) (write : Bool) (t : Table) → OwedIsHeld held m
+pub grant_agrees : (held held' : HeldPages) (m : CloakedMemory) (q : PageId) (g : ℕ) (write : Bool) (t : Table) → OwedIsHeld held m
     → ((x : ℕ) → held x ≡ Some q → x ≡ g) → ((x : ℕ) → x ≢ g → held' x ≡ held x)
     → Agrees (present held m) t → Agrees (present held' (offer q g write m).memory) (killed (frame g) t)
 grant_agrees held held' m q g write t owed alone same =
@@ -104,7 +104,7 @@ plain_offer q g write m clean none =
     ∙ (ap (λ (s : AfterSettling). unless_missed s second) (untouched g m clean)
     ∙ ap (λ (o : Option ℕ). unless_missed (record { memory = m; ciphers = []; missed = false }) (λ (m' : CloakedMemory). unless_missed (settle_frame_if o m') last)) (no_owing q m none))
 
-pub refuse_agrees : (held : Held) (m : CloakedMemory) (q : PageId) (g : ℕ) (write : Bool) (t : Table) → OwedIsHeld held m
+pub refuse_agrees : (held : HeldPages) (m : CloakedMemory) (q : PageId) (g : ℕ) (write : Bool) (t : Table) → OwedIsHeld held m
     → ((x : ℕ) → held x ≢ Some q) → held g ≡ None → (offer q g write m).answer ≢ Ready
     → Agrees (present held m) t → Agrees (present held (offer q g write m).memory) t
 refuse_agrees held m q g write t owed none out fails =
@@ -126,7 +126,7 @@ refuse_agrees held m q g write t owed none out fails =
     every e = all_parts (λ x. Spared x m (offer q g write m).memory × (held x ≡ held x)) e (λ x. (spares x, refl))
 
 -- the offer of the page that the frame holds: at most the frame is owed it then
-held_offer : (q : PageId) (g : ℕ) (write : Bool) (m : CloakedMemory) (held : Held) → OwedIsHeld held m → CleanIsShown held m → held g ≡ Some q
+held_offer : (q : PageId) (g : ℕ) (write : Bool) (m : CloakedMemory) (held : HeldPages) → OwedIsHeld held m → CleanIsShown held m → held g ≡ Some q
     → (P : CloakedMemory → Type 0) → P m → P (with_owed g (Some q) m) → P (offer q g write m).memory
 held_offer q g write m held owed clean here P stays changed = by_owed (owed_in m g) refl
   where
@@ -139,7 +139,7 @@ held_offer q g write m held owed clean here P stays changed = by_owed (owed_in m
         by_write true = changed
         by_write false = stays
 
-pub held_agrees : ChangeKeeps → (held : Held) (m : CloakedMemory) (q : PageId) (g : ℕ) (write : Bool) (t : Table) → OwedIsHeld held m
+pub held_agrees : ChangeKeeps → (held : HeldPages) (m : CloakedMemory) (q : PageId) (g : ℕ) (write : Bool) (t : Table) → OwedIsHeld held m
     → CleanIsShown held m → held g ≡ Some q
     → Agrees (present held m) t → Agrees (present held (offer q g write m).memory) t
 held_agrees change held m q g write t owed clean here =

@@ -39,14 +39,14 @@ second_named a at1 at0 e w is = by_test (is_valid e && (not (is_pointer e) && al
     by_test true is = let same = ok_same _ w is in (ap (λ (v : Walked). v.pt1) (sym same), ap (λ (v : Walked). v.pt0) (sym same))
     by_test false is = absurd cc
 
--- where the first word ends a walk that leads somewhere, it is a leaf
+-- if the first word ends a walk that leads somewhere, it is a leaf
 unfoldable pub FirstNames : Access → ℕ → FirstWord → Walked → Type 0
 FirstNames a at1 first w = first ≡ Ends (Ok w) → (w.pt1 ≡ Some (frame_at at1)) × (w.pt0 ≡ None)
 
 ends_same : (v w : Walk) → Ends v ≡ Ends w → v ≡ w
 ends_same v w e = cc
 
-either : {A : Type 0} (P : A → Type 0) (b : Bool) (x y : A) → P x → P y → P (cond b x y)
+pub either : {A : Type 0} (P : A → Type 0) (b : Bool) (x y : A) → P x → P y → P (cond b x y)
 either P true x y here there = here
 either P false x y here there = there
 

@@ -10,33 +10,33 @@ use Rattle.shadow_fold.specs.Agreement.{IsMapped}
 use Rattle.shadow_fold.specs.Entries.{is_table, is_of_space}
 use Rattle.shadow_fold.specs.Keeping.{Agrees}
 use Rattle.shadow_fold.specs.Table.{Table, ending, killed}
-use Rattle.shadow_law.specs.Agreeing.{Held, present, frame, OwedIsHeld, CleanIsShown}
+use Rattle.shadow_law.specs.Agreeing.{HeldPages, present, frame, OwedIsHeld, CleanIsShown}
 
 -- a frame is written
 abbrev pub WriteAgrees : Type 0
-WriteAgrees = (held : Held) (m : CloakedMemory) (f : ℕ) (bytes : List ℕ) (t : Table) → Agrees (present held m) t
+WriteAgrees = (held : HeldPages) (m : CloakedMemory) (f : ℕ) (bytes : List ℕ) (t : Table) → Agrees (present held m) t
     → Agrees (present held (with_shown_frame f bytes m)) (ending (is_table (frame f)) t)
 
 -- a frame is settled, and may hold a page no more
 abbrev pub TouchAgrees : Type 0
-TouchAgrees = (held held' : Held) (m : CloakedMemory) (f : ℕ) (t : Table) → ((x : ℕ) → x ≢ f → held' x ≡ held x)
+TouchAgrees = (held held' : HeldPages) (m : CloakedMemory) (f : ℕ) (t : Table) → ((x : ℕ) → x ≢ f → held' x ≡ held x)
     → Agrees (present held m) t → Agrees (present held' (settle f m).memory) (killed (frame f) t)
 
 -- a page is offered in the frame that holds it
 abbrev pub HeldAgrees : Type 0
-HeldAgrees = (held : Held) (m : CloakedMemory) (q : PageId) (g : ℕ) (write : Bool) (t : Table) → OwedIsHeld held m
+HeldAgrees = (held : HeldPages) (m : CloakedMemory) (q : PageId) (g : ℕ) (write : Bool) (t : Table) → OwedIsHeld held m
     → CleanIsShown held m → held g ≡ Some q
     → Agrees (present held m) t → Agrees (present held (offer q g write m).memory) t
 
 -- a page is offered in a frame, and no other frame holds it
 abbrev pub GrantAgrees : Type 0
-GrantAgrees = (held held' : Held) (m : CloakedMemory) (q : PageId) (g : ℕ) (write : Bool) (t : Table)
+GrantAgrees = (held held' : HeldPages) (m : CloakedMemory) (q : PageId) (g : ℕ) (write : Bool) (t : Table)
     → OwedIsHeld held m → ((x : ℕ) → held x ≡ Some q → x ≡ g) → ((x : ℕ) → x ≢ g → held' x ≡ held x)
     → Agrees (present held m) t → Agrees (present held' (offer q g write m).memory) (killed (frame g) t)
 
 -- a page that no frame holds is offered in an outside frame, and is not granted: no entry ends
 abbrev pub RefuseAgrees : Type 0
-RefuseAgrees = (held : Held) (m : CloakedMemory) (q : PageId) (g : ℕ) (write : Bool) (t : Table) → OwedIsHeld held m
+RefuseAgrees = (held : HeldPages) (m : CloakedMemory) (q : PageId) (g : ℕ) (write : Bool) (t : Table) → OwedIsHeld held m
     → ((x : ℕ) → held x ≢ Some q) → held g ≡ None → (offer q g write m).answer ≢ Ready
     → Agrees (present held m) t → Agrees (present held (offer q g write m).memory) t
 

@@ -28,7 +28,7 @@ pub record HaveSameTables (pt1 pt0 : Option Frame) (ram ram' : List (List ℕ)) 
   pub first : IfSome pt1 (IsSame ram ram')
   pub second : IfSome pt0 (IsSame ram ram')
 
--- it leads there still where those frames are the same
+-- it still leads there if those frames are the same
 abbrev pub WalkKept : Type 0
 WalkKept = (ram ram' : List (List ℕ)) (satp : ℕ) (a : Access) (w : Walked) → HaveSameTables w.pt1 w.pt0 ram ram'
     → walk ram satp a ≡ Ok w → walk ram' satp a ≡ Ok w
@@ -42,7 +42,7 @@ moved k (Err cause) = Err cause
 abbrev pub page_access : Access → Access
 page_access a = record a { va = 4096 * (a.va / 4096) }
 
--- all addresses of a page lead as far behind where its start leads as they stand behind it
+-- all addresses of a page lead as far past where its start leads as they lie past its start
 abbrev pub WalkOfPage : Type 0
 WalkOfPage = (ram : List (List ℕ)) (satp : ℕ) (a : Access)
     → walk ram satp a ≡ moved (a.va % 4096) (walk ram satp (page_access a))

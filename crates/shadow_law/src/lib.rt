@@ -1,13 +1,13 @@
 //! Laws on the definitions alone: why a machine may translate by its shadow entries (`shadow_fold`, `specs/Agreement`)
-//! in the place of walks. An entry that agrees with memory gives what a walk would give now, and each change of memory
+//! instead of by walks. An entry that agrees with memory gives what a walk would give now, and each change of memory
 //! keeps the agreement of the entries that the event of the change does not end.
 //!
 //! What a frame holds is no part of the ledger: the laws speak of any `held`, as far as a frame that is owed a page holds
 //! it. A machine takes what its pager holds.
 //!
-//! No body turns a law, so there is no wrong body to refuse here. These changed definitions were tried on a copy, and
+//! No body changes a law, so there is no wrong body to refuse here. These changed definitions were tried on a copy, and
 //! with none of them did the proof of its law go through. Of walks: all addresses of a page lead where its start
-//! leads. Of changes: an entry goes on where a frame is written or settled that it leads through, and not to. Of
+//! leads. Of changes: an entry goes on when a frame is written or settled that it leads through, and not to. Of
 //! tables: the settling of a frame ends only the entries that lead to it. Of misses: the table frames of the new
 //! entry may hold pages. Of hits: the address is the start of the frame.
 #![tactic(auto)]
@@ -36,7 +36,7 @@ pub fn law_of_changes()
     ensures remap { RemapKeeps }
 {}
 
-/// All live entries of a table go on agreeing, where the entries of a change's event end. It does nothing: its contract
+/// All live entries of a table go on agreeing, if the entries of a change's event end. It does nothing: its contract
 /// is the law.
 pub fn law_of_tables()
     ensures write { WriteAgrees }
@@ -52,7 +52,7 @@ pub fn law_of_misses()
     ensures { BornAgrees }
 {}
 
-/// The walk of a miss stays as it was behind what its access does then, so that its entry agrees, and so do all live
+/// The walk of a miss stays as it was after what its access does then, so that its entry agrees, and so do all live
 /// entries with it. It does nothing: its contract is the law.
 pub fn law_of_new_entries()
     ensures asked { AskedWalk }

@@ -1,4 +1,4 @@
--- Bytes that lie in two pages at most pass a test where the first and the last of them do, if it is one for each page.
+-- Bytes in at most two pages pass a test if the first and the last of them do, and it is the same for all of a page.
 use Rattle.std.proofs.Common.{◌≡◌, ◌≢◌, ◌+◌, ◌-◌, ◌/◌, ◌≤◌, ◌<◌, ℕ, zero, suc, Bool, true, false, ◌&&◌, not, Option, refl, ap, sym, ◌∙◌, arith, ◌⊎◌, inl, inr}
 use Rattle.std.proofs.lemmas.Bool.{cases_eq, and_right}
 use Rattle.std.specs.Prelude.{is_some}

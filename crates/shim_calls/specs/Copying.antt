@@ -1,4 +1,4 @@
--- The step of a copy by the phase of the context, and where a byte that is to be copied does not fit.
+-- The step of a copy by the phase of the context, and when a byte to be copied does not fit.
 use Rattle.std.specs.Prelude.{◌≡◌, ◌<◌, ◌⊎◌, ℕ, true, false}
 use Rattle.cloak_model.specs.declared.context.Phase.{Phase}
 use Rattle.cloak_model.specs.declared.context.Phase.TheVariants.{Plain, CopyIn, Waiting, CopyOut}

@@ -49,7 +49,7 @@ fn refuse(c: &mut Context) -> Copied
     Copied::Refused
 }
 
-/// Makes a step of a copy into the area, of which so many bytes are done.
+/// Makes a step of a copy into the area, of which `done` bytes are done.
 #[tactic(auto, using(crate::proofs::CopyLater::copy_laters), unfolding(cloak_model::specs::Calls::copy_in_step, cloak_model::specs::Calls::in_step, cloak_model::specs::Calls::in_placed, cloak_model::specs::Calls::in_reached, cloak_model::specs::Calls::in_put))]
 fn copy_in_step<M: PageSide>(
     c: &mut Context,
@@ -187,7 +187,7 @@ fn copy_out_byte<M: PageSide>(
     }
 }
 
-/// Makes a step of a copy into the buffer, of which so many bytes of a total are done.
+/// Makes a step of a copy into the buffer, of which `done` bytes of `total` are done.
 #[tactic(auto, using(crate::proofs::CopyLater::copy_laters), unfolding(cloak_model::specs::Calls::copy_out_step, cloak_model::specs::Calls::out_step, cloak_model::specs::Calls::out_placed, cloak_model::specs::Calls::out_got))]
 fn copy_out_step<M: PageSide>(
     c: &mut Context,
@@ -226,9 +226,9 @@ fn copy_out_step<M: PageSide>(
     copy_out_byte(c, q, from, done, total, m)
 }
 
-/// Makes the next step of the copy that a context is in; in no copy nothing is left, which is `Done`. `Refused` exactly
-/// where a byte is left that is no longer where the call needs it: nothing was asked then. `Absent` and `Stopped` only
-/// where a question was so answered.
+/// Makes the next step of the copy that a context is in; if it is in none, nothing is left, which is `Done`. `Refused`
+/// exactly if a byte is left that is no longer where the call needs it: nothing was asked then. `Absent` and `Stopped`
+/// only if a question was answered like that.
 #[tactic(auto, using(crate::proofs::CopyLater::copy_laters), unfolding(crate::specs::Copying::next_copy))]
 pub fn copy_step<M: PageSide>(c: &mut Context, domain: u32, r: &Resources, m: &mut M) -> CopyStep
     requires { domain ≡ M.serves m.old }

@@ -74,7 +74,7 @@ module _ (mapped : SpaceId → ℕ → Option PageId) where
   end_makes (Some ctx) (Some v) j a makes =
       asked_makes (slice_get j.domains (domain_of ctx)) (domain_of ctx) j.memory a makes
 
-  -- so where a hart's step makes such entries alone, the step with an end after it does, too
+  -- so if a hart's step makes such entries alone, the step with an end after it does, too
   pub step_makes : (j : Joint) (number : ℕ) →
       (let h = hart_in j number in MakesFor mapped (asked_of j number h h.inside)) →
       MakesFor mapped (asked_with_end j number)

@@ -19,7 +19,7 @@ use Rattle.cloak_model.specs.Events.{Offer as offers}
 use Rattle.cloak_model.specs.Fork.{ask_copies, ask_forgets}
 use Rattle.cloak_base.specs.Constants.{frame_of}
 use Rattle.cloak_model.specs.Walk.{Walk, FirstWord, Ends, GoesOn, first_entry, walk}
-use Rattle.cloak_model.specs.World.{World, Handed, Flat, Cloaked, Alone, ram_of, view_of, events_of, noted, settled, stored_at, filled_frame, written, with_plain, with_marks, cipher_items}
+use Rattle.cloak_model.specs.World.{World, Handed, Flat, Cloaked, Alone, ram_of, regime_of, events_of, noted, settled, stored_at, filled_frame, written, with_plain, with_marks, cipher_items}
 use Rattle.shadow_fold.specs.Agreement.{IsMapped}
 use Rattle.shadow_fold.specs.Births.{MakeAll}
 
@@ -146,13 +146,13 @@ module _ (mapped : SpaceId → ℕ → Option PageId) (s : Option SpaceId) where
 
   pub maps_address : (va : ℕ) (kind : Kind) (w : World) → Maps mapped s w (ask_inside_address va kind w).world
   unfolding ask_inside_address
-  maps_address va kind w = maps_led (view_of w).satp (inside_access w va kind) w
+  maps_address va kind w = maps_led (regime_of w).satp (inside_access w va kind) w
 
   -- Answers.
 
   pub maps_replies : (a : Answer) (w : World) → Maps mapped s w (replies a w).world
   unfolding replies
-  maps_replies a w = maps_written (answer_item (view_of w).domain a) w
+  maps_replies a w = maps_written (answer_item (regime_of w).domain a) w
 
   pub maps_drawn : (ask : Asking Answer) (w : World) → Maps mapped s w (ask w).world →
       Maps mapped s w (if_drawn ask w).world
@@ -167,7 +167,7 @@ module _ (mapped : SpaceId → ℕ → Option PageId) (s : Option SpaceId) where
   unfolding got
   maps_got va width (Err cause) w = maps_replies _ w
   maps_got va width (Ok pa) w =
-      maps_trans _ _ _ (maps_opened (view_of w).satp (inside_access w va Load) pa w)
+      maps_trans _ _ _ (maps_opened (regime_of w).satp (inside_access w va Load) pa w)
       (maps_drawn (get_at pa width) _ (maps_get_at pa width _))
 
   pub maps_get : (va width : ℕ) (w : World) → Maps mapped s w (get_by_table va width w).world
@@ -184,7 +184,7 @@ module _ (mapped : SpaceId → ℕ → Option PageId) (s : Option SpaceId) where
   unfolding stored_inside
   maps_stored_inside va width value (Err cause) w = maps_replies _ w
   maps_stored_inside va width value (Ok pa) w =
-      maps_trans _ _ _ (maps_opened (view_of w).satp (inside_access w va Store) pa w)
+      maps_trans _ _ _ (maps_opened (regime_of w).satp (inside_access w va Store) pa w)
       (maps_drawn (put_at pa width value) _ (maps_put_at pa width value _))
 
   pub maps_put : (va width value : ℕ) (w : World) → Maps mapped s w (put_by_table va width value w).world
@@ -225,7 +225,7 @@ module _ (mapped : SpaceId → ℕ → Option PageId) (s : Option SpaceId) where
       Maps mapped s w (offered_by q va kind g o w).world
   unfolding offered_by
   maps_offered q va kind g Ready w lies =
-      let satp : ℕ = (view_of w).satp in
+      let satp : ℕ = (regime_of w).satp in
       let a : Access = inside_access w va kind in
       maps_trans _ _ _ (maps_noted _ w (births_page mapped s satp a q (walk (ram_of w) satp a) lies)) (maps_replies told.Ok _)
   maps_offered q va kind g Missed w lies = maps_replies told.Stopped w

@@ -28,7 +28,7 @@ use Rattle.shadow_fold.specs.Events.{changed_by, asked_if, asked_running, asked_
 use Rattle.space_law.specs.Mapping.{page_of, mapped_in, TurnKeepsPages}
 use Rattle.space_law.proofs.Hypercalls.{Spares, Keeps, keeps_page, DomainKeeps, step_keeps, interrupt_keeps, resume_keeps}
 
--- one program of a list is so now, which has the page there as before
+-- one program of a list is this one now, which has the page there as before
 pub set_page : (domains : List Domain) (i d : ℕ) (was now : Domain) (space va : ℕ) (q : PageId) →
     slice_get domains d ≡ Some was →
     (i ≡ d → page_of (Some was) space va ≡ Some q → page_of (Some now) space va ≡ Some q) →

@@ -8,7 +8,7 @@
 //! told of. A fork makes its new space where there was none. Both hold of the whole step, too, with the end of a domain
 //! after it: the end makes no entry, it changes the spaces of its domain alone, and each of them is told of.
 //!
-//! No body turns a law, so there is no wrong body to refuse here. These changed definitions were tried on a copy, and
+//! No body changes a law, so there is no wrong body to refuse here. These changed definitions were tried on a copy, and
 //! with none of them did the proof of its law go through. Of births: a reach makes known the next page of the resource;
 //! a load, or an atomic instruction, reaches its page at the offset of the address alone; a copied byte reaches its
 //! page at the address of the area; an access that is not cloaked makes known a page, or only a load outside does, or

@@ -1,4 +1,4 @@
--- What `stats` answers.
+-- What `stats` returns.
 use Rattle.std.proofs.Common.{◌≡◌, ◌<◌, ◌-◌, ◌^◌, ◌∙◌, ℕ, Bool, true, false, List, None, refl, sym, subst, inl, inr}
 use Rattle.cloak_base.specs.declared.causes.Stop.{Stop}
 use Rattle.cloak_base.specs.declared.causes.Stop.TheVariants as stop
@@ -7,16 +7,16 @@ use Rattle.cloak_model.specs.Opening.{Opened}
 use Rattle.cloak_model.specs.Run.{run_of}
 use Rattle.command_words.specs.Command as spec
 use Rattle.cloak_machine.specs.declared.machine.Machine.{Machine}
-use Rattle.outside_io.specs.Told.{Grows, GrowsByFront}
-use Rattle.program_parts.specs.declared.refusal.Refusal.{Refusal}
-use Rattle.program_parts.specs.declared.refusal.Refusal.TheVariants as refusal
-use Rattle.program_parts.specs.declared.status.Status.{Status}
-use Rattle.program_parts.specs.declared.status.Status.TheVariants as status
-use Rattle.program_parts.specs.NoRun.{NoRun, IsRefused}
-use Rattle.program_parts.specs.Outside.{OnlyRead, Outside, Output, Raised}
-use Rattle.program_parts.specs.Refusal.{status_of_refusal}
-use Rattle.program_parts.specs.Refusing.{Refuses}
-use Rattle.program_parts.proofs.FaultFacts.{raised}
+use Rattle.io_traits.specs.Told.{Grows, GrowsByFront}
+use Rattle.command_parts.specs.declared.refusal.Refusal.{Refusal}
+use Rattle.command_parts.specs.declared.refusal.Refusal.TheVariants as refusal
+use Rattle.command_parts.specs.declared.status.Status.{Status}
+use Rattle.command_parts.specs.declared.status.Status.TheVariants as status
+use Rattle.command_parts.specs.NoRun.{NoRun, IsRefused}
+use Rattle.command_parts.specs.Outside.{OnlyRead, Outside, Output, Raised}
+use Rattle.command_parts.specs.Refusal.{status_of_refusal}
+use Rattle.command_parts.specs.Refusing.{Refuses}
+use Rattle.command_parts.proofs.FaultFacts.{raised}
 use Rattle.run_command.proofs.EndFacts.{fixed_front}
 use Rattle.run_command.specs.Preparing.{IsPrepared}
 use Rattle.run_command.specs.Running.{IsStatusOfStop, NoClash, status_of, unless_refused}
@@ -81,7 +81,7 @@ answers_refused asked (refusal.BadState fault) before after refused = refused
 answers_refused asked (refusal.ChangedDomain domain) before after refused = refused
 answers_refused asked (refusal.ChangedFrame frame) before after refused = refused
 
--- what is answered where there is no run
+-- what is returned if there is no run
 pub answers_no_run : {S O : Type 0} {asked : spec.Asked} {r : Refusal} {before after : Outside S O} {given : Status} →
     NoRun asked r before.files after.files → before.output.faults < 2 ^ 64 - 1 →
     Refuses before.output after.output r given → StatsAnswers asked before after given
@@ -113,7 +113,7 @@ answers_some_stop {S} {O} asked before after given some has =
     (answers_stop asked before after some.0 some.1
     (subst (λ (s : Status). HasStats asked s before after) some.2 has))
 
--- what the words ask for where a machine was prepared
+-- what the words ask for if a machine was prepared
 asks_stats : {asked : spec.Asked} {held : List ℕ → _} {steps : ℕ} {machine : Machine} →
     IsPrepared asked held None steps machine → AsksStats asked held
 asks_stats {asked} {held} {steps} {machine} prepared = record {

@@ -10,13 +10,14 @@ use Rattle.cloak_model.specs.Opening.{Opened}
 use Rattle.cloak_model.specs.Run.{first_moment, joint_after, turns_from, unless_stopped}
 use Rattle.cloak_machine.specs.Counting.{Counts}
 use Rattle.cloak_machine.specs.declared.machine.Machine.{Machine}
-use Rattle.run_command.proofs.StepFacts.{GoesOn, behind_none, turns_from-next, turns_from-none}
+use Rattle.run_command.proofs.StepFacts.{GoesOn}
+use Rattle.run_command.proofs.RunFacts.{behind_none, turns_from-next, turns_from-none}
 use Rattle.run_command.specs.Running.{moment_behind}
 use Rattle.shadow_fold.specs.declared.entry.ShadowCounts.{ShadowCounts}
 use Rattle.shadow_fold.specs.Events.{after_step, after_turns, counts_of}
 use Rattle.shadow_fold.specs.Fold.{Fold, fresh_fold}
 
--- Steps behind a step.
+-- Steps after a step.
 behind_more : (m : Moment) (t : Turn) (ts : List Turn) → moment_behind (after_turn m t) ts ≡ moment_behind m (t ∷ ts)
 unfolding joint_after
 behind_more m t ts i = record {
@@ -25,7 +26,7 @@ behind_more m t ts i = record {
   joint = joint_after t.joint ts;
 }
 
--- the fold behind one step more
+-- the fold after one more step
 after_turns-last : (m : Moment) (ts : List Turn) (t : Turn) (s : Fold) →
     after_turns m (ts ++ t ∷ []) s ≡ after_step (moment_behind m ts) (after_turns m ts s)
 unfolding after_turns
@@ -67,7 +68,7 @@ counts-start machine budget m s counts =
     subst (λ (ts : List Turn). Counts machine (after_turns m ts s)) (sym (take-append_seam [] (turns_from budget m)))
     counts
 
--- the counts behind the next step
+-- the counts after the next step
 counts_behind : (old new : Machine) (n budget : ℕ) (m : Moment) (s : Fold) (on : GoesOn old n budget m) →
     Counts old (after_turns m (take n (turns_from budget m)) s) →
     ((x : Fold) → Counts old x → Counts new (after_step (moment_behind m on.made) x)) →
@@ -92,7 +93,7 @@ counts-more old new n budget m s on within counts step =
     subst (λ (ts : List Turn). Counts new (after_turns m ts s)) (sym front)
     (counts_behind old new n budget m s on counts step)
 
--- behind a step that stopped the run there is none
+-- after a step that stopped the run there is none
 pub counts-stopped : (old new : Machine) (given : Option Stop) (cause : Stop) (n budget : ℕ) (m : Moment) (s : Fold)
     (on : GoesOn old n budget m) → given ≡ stop_of (joint_step (moment_behind m on.made)) → given ≡ Some cause →
     n < budget → Counts old (after_turns m (take n (turns_from budget m)) s) →
@@ -119,7 +120,7 @@ counts-all machine n budget m s on whole counts =
     (turns_from-none n budget (moment_behind m on.made) whole) ∙ append-nil on.made in
     subst (λ (ts : List Turn). Counts machine (after_turns m ts s)) (made_is machine n budget m on ∙ sym all) counts
 
--- the counts that a machine tells behind all steps of a run
+-- the counts that a machine tells after all steps of a run
 pub counts_told : (b : Bundle) (steps : ℕ) (o : Opened) (counts : ShadowCounts) →
     counts ≡ (after_turns (first_moment b o.joint) (turns_from steps (first_moment b o.joint))
     (fresh_fold (length o.joint.memory.ram))).table.counts → counts ≡ counts_of b steps o

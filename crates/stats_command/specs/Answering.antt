@@ -1,20 +1,20 @@
--- What `stats` answers, each status with its cause.
+-- What `stats` returns, each status with its cause.
 use Rattle.std.specs.Prelude.{ℕ, ◌≡◌, ◌⊎◌, List, Option, None, Ok}
 use Rattle.cloak_base.specs.Random.{Random}
-use Rattle.outside_io.specs.Told.{Grows, GrowsByFront}
+use Rattle.io_traits.specs.Told.{Grows, GrowsByFront}
 use Rattle.cloak_model.specs.declared.image.Bundle.{Bundle}
 use Rattle.cloak_model.specs.Opening.{Opened, opening}
 use Rattle.cloak_model.specs.Run.{Run, run_of}
 use Rattle.command_words.specs.Command as spec
-use Rattle.program_parts.specs.declared.status.Status.{Status}
-use Rattle.program_parts.specs.declared.status.Status.TheVariants as status
-use Rattle.program_parts.specs.NoRun.{AsksBundle, IsRefused, LineFailed}
-use Rattle.program_parts.specs.Outside.{OnlyRead, Outside, Raised}
+use Rattle.command_parts.specs.declared.status.Status.{Status}
+use Rattle.command_parts.specs.declared.status.Status.TheVariants as status
+use Rattle.command_parts.specs.NoRun.{AsksBundle, IsRefused, LineFailed}
+use Rattle.command_parts.specs.Outside.{OnlyRead, Outside, Raised}
 use Rattle.run_command.specs.Recording.{GrowsSome}
 use Rattle.run_command.specs.Running.{NoClash, run_status}
 use Rattle.stats_command.specs.Showing.{run_lines}
 
--- The words ask for the counts of the joint run of this bundle, with at most so many steps, which opens so.
+-- The words ask for the counts of the joint run of this bundle, with at most this many steps, which opens like this.
 pub record AsksStats (asked : spec.Asked) (held : List ℕ → Option (List ℕ)) : Type 0 where
   pub steps : ℕ
   pub bundle : Bundle
@@ -31,7 +31,7 @@ run_asked asks = run_of asks.bundle asks.steps asks.opened
 abbrev pub lines_asked : {asked : spec.Asked} {held : List ℕ → Option (List ℕ)} → AsksStats asked held → List ℕ
 lines_asked asks = run_lines asks.bundle asks.steps asks.opened
 
--- The run was made. Where no pages clashed in it, its lines were shown, and the answer is its status.
+-- The run was made. If no pages clashed in it, its lines were shown, and the answer is its status.
 pub record HasStats {S O : Type 0} (asked : spec.Asked) (answer : Status) (before after : Outside S O) : Type 0 where
   pub asks : AsksStats asked before.files.held
   pub status : NoClash (run_asked asks) → answer ≡ run_status (run_asked asks)
@@ -40,7 +40,7 @@ pub record HasStats {S O : Type 0} (asked : spec.Asked) (answer : Status) (befor
   pub files : OnlyRead before.files after.files
   pub faults : after.output.faults ≡ before.output.faults
 
--- The run was made, and the output failed. Where no pages clashed in the run, a front of its lines was shown.
+-- The run was made, and the output failed. If no pages clashed in the run, a front of its lines was shown.
 pub record LinesFailed {S O : Type 0} (asked : spec.Asked) (before after : Outside S O) : Type 0 where
   pub asks : AsksStats asked before.files.held
   pub lines : NoClash (run_asked asks) → GrowsByFront before.output.taken after.output.taken (lines_asked asks)
@@ -48,8 +48,8 @@ pub record LinesFailed {S O : Type 0} (asked : spec.Asked) (before after : Outsi
   pub files : OnlyRead before.files after.files
   pub faults : Raised before.output.faults after.output.faults
 
--- What each status says. Its causes exclude each other, so each status comes exactly there; only want of memory may
--- stand in the place of another, before the run begins.
+-- What each status says. The causes exclude each other, so each status comes exactly with its cause; only want of
+-- memory may come instead of another, before the run begins.
 abbrev pub StatsAnswers : {S O : Type 0} → spec.Asked → Outside S O → Outside S O → Status → Type 0
 StatsAnswers asked before after status.Done = HasStats asked status.Done before after
 StatsAnswers asked before after status.Violation = HasStats asked status.Violation before after

@@ -1,4 +1,4 @@
--- What a run that is counted comes to.
+-- What a run that is counted results in.
 use Rattle.std.specs.Prelude.{ℕ, ◌≡◌}
 use Rattle.cloak_model.specs.declared.image.Bundle.{Bundle}
 use Rattle.cloak_model.specs.Opening.{Opened}

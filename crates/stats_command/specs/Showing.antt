@@ -5,10 +5,10 @@ use Rattle.cloak_model.specs.declared.image.Bundle.{Bundle}
 use Rattle.cloak_model.specs.Opening.{Opened}
 use Rattle.cloak_model.specs.Report.{number_line, stop_line}
 use Rattle.cloak_model.specs.Run.{run_of}
-use Rattle.outside_io.specs.Told.{Grows, GrowsByFront}
-use Rattle.program_parts.specs.declared.status.Status.{Status}
-use Rattle.program_parts.specs.declared.status.Status.TheVariants as status
-use Rattle.program_parts.specs.Outside.{Output, Raised}
+use Rattle.io_traits.specs.Told.{Grows, GrowsByFront}
+use Rattle.command_parts.specs.declared.status.Status.{Status}
+use Rattle.command_parts.specs.declared.status.Status.TheVariants as status
+use Rattle.command_parts.specs.Outside.{Output, Raised}
 use Rattle.run_command.specs.Recording.{GrowsSome}
 use Rattle.run_command.specs.Running.{IsStatusOfStop, NoClash, run_status}
 use Rattle.shadow_fold.specs.declared.entry.ShadowCounts.{ShadowCounts}
@@ -24,7 +24,7 @@ stats_lines cause counts =
 abbrev pub run_lines : Bundle → ℕ → Opened → List ℕ
 run_lines b steps o = stats_lines (run_of b steps o).stop (counts_of b steps o)
 
--- The lines of a run were shown, and the answer is the status of some run: where no pages clashed in the run, its own.
+-- The lines of a run were shown, and the answer is the status of some run: if no pages clashed in the run, its own.
 pub record ShowsLines {O : Type 0} (b : Bundle) (steps : ℕ) (o : Opened) (before after : Output O) (answer : Status) :
     Type 0 where
   pub some_stop : IsStatusOfStop answer
@@ -33,7 +33,7 @@ pub record ShowsLines {O : Type 0} (b : Bundle) (steps : ℕ) (o : Opened) (befo
   pub grows : GrowsSome before.taken after.taken
   pub faults : after.faults ≡ before.faults
 
--- The output failed. Where no pages clashed in the run, a front of its lines was shown.
+-- The output failed. If no pages clashed in the run, a front of its lines was shown.
 pub record ShowsFront {O : Type 0} (b : Bundle) (steps : ℕ) (o : Opened) (before after : Output O) (answer : Status) :
     Type 0 where
   pub write_fault : answer ≡ status.WriteFault

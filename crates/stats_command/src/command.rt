@@ -6,17 +6,17 @@ ghost use Rattle.cloak_model.specs.Opening.{Opened, opening};
 ghost use Rattle.cloak_model.specs.Run.{first_moment, most_steps};
 ghost use Rattle.cloak_machine.specs.Standing.{StandsForMoment, steps_made};
 ghost use Rattle.command_words.specs.Request.{asked_of_stats};
-ghost use Rattle.outside_io.specs.Told.{SameFiles};
-ghost use Rattle.program_parts.specs.Outside.{output, outside};
+ghost use Rattle.io_traits.specs.Told.{SameFiles};
+ghost use Rattle.command_parts.specs.Outside.{output, outside};
 ghost use Rattle.stats_command.specs.Answering.{StatsAnswers};
 ghost use Rattle.stats_command.specs.Showing.{ShowsStats};
 
 use crate::counting::count_run;
 use crate::showing::show_stats;
 use cloak_machine::Machine;
+use command_parts::{Status, refuse};
 use command_words::StatsRequest;
-use outside_io::{Shelf, Sink};
-use program_parts::{Status, refuse};
+use io_traits::{Shelf, Sink};
 use run_command::{prepare_run, stop_status};
 use std::alloc::Global;
 

@@ -17,7 +17,7 @@ use cloak_machine::Machine;
 use run_command::Unheard;
 use shadow_fold::ShadowCounts;
 
-/// What a run comes to: why it ended, whether a domain ended or a resuming was refused, and its counts.
+/// What a run results in: why it ended, whether a domain ended or a resuming was refused, and its counts.
 #[derive(Drop)]
 pub struct Counted {
     pub stop: Stop,
@@ -25,7 +25,7 @@ pub struct Counted {
     pub counts: ShadowCounts,
 }
 
-/// Makes up to this many steps, and answers why the last one stopped the run, if it did.
+/// Makes up to this many steps, and returns why the last one stopped the run, if it did.
 fn run_counted(machine: &mut Machine, steps: u32) -> Option<Stop>
     requires fresh { steps_made machine.old ≡ 0 }
     requires few { steps ≤ most_steps }

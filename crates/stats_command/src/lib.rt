@@ -1,8 +1,8 @@
-//! The command `stats`: the joint run of a bundle, of which nothing but its stop and the counts of its shadow entries is
+//! The command `stats`: the joint run of a bundle, of which only its stop and the counts of its shadow entries are
 //! shown.
 //!
 //! The layer above may rely on this: `stats_command` makes the run that `run` makes of the same bundle, steps and
-//! random bytes, writes no file, and answers each status by its cause (`specs/Answering`).
+//! random bytes, writes no file, and returns each status by its cause (`specs/Answering`).
 #![tactic(auto)]
 
 mod command;

@@ -1,10 +1,10 @@
 //! The lines of a run's counts.
-ghost use Rattle.outside_io.specs.Sinks.{PutsTo};
+ghost use Rattle.io_traits.specs.Sinks.{PutsTo};
 ghost use Rattle.stats_command.specs.Showing.{stats_lines};
 
 use cloak_base::{Failed, Stop};
 use cloak_machine::{put_number, put_stop_line};
-use outside_io::Sink;
+use io_traits::Sink;
 use shadow_fold::ShadowCounts;
 
 /// Shows why a run ended, and its counts. One that failed has shown a front of it.

@@ -1,11 +1,11 @@
--- What a person is told of a status other than 0, beside what the program shows: one sentence, with the names of the files
--- where the words name them. What the words ask for is not known where there was no memory to read them.
+-- What a person is told of a status other than 0, besides what the program shows: one sentence, with the names of the
+-- files if the words name them. What the words ask for is not known if there was no memory to read them.
 use Rattle.std.specs.Prelude.{ℕ, List, [], ◌++◌, codes, decimal, Option, Some, None}
 use Rattle.command_words.specs.Command as spec
 use Rattle.command_words.specs.declared.usage_fault.UsageFault.{UsageFault}
 use Rattle.command_words.specs.declared.usage_fault.UsageFault.TheVariants as usage
-use Rattle.program_parts.specs.declared.status.Status.{Status}
-use Rattle.program_parts.specs.declared.status.Status.TheVariants as status
+use Rattle.command_parts.specs.declared.status.Status.{Status}
+use Rattle.command_parts.specs.declared.status.Status.TheVariants as status
 
 -- a file, by what it is and its name
 abbrev pub bundle_named : List ℕ → List ℕ
@@ -50,6 +50,11 @@ stream_of (Some (spec.Store names counter steps randomness)) = randomness_named 
 stream_of (Some (spec.Freeze names steps randomness)) = randomness_named randomness ++ or_vectors names.vectors_name
 stream_of (Some (spec.Thaw names steps randomness)) = randomness_named randomness
 stream_of _ = codes "the random stream"
+
+-- that the random bytes are too few: a run that is frozen has two sources of them
+abbrev pub too_few : Option spec.Asked → List ℕ
+too_few (Some (spec.Freeze names steps randomness)) = codes " have too few bytes for this run"
+too_few _ = codes " has too few bytes for this run"
 
 -- the files that a run reads
 abbrev pub sources_named : (bundle : List ℕ) → spec.Randomness → List ℕ
@@ -192,7 +197,7 @@ cause_of asked status.BadBundle = bundle_of asked ++ fault_of_bundle asked
 cause_of asked status.ReadFault = read_of asked ++ codes " cannot be read"
 cause_of asked status.WriteFault = written_of asked ++ codes " cannot be written, and what was written before stands"
 cause_of asked status.NoMemory = codes "there is not enough memory"
-cause_of asked status.NoRandom = stream_of asked ++ codes " has too few bytes for this run"
+cause_of asked status.NoRandom = stream_of asked ++ too_few asked
 cause_of asked status.BadRecord = record_of asked ++ codes " is damaged, or is none of "
     ++ bundle_of asked ++ codes ", and the line `record` says where"
     ++ codes " (one without magic may be the rest of a frozen run, to be put after its first part)"

@@ -11,14 +11,14 @@ ghost use Rattle.command_words.specs.Command as words;
 ghost use Rattle.status_sentence.specs.Sentence as spec;
 ghost use Rattle.status_sentence.specs.Showing.{sentence_text};
 
+use command_parts::Status;
 use command_words::{FreezeFiles, Randomness, Request, StoreFiles, UsageFault};
-use program_parts::Status;
 use std::fmt;
 
 /// Why a status came.
 #[derive(Drop)]
 pub struct Sentence<'a> {
-    /// What the words ask for, where it is known.
+    /// What the words ask for, if it is known.
     pub request: Option<Request<'a>>,
     pub status: Status,
 }
@@ -69,7 +69,7 @@ fn write_cause<W: fmt::Write>(
         Status::NoMemory => f.write_str("there is not enough memory"),
         Status::NoRandom => {
             write_stream(request, f)?;
-            f.write_str(" has too few bytes for this run")
+            write_too_few(request, f)
         }
         Status::BadRecord => {
             write_record(request, f)?;
@@ -217,6 +217,20 @@ fn write_stream<W: fmt::Write>(
         }
         Some(Request::Thaw(thaw)) => write_randomness(&thaw.randomness, f),
         _ => f.write_str("the random stream"),
+    }
+}
+
+/// Writes that the random bytes are too few.
+fn write_too_few<W: fmt::Write>(
+    request: &Option<Request<'_>>,
+    f: &mut fmt::Formatter<W>,
+) -> fmt::Result
+    ensures { DisplaysOnOk W.write_str_gives f.old result
+        (Some (spec.too_few (option_map asked_of request.now))) f.new }
+{
+    match request {
+        Some(Request::Freeze(_)) => f.write_str(" have too few bytes for this run"),
+        _ => f.write_str(" has too few bytes for this run"),
     }
 }
 

@@ -35,7 +35,7 @@ const SUPERVISOR_LEAF: u32 = 0x2000_14c7;
 /// An address whose entries are the two words.
 const VA: u32 = 0x0040_1abc;
 
-/// What the walk of a page answers whose leaf is in frame 5.
+/// What the walk of a page whose leaf is in frame 5 returns.
 const IN_PAGE: Result<Walked, u32> = Ok(Walked {
     pa: 0x8000_5abc,
     pt1: Some(Frame(1)),
@@ -62,7 +62,7 @@ const UNPAGED: Result<Walked, u32> = Ok(Walked {
     pt0: None,
 });
 
-/// Leaves, and what the walk of their page answers: by mode, SUM, MXR and kind.
+/// Leaves, and what the walk of their page returns: by mode, SUM, MXR and kind.
 static LEAVES: [(&str, u32, Mode, bool, bool, Kind, Result<Walked, u32>); 21] = [
     ("a load", LEAF, Mode::U, false, false, Kind::Load, IN_PAGE),
     ("a store", LEAF, Mode::U, false, false, Kind::Store, IN_PAGE),
@@ -245,7 +245,7 @@ fn leaves_of_level_0(rt: HostRuntime) -> Result<(), Fail> {
     Ok(())
 }
 
-/// Entries of level 1, and what the walk over them answers.
+/// Entries of level 1, and what the walk over them returns.
 static ENTRIES: [(&str, u32, u32, Kind, Result<Walked, u32>); 13] = [
     ("a misaligned superpage", SATP, LEAF, Kind::Load, Err(13)),
     ("A in a pointer", SATP, 0x2000_0841, Kind::Load, Err(13)),

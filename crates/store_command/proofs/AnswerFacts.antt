@@ -1,19 +1,19 @@
--- What the command answers.
+-- What the command returns.
 use Rattle.std.proofs.Common.{◌<◌, ◌-◌, ◌^◌, ℕ, Bool, true, false, List, refl, sym, subst, inl, inr, Option}
 use Rattle.cloak_base.specs.declared.causes.Stop.{Stop}
 use Rattle.cloak_base.specs.declared.causes.Stop.TheVariants as stop
-use Rattle.outside_io.specs.Told.{SameFiles}
+use Rattle.io_traits.specs.Told.{SameFiles}
 use Rattle.command_words.specs.Command as spec
-use Rattle.program_parts.specs.declared.refusal.Refusal.{Refusal}
-use Rattle.program_parts.specs.declared.refusal.Refusal.TheVariants as refusal
-use Rattle.program_parts.specs.declared.status.Status.{Status}
-use Rattle.program_parts.specs.declared.status.Status.TheVariants as status
-use Rattle.program_parts.specs.NoRun.{NoRun, IsRefused}
-use Rattle.program_parts.specs.Outside.{Outside}
-use Rattle.program_parts.specs.Refusal.{status_of_refusal}
-use Rattle.program_parts.specs.Refusing.{Refuses}
-use Rattle.program_parts.specs.Storing.{AsksStored, StoreSources}
-use Rattle.program_parts.proofs.FaultFacts.{raised}
+use Rattle.command_parts.specs.declared.refusal.Refusal.{Refusal}
+use Rattle.command_parts.specs.declared.refusal.Refusal.TheVariants as refusal
+use Rattle.command_parts.specs.declared.status.Status.{Status}
+use Rattle.command_parts.specs.declared.status.Status.TheVariants as status
+use Rattle.command_parts.specs.NoRun.{NoRun, IsRefused}
+use Rattle.command_parts.specs.Outside.{Outside}
+use Rattle.command_parts.specs.Refusal.{status_of_refusal}
+use Rattle.command_parts.specs.Refusing.{Refuses}
+use Rattle.command_parts.specs.Storing.{AsksStored, StoreSources}
+use Rattle.command_parts.proofs.FaultFacts.{raised}
 use Rattle.run_command.specs.Running.{IsStatusOfStop, status_of, unless_refused}
 use Rattle.store_command.specs.Answering.{HasStored, KeepsFiles, StoreAnswers}
 use Rattle.store_command.specs.Leaving.{OtherThanStored}
@@ -37,7 +37,7 @@ answers_refused asked (refusal.BadState fault) before after refused = refused
 answers_refused asked (refusal.ChangedDomain domain) before after refused = refused
 answers_refused asked (refusal.ChangedFrame frame) before after refused = refused
 
--- what is answered where there is no run
+-- what is returned if there is no run
 pub answers_no_run : {S O : Type 0} {asked : spec.Asked} {r : Refusal} {before after : Outside S O} {given : Status} →
     NoRun asked r before.files after.files → before.output.faults < 2 ^ 64 - 1 →
     Refuses before.output after.output r given → StoreAnswers asked before after given

@@ -10,7 +10,7 @@ use Rattle.store_command.specs.Leaving.{with_disk}
 use Rattle.store_command.specs.Preparing.{disk_at}
 use Rattle.store_command.specs.Writing.{with_bytes_at}
 
--- the header of a bundle, with so many blocks, and what stands after it
+-- the header of a bundle, with this many blocks, and what stands after it
 headed : ℕ → ℕ → Bundle → List ℕ → List ℕ
 headed version blocks b rest =
     let k = b.kernel in

@@ -8,7 +8,7 @@ use Rattle.cloak_model.specs.StoredFiles.{StoredFile, IsStore}
 use Rattle.cloak_model.specs.StoreFault.{largest_store, store_fault}
 use Rattle.cloak_model.specs.declared.fault.StoreFault.{StoreFault}
 use Rattle.cloak_model.specs.declared.fault.StoreFault.TheVariants.{Form}
-use Rattle.program_parts.specs.Storing.{secret_length}
+use Rattle.command_parts.specs.Storing.{secret_length}
 
 -- a secret file that is too short
 pub too_short : (told : Option (List ℕ)) (front : List ℕ) → IfSome told (λ file. front ≡ take secret_length file) →

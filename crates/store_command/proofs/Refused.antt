@@ -1,6 +1,6 @@
 -- Why there is no run over cloaked files.
 use Rattle.std.proofs.Common.{◌≡◌, ◌<◌, ◌-◌, ◌^◌, ◌∙◌, ℕ, List, Option, IfSome, Err, refl, subst, inl, inr}
-use Rattle.outside_io.specs.Told.{SameFiles}
+use Rattle.io_traits.specs.Told.{SameFiles}
 use Rattle.cloak_base.specs.Random.{Random}
 use Rattle.cloak_machine.specs.Standing.{OpensStored}
 use Rattle.cloak_model.specs.declared.image.Bundle.{Bundle}
@@ -9,15 +9,15 @@ use Rattle.cloak_model.specs.StoreFault.{store_fault}
 use Rattle.joint_machine.specs.declared.opened.StoredFault.{StoredFault}
 use Rattle.joint_machine.specs.declared.opened.StoredFault.TheVariants as fault
 use Rattle.command_words.specs.Command as spec
-use Rattle.program_parts.specs.declared.refusal.Refusal.{Refusal}
-use Rattle.program_parts.specs.declared.refusal.Refusal.TheVariants as refusal
-use Rattle.program_parts.specs.NoRun.{NoRun}
-use Rattle.program_parts.specs.Outside.{FilesOutside}
-use Rattle.program_parts.specs.Storing as given
-use Rattle.program_parts.specs.Storing.{AsksStored, IsOld, IsSecret, StoreSources, secret_length}
-use Rattle.program_parts.specs.Bundles.{IsInFileAs}
-use Rattle.program_parts.specs.Streams.{IsStream}
-use Rattle.program_parts.proofs.Refused.{no_file}
+use Rattle.command_parts.specs.declared.refusal.Refusal.{Refusal}
+use Rattle.command_parts.specs.declared.refusal.Refusal.TheVariants as refusal
+use Rattle.command_parts.specs.NoRun.{NoRun}
+use Rattle.command_parts.specs.Outside.{FilesOutside}
+use Rattle.command_parts.specs.Storing as given
+use Rattle.command_parts.specs.Storing.{AsksStored, IsOld, IsSecret, StoreSources, secret_length}
+use Rattle.command_parts.specs.Bundles.{IsInFileAs}
+use Rattle.command_parts.specs.Streams.{IsStream}
+use Rattle.command_parts.proofs.Refused.{no_file}
 use Rattle.run_command.proofs.PrepareFacts.{stream_before}
 use Rattle.store_command.specs.declared.secret.Secret.{Secret}
 use Rattle.store_command.specs.Preparing.{ReadsOld, ReadsSecret, refused_by}
@@ -25,11 +25,12 @@ use Rattle.std.specs.Prelude.{length, Some}
 
 -- the secret was not read
 pub no_secret : {S : Type 0} (names : spec.StoreNames) (counter steps : ℕ) (randomness : spec.Randomness) (r : Refusal)
-    (before after : FilesOutside S) (told : Option (List ℕ)) (reading : ℕ) → told ≡ before.held names.secret_name →
+    (before after : FilesOutside S) (told : Option (List ℕ)) (reading version : ℕ) (bytes : List ℕ) (bundle : Bundle) →
+    IsInFileAs version (before.held names.bundle) bytes bundle → told ≡ before.held names.secret_name →
     reading ≡ before.reading → ReadsSecret told reading after.reading (Err r) → before.reading < 2 ^ 64 - 1 →
     SameFiles before.held after.held → after.writing ≡ before.writing →
     NoRun (spec.Store names counter steps randomness) r before after
-no_secret {S} names counter steps randomness refusal.ShortSecret before after told reading is same reads low held writing =
+no_secret {S} names counter steps randomness refusal.ShortSecret before after told reading version bytes bundle file is same reads low held writing =
     record {
       cause = record {
         names = names;
@@ -37,35 +38,40 @@ no_secret {S} names counter steps randomness refusal.ShortSecret before after to
         steps = steps;
         randomness = randomness;
         store = refl;
+        version = version;
+        bytes = bytes;
+        bundle = bundle;
+        file = file;
         short = subst (λ (t : Option (List ℕ)). IfSome t (λ bytes. length bytes < secret_length)) is reads.1;
         reading = reads.0 ∙ same;
       };
       held = held;
       writing = writing;
     }
-no_secret {S} names counter steps randomness refusal.ReadFault before after told reading is same reads low held writing =
+no_secret {S} names counter steps randomness refusal.ReadFault before after told reading version bytes bundle file is same reads low held writing =
     no_file Secret refusal.ReadFault before after reading refl same reads low held writing
-no_secret {S} names counter steps randomness refusal.NoMemory before after told reading is same reads low held writing =
+no_secret {S} names counter steps randomness refusal.NoMemory before after told reading version bytes bundle file is same reads low held writing =
     no_file Secret refusal.NoMemory before after reading refl same reads low held writing
-no_secret {S} names counter steps randomness (refusal.Usage fault) before after told reading is same reads low held writing = absurd reads
-no_secret {S} names counter steps randomness (refusal.BadBundle fault) before after told reading is same reads low held writing = absurd reads
-no_secret {S} names counter steps randomness refusal.NoKey before after told reading is same reads low held writing = absurd reads
-no_secret {S} names counter steps randomness refusal.NoPageDraw before after told reading is same reads low held writing = absurd reads
-no_secret {S} names counter steps randomness refusal.NoSuchDomain before after told reading is same reads low held writing = absurd reads
-no_secret {S} names counter steps randomness (refusal.BadStore fault) before after told reading is same reads low held writing = absurd reads
-no_secret {S} names counter steps randomness (refusal.NoRoom domain) before after told reading is same reads low held writing = absurd reads
-no_secret {S} names counter steps randomness (refusal.BadState fault) before after told reading is same reads low held writing = absurd reads
-no_secret {S} names counter steps randomness (refusal.ChangedDomain domain) before after told reading is same reads low held writing = absurd reads
-no_secret {S} names counter steps randomness (refusal.ChangedFrame frame) before after told reading is same reads low held writing = absurd reads
+no_secret {S} names counter steps randomness (refusal.Usage fault) before after told reading version bytes bundle file is same reads low held writing = absurd reads
+no_secret {S} names counter steps randomness (refusal.BadBundle fault) before after told reading version bytes bundle file is same reads low held writing = absurd reads
+no_secret {S} names counter steps randomness refusal.NoKey before after told reading version bytes bundle file is same reads low held writing = absurd reads
+no_secret {S} names counter steps randomness refusal.NoPageDraw before after told reading version bytes bundle file is same reads low held writing = absurd reads
+no_secret {S} names counter steps randomness refusal.NoSuchDomain before after told reading version bytes bundle file is same reads low held writing = absurd reads
+no_secret {S} names counter steps randomness (refusal.BadStore fault) before after told reading version bytes bundle file is same reads low held writing = absurd reads
+no_secret {S} names counter steps randomness (refusal.NoRoom domain) before after told reading version bytes bundle file is same reads low held writing = absurd reads
+no_secret {S} names counter steps randomness (refusal.BadState fault) before after told reading version bytes bundle file is same reads low held writing = absurd reads
+no_secret {S} names counter steps randomness (refusal.ChangedDomain domain) before after told reading version bytes bundle file is same reads low held writing = absurd reads
+no_secret {S} names counter steps randomness (refusal.ChangedFrame frame) before after told reading version bytes bundle file is same reads low held writing = absurd reads
 
 -- what an earlier run left was not read
 pub no_old : {S : Type 0} (names : spec.StoreNames) (counter steps : ℕ) (randomness : spec.Randomness) (r : Refusal)
-    (before after : FilesOutside S) (told : Option (List ℕ)) (reading : ℕ) (secret : given.Secret)
-    (table : List StoredFile) → IsSecret (before.held names.secret_name) secret → told ≡ before.held names.old_name →
+    (before after : FilesOutside S) (told : Option (List ℕ)) (reading version : ℕ) (bytes : List ℕ) (bundle : Bundle)
+    (secret : given.Secret) (table : List StoredFile) → IsInFileAs version (before.held names.bundle) bytes bundle →
+    IsSecret (before.held names.secret_name) secret → told ≡ before.held names.old_name →
     reading ≡ before.reading → ReadsOld told secret.mac counter reading after.reading table (Err r) →
     before.reading < 2 ^ 64 - 1 → SameFiles before.held after.held → after.writing ≡ before.writing →
     NoRun (spec.Store names counter steps randomness) r before after
-no_old {S} names counter steps randomness (refusal.BadStore fault) before after told reading secret table has is same reads low held writing =
+no_old {S} names counter steps randomness (refusal.BadStore fault) before after told reading version bytes bundle secret table file has is same reads low held writing =
     record {
       cause = record {
         names = names;
@@ -73,6 +79,10 @@ no_old {S} names counter steps randomness (refusal.BadStore fault) before after 
         steps = steps;
         randomness = randomness;
         store = refl;
+        version = version;
+        bytes = bytes;
+        bundle = bundle;
+        file = file;
         not_first = reads.1.0;
         secret = secret;
         is_secret = has;
@@ -83,20 +93,20 @@ no_old {S} names counter steps randomness (refusal.BadStore fault) before after 
       held = held;
       writing = writing;
     }
-no_old {S} names counter steps randomness refusal.ReadFault before after told reading secret table has is same reads low held writing =
+no_old {S} names counter steps randomness refusal.ReadFault before after told reading version bytes bundle secret table file has is same reads low held writing =
     no_file Unit refusal.ReadFault before after reading refl same reads low held writing
-no_old {S} names counter steps randomness refusal.NoMemory before after told reading secret table has is same reads low held writing =
+no_old {S} names counter steps randomness refusal.NoMemory before after told reading version bytes bundle secret table file has is same reads low held writing =
     no_file Unit refusal.NoMemory before after reading refl same reads low held writing
-no_old {S} names counter steps randomness (refusal.Usage fault) before after told reading secret table has is same reads low held writing = absurd reads
-no_old {S} names counter steps randomness (refusal.BadBundle fault) before after told reading secret table has is same reads low held writing = absurd reads
-no_old {S} names counter steps randomness refusal.NoKey before after told reading secret table has is same reads low held writing = absurd reads
-no_old {S} names counter steps randomness refusal.NoPageDraw before after told reading secret table has is same reads low held writing = absurd reads
-no_old {S} names counter steps randomness refusal.NoSuchDomain before after told reading secret table has is same reads low held writing = absurd reads
-no_old {S} names counter steps randomness refusal.ShortSecret before after told reading secret table has is same reads low held writing = absurd reads
-no_old {S} names counter steps randomness (refusal.NoRoom domain) before after told reading secret table has is same reads low held writing = absurd reads
-no_old {S} names counter steps randomness (refusal.BadState fault) before after told reading secret table has is same reads low held writing = absurd reads
-no_old {S} names counter steps randomness (refusal.ChangedDomain domain) before after told reading secret table has is same reads low held writing = absurd reads
-no_old {S} names counter steps randomness (refusal.ChangedFrame frame) before after told reading secret table has is same reads low held writing = absurd reads
+no_old {S} names counter steps randomness (refusal.Usage fault) before after told reading version bytes bundle secret table file has is same reads low held writing = absurd reads
+no_old {S} names counter steps randomness (refusal.BadBundle fault) before after told reading version bytes bundle secret table file has is same reads low held writing = absurd reads
+no_old {S} names counter steps randomness refusal.NoKey before after told reading version bytes bundle secret table file has is same reads low held writing = absurd reads
+no_old {S} names counter steps randomness refusal.NoPageDraw before after told reading version bytes bundle secret table file has is same reads low held writing = absurd reads
+no_old {S} names counter steps randomness refusal.NoSuchDomain before after told reading version bytes bundle secret table file has is same reads low held writing = absurd reads
+no_old {S} names counter steps randomness refusal.ShortSecret before after told reading version bytes bundle secret table file has is same reads low held writing = absurd reads
+no_old {S} names counter steps randomness (refusal.NoRoom domain) before after told reading version bytes bundle secret table file has is same reads low held writing = absurd reads
+no_old {S} names counter steps randomness (refusal.BadState fault) before after told reading version bytes bundle secret table file has is same reads low held writing = absurd reads
+no_old {S} names counter steps randomness (refusal.ChangedDomain domain) before after told reading version bytes bundle secret table file has is same reads low held writing = absurd reads
+no_old {S} names counter steps randomness (refusal.ChangedFrame frame) before after told reading version bytes bundle secret table file has is same reads low held writing = absurd reads
 
 -- there was no memory
 pub no_memory : {S : Type 0} (asked : spec.Asked) (before after : FilesOutside S) → after.reading ≡ before.reading →

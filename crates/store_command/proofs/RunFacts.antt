@@ -19,10 +19,11 @@ use Rattle.cloak_machine.specs.declared.end.End.{End}
 use Rattle.cloak_machine.specs.declared.machine.Machine.{Machine}
 use Rattle.command_words.specs.Command as spec
 use Rattle.disk_law.proofs.Runs.{disk_stays}
-use Rattle.program_parts.specs.Storing.{AreFiles}
+use Rattle.command_parts.specs.Storing.{AreFiles}
 use Rattle.run_command.specs.Running.{BeginsRun, MadeAll, NoClash, first_pieces, moment_behind}
 use Rattle.run_command.proofs.Lawful.{is_lawful}
-use Rattle.run_command.proofs.RunFacts.{emits_as, emits_then}
+use Rattle.run_command.proofs.RunFacts.{emits_as}
+use Rattle.cloaked_side.proofs.Emitting.{emits_then}
 use Rattle.store_command.specs.declared.prepare.Left.{Left}
 use Rattle.store_command.specs.declared.prepare.Prepared.{Prepared}
 use Rattle.store_command.specs.Leaving.{first_due}

@@ -5,8 +5,8 @@ use Rattle.std.proofs.lemmas.List.{append-nil}
 use Rattle.cloak_base.specs.declared.causes.Failed.{Failed}
 use Rattle.cloak_base.specs.declared.causes.Stop.{Stop}
 use Rattle.cloak_base.specs.declared.causes.Stop.TheVariants as stop
-use Rattle.outside_io.specs.Told.{Counts, Tells, Grows, GrowsByFront, OtherFiles, Puts}
-use Rattle.outside_io.proofs.ToldFacts.{Grows-append, Grows-none, Tells_after, Rose-after}
+use Rattle.io_traits.specs.Told.{Counts, Tells, Grows, GrowsByFront, OtherFiles, Puts}
+use Rattle.io_traits.proofs.ToldFacts.{Grows-append, Grows-none, Tells_after, Rose-after}
 use Rattle.cloak_model.specs.Beginning.{AreContents}
 use Rattle.cloak_model.specs.Bundle.{bundle_bytes}
 use Rattle.cloak_model.specs.Exchange.{Piece, recorded, shown, record_magic, item_pieces, recorded_bytes, shown_bytes}
@@ -16,11 +16,11 @@ use Rattle.cloak_model.specs.StoredRun.{contents_of}
 use Rattle.cloak_machine.specs.declared.end.End.{End}
 use Rattle.cloak_machine.specs.Ending.{end_is_refused, end_report}
 use Rattle.command_words.specs.Command as spec
-use Rattle.program_parts.specs.declared.status.Status.{Status}
-use Rattle.program_parts.specs.declared.status.Status.TheVariants as status
-use Rattle.program_parts.specs.Outside.{FilesOutside, NothingRose, OnlyRead, Output, Outside}
-use Rattle.program_parts.specs.Storing.{AreFiles, StoreSources}
-use Rattle.program_parts.proofs.FaultFacts.{raised, counted, failed, risen, succeeded}
+use Rattle.command_parts.specs.declared.status.Status.{Status}
+use Rattle.command_parts.specs.declared.status.Status.TheVariants as status
+use Rattle.command_parts.specs.Outside.{FilesOutside, NothingRose, OnlyRead, Output, Outside}
+use Rattle.command_parts.specs.Storing.{AreFiles, StoreSources}
+use Rattle.command_parts.proofs.FaultFacts.{raised, counted, failed, risen, succeeded}
 use Rattle.run_command.specs.Outlet.{WroteAll, WroteFront, pieces_left}
 use Rattle.run_command.specs.Recording.{GrowsSome}
 use Rattle.run_command.specs.Running.{IsStatusOfStop, status_of}

@@ -1,12 +1,12 @@
--- What `store` answers, each status with its cause.
+-- What `store` returns, each status with its cause.
 use Rattle.std.specs.Prelude.{ℕ, ◌≡◌, ◌⊎◌, List, Option}
-use Rattle.outside_io.specs.Told.{SameFiles}
+use Rattle.io_traits.specs.Told.{SameFiles}
 use Rattle.command_words.specs.Command as spec
-use Rattle.program_parts.specs.declared.status.Status.{Status}
-use Rattle.program_parts.specs.declared.status.Status.TheVariants as status
-use Rattle.program_parts.specs.NoRun.{IsRefused, LineFailed}
-use Rattle.program_parts.specs.Outside.{Outside}
-use Rattle.program_parts.specs.Storing.{AsksStored, StoreSources}
+use Rattle.command_parts.specs.declared.status.Status.{Status}
+use Rattle.command_parts.specs.declared.status.Status.TheVariants as status
+use Rattle.command_parts.specs.NoRun.{IsRefused, LineFailed}
+use Rattle.command_parts.specs.Outside.{Outside}
+use Rattle.command_parts.specs.Storing.{AsksStored, StoreSources}
 use Rattle.store_command.specs.Leaving.{OtherThanStored}
 use Rattle.store_command.specs.Recording.{StoresAll, StoresFront}
 
@@ -32,7 +32,7 @@ abbrev pub StoringBrokeOff : {S O : Type 0} → spec.Asked → Outside S O → O
 StoringBrokeOff asked before after =
     AsksFor asked before (λ names counter steps s. StoresFront names counter steps s before after)
 
--- What each status says. Its causes exclude each other; only want of memory may stand in the place of another, before
+-- What each status says. Its causes exclude each other; only want of memory may stand instead of another, before
 -- anything is written.
 abbrev pub StoreAnswers : {S O : Type 0} → spec.Asked → Outside S O → Outside S O → Status → Type 0
 StoreAnswers asked before after status.Done = HasStored asked status.Done before after

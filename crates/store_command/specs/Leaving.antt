@@ -10,11 +10,11 @@ use Rattle.cloak_model.specs.Run.{Run, due, closing_pieces, report_of, turns_pie
 use Rattle.cloak_model.specs.StoredFiles.{store_bytes, table_of}
 use Rattle.cloak_model.specs.StoredRun.{contents_of}
 use Rattle.command_words.specs.Command as spec
-use Rattle.outside_io.specs.Told.{Tells, Grows, OtherFiles}
-use Rattle.program_parts.specs.declared.status.Status.{Status}
-use Rattle.program_parts.specs.Files.{TellsFront}
-use Rattle.program_parts.specs.Outside.{Outside, Raised}
-use Rattle.program_parts.specs.Storing.{StoreSources}
+use Rattle.io_traits.specs.Told.{Tells, Grows, OtherFiles}
+use Rattle.command_parts.specs.declared.status.Status.{Status}
+use Rattle.command_parts.specs.Files.{TellsFront}
+use Rattle.command_parts.specs.Outside.{Outside, Raised}
+use Rattle.command_parts.specs.Storing.{StoreSources}
 use Rattle.run_command.specs.Outlet.{Cut, pieces_left, FailedAt}
 use Rattle.run_command.specs.Running.{run_status}
 
@@ -64,7 +64,7 @@ pub record LeavesAll {S O : Type 0} (names : spec.StoreNames) (counter : ℕ) (s
   pub stored : r.stop ≢ stop.NoRandom → HasFiles names counter s r after.files.held
   pub unstored : r.stop ≡ stop.NoRandom → OtherFiles names.record_name before.files.held after.files.held
 
--- Where writing broke off, nothing more was done.
+-- When writing broke off, nothing more was done.
 
 -- the record could not be begun: it has its bytes, or none
 pub record BeginsNoRecord {S O : Type 0} (names : spec.StoreNames) (before after : Outside S O) : Type 0 where
@@ -74,7 +74,7 @@ pub record BeginsNoRecord {S O : Type 0} (names : spec.StoreNames) (before after
   pub untouched : after.output ≡ before.output
   pub writing : Raised before.files.writing after.files.writing
 
--- in the record or on the console: of the one list of what is due first both have what is left where it is cut at one
+-- in the record or on the console: both have what is left of the one list of what is due first when it is cut at one
 -- place
 pub record BreaksOffFirst {S O : Type 0} (names : spec.StoreNames) (r : Run) (before after : Outside S O) : Type 0 where
   pub cut : Cut (first_due r)

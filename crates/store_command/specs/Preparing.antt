@@ -11,17 +11,17 @@ use Rattle.cloak_model.specs.StoreFault.{largest_store, store_fault}
 use Rattle.cloak_machine.specs.Standing.{OpensStored, StandsForMoment, placings_of}
 use Rattle.cloak_machine.specs.declared.machine.Machine.{Machine}
 use Rattle.command_words.specs.Command as spec
-use Rattle.item_law.specs.Writing.{IsOfBytes, IsStreamOfBytes}
+use Rattle.range_law.specs.Writing.{IsOfBytes, IsStreamOfBytes}
 use Rattle.joint_machine.specs.declared.opened.StoredFault.{StoredFault}
 use Rattle.joint_machine.specs.declared.opened.StoredFault.TheVariants as fault
 use Rattle.joint_machine.specs.Placings.{placing}
-use Rattle.program_parts.specs.declared.refusal.Refusal.{Refusal}
-use Rattle.program_parts.specs.declared.refusal.Refusal.TheVariants as refusal
-use Rattle.program_parts.specs.Files.{ReadsFile}
-use Rattle.program_parts.specs.NoRun.{NoRun}
-use Rattle.program_parts.specs.Outside.{FilesOutside, OnlyRead}
-use Rattle.program_parts.specs.Storing as given
-use Rattle.program_parts.specs.Storing.{AsksStored, IsOld, IsSecret, StoreSources, secret_length}
+use Rattle.command_parts.specs.declared.refusal.Refusal.{Refusal}
+use Rattle.command_parts.specs.declared.refusal.Refusal.TheVariants as refusal
+use Rattle.command_parts.specs.Files.{ReadsFile}
+use Rattle.command_parts.specs.NoRun.{NoRun}
+use Rattle.command_parts.specs.Outside.{FilesOutside, OnlyRead}
+use Rattle.command_parts.specs.Storing as given
+use Rattle.command_parts.specs.Storing.{AsksStored, IsOld, IsSecret, StoreSources, secret_length}
 use Rattle.store_command.specs.declared.prepare.Left.{Left}
 use Rattle.store_command.specs.declared.prepare.Prepared.{Prepared}
 use Rattle.store_command.specs.declared.secret.Secret.{Secret}

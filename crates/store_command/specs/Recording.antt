@@ -5,10 +5,10 @@ use Rattle.cloak_model.specs.Beginning.{Stored}
 use Rattle.cloak_model.specs.Run.{Run, run_from}
 use Rattle.cloak_model.specs.StoredFiles.{FileContents}
 use Rattle.command_words.specs.Command as spec
-use Rattle.program_parts.specs.declared.status.Status.{Status}
-use Rattle.program_parts.specs.declared.status.Status.TheVariants as status
-use Rattle.program_parts.specs.Outside.{FilesOutside, Outside, Raised, NothingRose}
-use Rattle.program_parts.specs.Storing.{AreFiles, StoreSources}
+use Rattle.command_parts.specs.declared.status.Status.{Status}
+use Rattle.command_parts.specs.declared.status.Status.TheVariants as status
+use Rattle.command_parts.specs.Outside.{FilesOutside, Outside, Raised, NothingRose}
+use Rattle.command_parts.specs.Storing.{AreFiles, StoreSources}
 use Rattle.run_command.specs.Answering.{IsLawful}
 use Rattle.run_command.specs.Recording.{FailedSome, GrowsSome}
 use Rattle.run_command.specs.Running.{IsStatusOfStop, NoClash}
@@ -21,8 +21,8 @@ abbrev pub run_over : StoreSources → ℕ → List FileContents → Run → Mad
 run_over s steps files r =
     record { bundle = s.bundle; from = Stored s.secret.keys s.stream files; budget = steps; run = r }
 
--- The run over files of these contents: it is lawful; if it goes on over the files of a chain of runs, it gives what was
--- stored last in all of them; and where no pages clashed in it, this became of what is due of it.
+-- The run over files of these contents: it is lawful; if it goes on over the files of a chain of runs, it gives what
+-- was stored last in all of them; and if no pages clashed in it, this became of what is due from it.
 pub record RunsOver (s : StoreSources) (steps : ℕ) (Leaves : Run → Type 0) (files : List FileContents) : Type 0 where
   pub made : Run
   pub runs : run_from s.bundle (Stored s.secret.keys s.stream files) steps ≡ Ok made
@@ -59,7 +59,7 @@ Stores names counter steps s before after given =
     StoresAll names counter steps s given before after
     ⊎ ((given ≡ status.WriteFault) × StoresFront names counter steps s before after)
 
--- What making a run that was prepared answers, seen from before its files were read.
+-- What making a run that was prepared returns, seen from before its files were read.
 abbrev pub StoresPrepared : {S O : Type 0} → spec.StoreNames → (counter steps : ℕ) → spec.Randomness → Prepared →
     Outside S O → Outside S O → Status → Type 0
 StoresPrepared {S} {O} names counter steps randomness prepared now after given =

@@ -14,8 +14,8 @@ use Rattle.cloak_machine.specs.declared.end.End.{End}
 use Rattle.cloak_machine.specs.Ending.{end_is_refused, end_report}
 use Rattle.cloak_machine.specs.Standing.{FinishesAs}
 use Rattle.command_words.specs.Command as spec
-use Rattle.outside_io.specs.Told.{Rose, Tells, OtherFiles}
-use Rattle.program_parts.specs.Outside.{FilesOutside, Outside}
+use Rattle.io_traits.specs.Told.{Rose, Tells, OtherFiles}
+use Rattle.command_parts.specs.Outside.{FilesOutside, Outside}
 use Rattle.run_command.specs.Outlet.{Writes}
 use Rattle.store_command.specs.declared.prepare.Left.{Left}
 use Rattle.store_command.specs.Leaving.{HasOldOrFront, first_due}

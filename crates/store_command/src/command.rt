@@ -3,8 +3,8 @@ ghost use Rattle.std.specs.Prelude.{◌≡◌, ◌<◌, ◌-◌, ◌^◌, ◌++�
 ghost use Rattle.cloak_machine.specs.Ending.{end_report};
 ghost use Rattle.cloak_machine.specs.Standing.{steps_made};
 ghost use Rattle.command_words.specs.Request.{asked_of_store, names_of, randomness_of};
-ghost use Rattle.outside_io.specs.Sinks.{PutsTo};
-ghost use Rattle.program_parts.specs.Outside.{outside};
+ghost use Rattle.io_traits.specs.Sinks.{PutsTo};
+ghost use Rattle.command_parts.specs.Outside.{outside};
 ghost use Rattle.store_command.specs.Answering.{KeepsFiles, StoreAnswers};
 ghost use Rattle.store_command.specs.Preparing.{CanEnd};
 ghost use Rattle.store_command.specs.Recording.{StoresPrepared};
@@ -14,9 +14,9 @@ use crate::prepare::{Prepared, prepare_stored};
 use crate::run::record_first;
 use cloak_base::Failed;
 use cloak_machine::End;
+use command_parts::{Status, refuse};
 use command_words::StoreRequest;
-use outside_io::{Shelf, Sink, put_all};
-use program_parts::{Status, refuse};
+use io_traits::{Shelf, Sink, put_all};
 use run_command::stop_status;
 use std::alloc::Global;
 

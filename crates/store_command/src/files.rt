@@ -3,14 +3,14 @@ ghost use Rattle.std.specs.Prelude.{◌≡◌, ◌≢◌, ◌≤◌, length};
 ghost use Rattle.cloak_model.specs.StoredFiles.{store_bytes};
 ghost use Rattle.cloak_model.specs.StoreFault.{largest_store};
 ghost use Rattle.command_words.specs.Request.{names_of};
-ghost use Rattle.program_parts.specs.Outside.{files as files_of};
+ghost use Rattle.command_parts.specs.Outside.{files as files_of};
 ghost use Rattle.store_command.specs.Writing.{LeavesFiles, WritesFiles};
 
 use crate::prepare::Left;
 use cloak_base::{Failed, Stop};
+use command_parts::write_file;
 use command_words::StoreFiles;
-use outside_io::Shelf;
-use program_parts::write_file;
+use io_traits::Shelf;
 use sealed_store::write_store;
 
 /// Writes the store file with this counter, and then the bundle.

@@ -1,18 +1,18 @@
 //! A run over cloaked files that can begin, from the files that the words name.
 ghost use Rattle.std.specs.Prelude.{◌≡◌, ◌<◌, ◌-◌, ◌^◌, [], IfOk};
-ghost use Rattle.outside_io.specs.Told.{SameFiles};
+ghost use Rattle.io_traits.specs.Told.{SameFiles};
 ghost use Rattle.cloak_machine.specs.Standing.{steps_made};
 ghost use Rattle.command_words.specs.Request.{names_of, randomness_of};
-ghost use Rattle.program_parts.specs.Outside.{files};
+ghost use Rattle.command_parts.specs.Outside.{files};
 ghost use Rattle.store_command.specs.Preparing.{CanEnd, PreparesStored, ReadsOld, ReadsSecret, refused_by};
 
 use crate::place::disk_place;
 use crate::secret::{SECRET_LENGTH, Secret};
 use cloak_machine::{Machine, StoredFault};
 use cloak_model::Bundle;
+use command_parts::{Refusal, read_bundle_with_bytes, read_front};
 use command_words::StoreRequest;
-use outside_io::Shelf;
-use program_parts::{Refusal, read_bundle_with_bytes, read_front};
+use io_traits::Shelf;
 use protect_meta::FileTable;
 use run_command::{image_is_of_bytes, open_stream};
 use sealed_store::{LONGEST_STORE, read_store};

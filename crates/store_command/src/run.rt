@@ -9,7 +9,7 @@ ghost use Rattle.cloak_model.specs.Run.{closing, most_steps, run_of};
 ghost use Rattle.cloak_machine.specs.Standing.{StandsForMoment, steps_made};
 ghost use Rattle.run_command.specs.Outlet.{Gave};
 ghost use Rattle.run_command.specs.Running.{NoClash};
-ghost use Rattle.program_parts.specs.Outside.{outside};
+ghost use Rattle.command_parts.specs.Outside.{outside};
 ghost use Rattle.store_command.specs.Preparing.{CanEnd, IsOpened};
 ghost use Rattle.store_command.specs.Writing.{EndsUnless, Finishes, KeepsRoom, RecordsFirst, WritesFirst, WritesSome};
 
@@ -17,7 +17,7 @@ use crate::prepare::Left;
 use cloak_base::Stop;
 use cloak_machine::{End, Machine};
 use exchange_log::LONGEST;
-use outside_io::{Shelf, Sink};
+use io_traits::{Shelf, Sink};
 use run_command::{Outlet, RecordPen, write_steps};
 
 /// Ends a run, and notes what its files hold, and its disk.
@@ -42,8 +42,8 @@ fn finish<S: Shelf, O: Sink>(
     machine.finish_stored(stop, outlet, &mut left.table, disk)
 }
 
-/// Writes record and console of a run whose record is begun. At its end it notes what the files hold, and the disk. Answers
-/// how the run ended, and nothing if writing failed.
+/// Writes record and console of a run whose record is begun. At its end it notes what the files hold, and the disk.
+/// Returns how the run ended, and nothing if writing failed.
 fn write_first<S: Shelf, O: Sink>(
     machine: Machine,
     steps: u32,

@@ -1,7 +1,7 @@
 //! The secret file: five keys of 16 bytes.
 ghost use Rattle.std.specs.Prelude.{◌≡◌, ◌≤◌, ◌+◌, All, length, take, drop};
 ghost use Rattle.aes_block.specs.Bytes.{IsBytes};
-ghost use Rattle.program_parts.specs.Storing.{secret_length, secret_of};
+ghost use Rattle.command_parts.specs.Storing.{secret_length, secret_of};
 ghost use Rattle.store_command.specs.Preparing.{keys_of};
 
 /// The length of what is taken of a secret file.

@@ -8,7 +8,7 @@
 //!
 //! The laws hold of the run of every bundle, also of one that no file spells, from whatever beginning.
 //!
-//! No body turns a law, so there is no wrong body to refuse here. These changes were tried on a copy, and with none
+//! No body changes a law, so there is no wrong body to refuse here. These changes were tried on a copy, and with none
 //! of them did the proofs go through. Of the definitions: a completed load stands before the earlier ones; the end of
 //! a program drops its loads; a run goes on after the step that stopped it. Of a thawed run: it begins with the
 //! console as it was; its steps are numbered from 1; its Close tells the steps since the thawing. Of the law: the

@@ -7,7 +7,7 @@ use Rattle.std.specs.List.{list_any}
 use Rattle.cloak_model.specs.Contexts.{Context, end_at}
 use Rattle.cloak_model.specs.Fork.{is_of_space}
 
--- those before the slot, and those behind it
+-- those before the slot, and those after it
 split : (space slot : ℕ) (contexts : List (Option Context)) → slot < length contexts
     → list_any (is_of_space space) (end_at slot contexts) ≡ (list_any (is_of_space space) (take slot contexts) || list_any (is_of_space space) (take (length contexts - (slot + 1)) (drop (slot + 1) contexts)))
 split space slot contexts inside =

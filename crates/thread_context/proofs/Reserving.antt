@@ -1,4 +1,4 @@
--- Reservations of contexts, where no context has one and where those of a word end.
+-- Reservations of contexts, when no context has one and when those of a word end.
 use Rattle.std.proofs.Common.{◌≡◌, ◌+◌, ◌≤◌, ◌<◌, ◌∙◌, ℕ, zero, suc, Bool, true, false, ◌||◌, List, [], ◌∷◌, Option, Some, None, refl, ap, sym, length, map, replicate, slice_index_or, slice_set, add-one, arith}
 use Rattle.std.specs.Prelude.{is_some}
 use Rattle.std.specs.List.{list_any}

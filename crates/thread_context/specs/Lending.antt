@@ -1,4 +1,4 @@
--- What the slots end as, where one of them is lent.
+-- What the slots end as, if one of them is lent.
 use Rattle.std.specs.Prelude.{ℕ, List, Option, slice_set}
 use Rattle.std.specs.Borrow.{Lends, MutBor, Fml}
 use Rattle.std.specs.contracts.option.Option as option

@@ -1,11 +1,11 @@
--- What the tools answer as they end.
+-- What the tools return as they end.
 use Rattle.std.proofs.Common.{◌≡◌, ◌∙◌, ◌⊎◌, Bool, true, false, refl, sym, inl, inr, Result, is_err}
 use Rattle.cloak_base.specs.declared.causes.Failed.{Failed}
-use Rattle.outside_io.specs.Told.{Counts, Rose, SameFiles}
-use Rattle.program_parts.specs.Outside.{Outside}
-use Rattle.program_parts.specs.declared.status.Status.{Status}
-use Rattle.program_parts.specs.declared.status.Status.TheVariants as status
-use Rattle.program_parts.proofs.FaultFacts.{counted, risen}
+use Rattle.io_traits.specs.Told.{Counts, Rose, SameFiles}
+use Rattle.command_parts.specs.Outside.{Outside}
+use Rattle.command_parts.specs.declared.status.Status.{Status}
+use Rattle.command_parts.specs.declared.status.Status.TheVariants as status
+use Rattle.command_parts.proofs.FaultFacts.{counted, risen}
 use Rattle.tool_commands.specs.ToolExiting.{LineAnswers, ToolsExit}
 use Rattle.tool_commands.specs.declared.line.CommandLine.{CommandLine}
 
@@ -17,7 +17,7 @@ pub record WritesOut {S O : Type 0} (files shown : Result Unit Failed) (done aft
   pub writing : Counts done.files.writing after.files.writing files
   pub faults : Counts done.output.faults after.output.faults shown
 
--- where both succeeded, the answer stands
+-- if both succeeded, the answer stands
 pub ends : {S O : Type 0} {line : CommandLine} {before done after : Outside S O} {answer : Status}
     (files shown : Result Unit Failed) → LineAnswers line before done answer → WritesOut files shown done after →
     is_err files ≡ false → is_err shown ≡ false → ToolsExit line before after answer
@@ -38,7 +38,7 @@ ends {S} {O} {line} {before} {done} {after} {answer} files shown answers w writt
   );
 }
 
--- where one of them failed, a count rose
+-- if one of them failed, a count rose
 count_rose : {S O : Type 0} (files shown : Result Unit Failed) (unwritten unseen : Bool) (done after : Outside S O) →
     WritesOut files shown done after → unwritten ≡ is_err files → unseen ≡ is_err shown →
     (unwritten ≡ true) ⊎ ((unwritten ≡ false) × (unseen ≡ true)) →

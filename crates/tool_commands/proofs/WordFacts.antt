@@ -2,8 +2,8 @@
 use Rattle.std.proofs.Common.{◌≡◌, ℕ, List, Option, inl, inr, subst, string_bytes}
 use Rattle.record_text.specs.declared.selection.Selection.{Selection}
 use Rattle.clap.specs.Walk.{Text}
-use Rattle.program_parts.specs.Outside.{Outside}
-use Rattle.program_parts.specs.declared.status.Status.{Status}
+use Rattle.command_parts.specs.Outside.{Outside}
+use Rattle.command_parts.specs.declared.status.Status.{Status}
 use Rattle.tool_words.specs.ToolRequest.{ReadsTool, tool_asked_of}
 use Rattle.tool_words.specs.declared.request.ToolWords.{ToolWords}
 use Rattle.tool_words.specs.declared.request.ToolWords.TheVariants.{Asks, Help, Faulty}

@@ -45,11 +45,11 @@ joined_kinds a b = record {
   ended = a.ended || b.ended;
 }
 
--- kinds with those of one name more, where there are some of this name
+-- kinds with those of one more name, if there are some of this name
 abbrev pub with_name : Option Kinds → List ℕ → Option Kinds
 with_name kinds name = option_and_then (λ so_far. option_map (joined_kinds so_far) (kinds_named name)) kinds
 
--- the kinds of all names, where each means some
+-- the kinds of all names, if each means some
 abbrev pub kinds_of_names : List (List ℕ) → Option Kinds
 kinds_of_names names = fold with_name (Some no_kind) names
 

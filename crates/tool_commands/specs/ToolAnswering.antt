@@ -1,6 +1,6 @@
--- What the tools answer, by what the words ask for.
+-- How the tools answer, by what the words ask for.
 use Rattle.std.specs.Prelude.{ℕ, ◌≡◌, ◌⊎◌, true, List, Option, Some, None, codes, string_bytes}
-use Rattle.outside_io.specs.Told.{SameFiles}
+use Rattle.io_traits.specs.Told.{SameFiles}
 use Rattle.clap.specs.Walk.{Text}
 use Rattle.asm_text.specs.Commanded.{AsmAnswers}
 use Rattle.manifest.specs.Packing.{PackAnswers}
@@ -8,11 +8,11 @@ use Rattle.record_text.specs.Reading.{never_unfit, record_text}
 use Rattle.record_text.specs.declared.selection.Selection.{Selection}
 use Rattle.read_back.specs.Reading.{ShowsRecord}
 use Rattle.run_story.specs.Answering.{ExplainAnswers}
-use Rattle.program_parts.specs.Outside.{Outside}
-use Rattle.program_parts.specs.Refusing.{Refuses}
-use Rattle.program_parts.specs.declared.refusal.Refusal.TheVariants as refusal
-use Rattle.program_parts.specs.declared.status.Status.{Status}
-use Rattle.program_parts.specs.declared.status.Status.TheVariants as status
+use Rattle.command_parts.specs.Outside.{Outside}
+use Rattle.command_parts.specs.Refusing.{Refuses}
+use Rattle.command_parts.specs.declared.refusal.Refusal.TheVariants as refusal
+use Rattle.command_parts.specs.declared.status.Status.{Status}
+use Rattle.command_parts.specs.declared.status.Status.TheVariants as status
 use Rattle.tool_words.specs.ToolCommand.{ToolAsked, Asm, Pack, Show, Explain, AreFaulty, AreNotTaken, AsksTool}
 use Rattle.tool_words.specs.ToolRequest.{tool_asked_of}
 use Rattle.tool_words.specs.declared.request.ToolWords.{ToolWords}
@@ -40,7 +40,7 @@ pub record ExplainsRun {S O : Type 0} (bundle_name record_name : List ℕ) (befo
   pub kept : SameFiles before.files.held after.files.held
   pub writing : after.files.writing ≡ before.files.writing
 
--- What the tools answer to what is asked of them.
+-- How the tools answer what is asked of them.
 abbrev pub ToolAnswers : {S O : Type 0} → ToolAsked → Outside S O → Outside S O → Status → Type 0
 ToolAnswers (Asm text_name words_name) before after answer = AsmAnswers text_name words_name before after answer
 ToolAnswers (Pack manifest bundle_name) before after answer = PackAnswers manifest bundle_name before after answer
@@ -48,7 +48,7 @@ ToolAnswers (Show record_name from to only counts) before after answer =
     ShowAnswers (selection_asked from to only counts) record_name before after answer
 ToolAnswers (Explain bundle_name record_name) before after answer = ExplainsRun bundle_name record_name before after answer
 
--- what they answer to what was read of words
+-- how they answer what was read of words
 abbrev pub ReadAnswers : {S O : Type 0} → ToolWords → Outside S O → Outside S O → Status → Type 0
 ReadAnswers (Asks request) before after answer = ToolAnswers (tool_asked_of request) before after answer
 ReadAnswers (Help text) before after answer = Says (string_bytes text) status.Done before after answer
@@ -70,7 +70,7 @@ pub record LacksToolMemory {S O : Type 0} (before after : Outside S O) (answer :
   pub line : Refuses before.output after.output refusal.NoMemory answer
   pub untouched : after.files ≡ before.files
 
--- What the tools answer to words, of which the first is the program's name.
+-- How the tools answer words, of which the first is the program's name.
 abbrev pub WordsAnswers : {S O : Type 0} → List Text → Outside S O → Outside S O → Status → Type 0
 WordsAnswers words before after answer =
     DoesAsked words before after answer

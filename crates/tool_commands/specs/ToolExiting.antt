@@ -1,9 +1,9 @@
--- What the tools answer as they end.
+-- What the tools return as they end.
 use Rattle.std.specs.Prelude.{◌≡◌, ◌⊎◌, List, ℕ, codes, map, string_bytes}
-use Rattle.outside_io.specs.Told.{Rose, SameFiles}
-use Rattle.program_parts.specs.Outside.{Outside, NothingRose}
-use Rattle.program_parts.specs.declared.status.Status.{Status}
-use Rattle.program_parts.specs.declared.status.Status.TheVariants as status
+use Rattle.io_traits.specs.Told.{Rose, SameFiles}
+use Rattle.command_parts.specs.Outside.{Outside, NothingRose}
+use Rattle.command_parts.specs.declared.status.Status.{Status}
+use Rattle.command_parts.specs.declared.status.Status.TheVariants as status
 use Rattle.tool_commands.specs.ToolSaying.{Says}
 use Rattle.tool_commands.specs.ToolAnswering.{LacksToolMemory, WordsAnswers}
 use Rattle.tool_commands.specs.declared.line.CommandLine.{CommandLine}
@@ -18,8 +18,8 @@ LineAnswers (Taken words) before after answer = WordsAnswers (map string_bytes w
 LineAnswers NotText before after answer = Says not_text_line status.Usage before after answer
 LineAnswers NoMemory before after answer = LacksToolMemory before after answer
 
--- What was answered to a command line; then what is gathered was written out, and the answer is given, or, where that
--- failed, the write fault.
+-- What was answered to a command line; then what was gathered is written out, and the answer is returned, or the write
+-- fault if that failed.
 pub record ToolsExit {S O : Type 0} (line : CommandLine) (before after : Outside S O) (given : Status) : Type 0 where
   pub done : Outside S O
   pub answer : Status

@@ -1,9 +1,9 @@
 -- The tools say a text, and do nothing else.
 use Rattle.std.specs.Prelude.{◌≡◌, ◌⊎◌, List, ℕ}
-use Rattle.outside_io.specs.Told.{Grows, GrowsByFront, Rose}
-use Rattle.program_parts.specs.Outside.{Outside, Output}
-use Rattle.program_parts.specs.declared.status.Status.{Status}
-use Rattle.program_parts.specs.declared.status.Status.TheVariants as status
+use Rattle.io_traits.specs.Told.{Grows, GrowsByFront, Rose}
+use Rattle.command_parts.specs.Outside.{Outside, Output}
+use Rattle.command_parts.specs.declared.status.Status.{Status}
+use Rattle.command_parts.specs.declared.status.Status.TheVariants as status
 
 -- the text was shown, and this status is the answer
 pub record TextIsShown {O : Type 0} (text : List ℕ) (meant : Status) (before after : Output O) (answer : Status) : Type 0 where

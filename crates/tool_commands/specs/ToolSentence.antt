@@ -1,7 +1,7 @@
 -- What is said on standard error of a status.
 use Rattle.std.specs.Prelude.{ℕ, List, [], codes}
-use Rattle.program_parts.specs.declared.status.Status.{Status}
-use Rattle.program_parts.specs.declared.status.Status.TheVariants as status
+use Rattle.command_parts.specs.declared.status.Status.{Status}
+use Rattle.command_parts.specs.declared.status.Status.TheVariants as status
 
 abbrev pub tool_sentence : Status → List ℕ
 tool_sentence status.Usage = codes "tools: the words are faulty (tools help says which there are)\n"

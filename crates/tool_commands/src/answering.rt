@@ -1,15 +1,15 @@
 //! What is done by the words.
 ghost use Rattle.std.specs.Prelude.{map, string_bytes};
-ghost use Rattle.program_parts.specs.Outside.{outside};
+ghost use Rattle.command_parts.specs.Outside.{outside};
 ghost use Rattle.tool_words.specs.ToolRequest.{asked_of_show, tool_asked_of};
 ghost use Rattle.tool_commands.specs.ToolAnswering.{ReadAnswers, ToolAnswers, WordsAnswers};
 
 use crate::choosing::selection_asked;
 use crate::saying::say;
 use asm_text::asm_command;
+use command_parts::{Refusal, Status, refuse};
+use io_traits::{Shelf, Sink};
 use manifest::pack_command;
-use outside_io::{Shelf, Sink};
-use program_parts::{Refusal, Status, refuse};
 use record_text::show_command;
 use run_story::explain_command;
 use std::alloc::Global;

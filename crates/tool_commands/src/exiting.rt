@@ -1,13 +1,13 @@
 //! All that the tools do, over any files and any output.
 ghost use Rattle.std.specs.Prelude.{◌≢◌};
-ghost use Rattle.program_parts.specs.Outside.{outside};
+ghost use Rattle.command_parts.specs.Outside.{outside};
 ghost use Rattle.tool_commands.specs.ToolExiting.{LineAnswers, ToolsExit};
 
 use crate::answering::obey;
 use crate::line::CommandLine;
 use crate::saying::say;
-use outside_io::{Shelf, Sink};
-use program_parts::{Refusal, Status, refuse};
+use command_parts::{Refusal, Status, refuse};
+use io_traits::{Shelf, Sink};
 use std::alloc::Global;
 
 /// Does what a command line asks for.

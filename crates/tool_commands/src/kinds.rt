@@ -4,7 +4,7 @@ ghost use Rattle.tool_commands.specs.KindNames as spec;
 
 use record_text::Kinds;
 
-/// The kinds of a name, where it has some.
+/// The kinds of a name, if it has some.
 fn kinds_named(name: &str) -> Option<Kinds>
     ensures { result ≡ spec.kinds_named name.now }
 {
@@ -43,7 +43,7 @@ fn joined(a: Kinds, b: Kinds) -> Kinds
     }
 }
 
-/// The kinds of all names, where each has some.
+/// The kinds of all names, if each has some.
 pub fn kinds_of_names(names: &[&str]) -> Option<Kinds>
     ensures { result ≡ spec.kinds_of_names (map (λ name. name.now) names.now) }
 {

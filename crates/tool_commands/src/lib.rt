@@ -1,9 +1,9 @@
 //! The commands of the tools for people who make guest images and read records: what is done by the words, and what is
 //! answered.
 //!
-//! `run_tools` is all of it over any command line, files and output; `specs/ToolAnswering` says what each command answers:
-//! `asm` (`asm_text`), `pack` (`manifest`), `show` (`record_text`) and `explain` (`run_story`). `sentence` is what is said of
-//! a status on standard error.
+//! `run_tools` is all of it over any command line, files and output; `specs/ToolAnswering` says how each command
+//! answers: `asm` (`asm_text`), `pack` (`manifest`), `show` (`record_text`) and `explain` (`run_story`). `sentence` is
+//! what is said of a status on standard error.
 #![tactic(auto)]
 
 mod answering;

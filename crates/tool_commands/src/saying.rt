@@ -1,11 +1,11 @@
 //! A text that the tools say.
-ghost use Rattle.program_parts.specs.Outside.{output};
+ghost use Rattle.command_parts.specs.Outside.{output};
 ghost use Rattle.tool_commands.specs.ToolSaying.{ShowsText};
 
-use outside_io::{Sink, put_all};
-use program_parts::Status;
+use command_parts::Status;
+use io_traits::{Sink, put_all};
 
-/// Shows a text, and answers a status, or the write fault.
+/// Shows a text, and returns a status, or the write fault.
 pub fn say<O: Sink>(out: &mut O, text: &[u8], status: Status) -> Status
     ensures { ShowsText text.now status (output O.Sink out.old) (output O.Sink out.new) result }
 {

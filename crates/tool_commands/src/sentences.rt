@@ -2,7 +2,7 @@
 ghost use Rattle.std.specs.Prelude.{◌≡◌};
 ghost use Rattle.tool_commands.specs.ToolSentence.{tool_sentence};
 
-use program_parts::Status;
+use command_parts::Status;
 
 /// What is said of a status; nothing of one that says that all was done.
 pub fn sentence(status: Status) -> &'static str

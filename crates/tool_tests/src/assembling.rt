@@ -2,8 +2,8 @@
 
 use crate::checks::same;
 use asm_text::asm_command;
-use outside_io::{MemoryShelf, MemorySink};
-use program_parts::Status;
+use command_parts::Status;
+use io_traits::{MemoryShelf, MemorySink};
 use std::alloc::Global;
 use std::test::*;
 

@@ -1,8 +1,8 @@
 //! Lines over a text, a manifest and a record, from the words to the files and the output.
 
 use crate::checks::{holds, same};
-use outside_io::{MemoryShelf, MemorySink};
-use program_parts::Status;
+use command_parts::Status;
+use io_traits::{MemoryShelf, MemorySink};
 use std::alloc::Global;
 use std::test::*;
 use tool_commands::{CommandLine, run_tools};

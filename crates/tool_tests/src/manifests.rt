@@ -1,9 +1,9 @@
 //! A manifest that means a bundle, and some that do not.
 
 use crate::checks::same;
+use command_parts::Status;
+use io_traits::{MemoryShelf, MemorySink};
 use manifest::pack_command;
-use outside_io::{MemoryShelf, MemorySink};
-use program_parts::Status;
 use std::alloc::Global;
 use std::test::*;
 

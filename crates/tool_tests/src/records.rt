@@ -1,8 +1,8 @@
 //! Records as they are shown. The bytes of the records are those of the table of the format.
 
 use crate::checks::same;
-use outside_io::{MemoryShelf, MemorySink};
-use program_parts::Status;
+use command_parts::Status;
+use io_traits::{MemoryShelf, MemorySink};
 use record_text::{Kinds, Selection, show_command};
 use std::alloc::Global;
 use std::test::*;
@@ -16,7 +16,7 @@ const ALL: Selection = Selection {
 };
 
 /// A resume, two answers, a store and a call; a leave for a page fault; a question that ends its program, and the leave
-/// behind that.
+/// after that.
 const ITEMS: &[u8] = b"CLOAKREC\
 \x10\x01\0\0\0\x24\0\0\0\0\0\x02\0\0\0\
 \x10\x02\0\0\0\x20\0\x20\0\x02\x10\x80\0\x80\x01\x41\0\0\0\

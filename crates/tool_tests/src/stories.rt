@@ -2,8 +2,8 @@
 //! kernels and the rules of the record; what a frame shows is not enciphered, but the same byte throughout.
 
 use crate::checks::same;
-use outside_io::{MemoryShelf, MemorySink};
-use program_parts::Status;
+use command_parts::Status;
+use io_traits::{MemoryShelf, MemorySink};
 use run_story::explain_command;
 use std::alloc::Global;
 use std::test::*;
@@ -26,7 +26,7 @@ struct Case {
 
 /// `context 0 of program 0 is resumed with answer 0`
 const RESUMED: &[u8] = b"\x24\0\0\0\0\0\0\0\0\0";
-/// A leave for an illegal instruction, behind the grant of its fetch.
+/// A leave for an illegal instruction, after the grant of its fetch.
 const ILLEGAL: &[u8] =
     b"\x20\0\x03\x02\0\0\0\0\0\0\0\0\0\0\0\0\0\0\0\0\0\0\0\0\0\0\0\0\0\0\0\0\0\0\0\0\0\0\0\0\0\0\0";
 /// The grants of a fetch and of dropping what a space had, and the leave of an EXIT.
@@ -144,7 +144,7 @@ const MOVES: &[u32] = &[
 /// `lui x17,0x4F560`; `ecall`
 const RESUMES: &[u32] = &[0x4f56_08b7, 0x0000_0073];
 
-/// Sets the trap's vector to the handler behind it and resumes, as the handler does: `auipc x6,0`; `addi x6,x6,20`;
+/// Sets the trap's vector to the handler after it and resumes, as the handler does: `auipc x6,0`; `addi x6,x6,20`;
 /// `csrrw x0,0x105,x6`; `lui x17,0x4F560`; `ecall`; and `lui x17,0x4F560`; `ecall`
 const RESUMES_AGAIN: &[u32] = &[
     0x0000_0317,

@@ -27,7 +27,7 @@ is_step digits =
     nat_lt 0 (length digits)
     && (list_all (λ d. nat_lt (digit_value d) 10) digits && nat_lt (digits_value 10 digits) (2 ^ 32))
 
--- a step, or another where the text is none (the command takes no such text)
+-- a step, or another if the text is none (the command takes no such text)
 abbrev pub step_or : ℕ → List ℕ → ℕ
 step_or otherwise text =
     if is_step (without_leading_plus text) then digits_value 10 (without_leading_plus text) else otherwise

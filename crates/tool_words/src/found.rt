@@ -8,7 +8,7 @@ ghost use Rattle.tool_words.specs.ToolRequest.{names_of};
 use clap::ArgMatches;
 use std::alloc::{AllocError, Global};
 
-/// The text of a position or an option, where it was given.
+/// The text of a position or an option, if it was given.
 pub fn given_text<'a>(matches: &ArgMatches<'a>, name: &str) -> Option<&'a str>
     ensures { option_copied result ≡ first_of name.now (rows_of (found_of matches.now)) }
 {
@@ -32,7 +32,7 @@ fn names_in<'a>(alloc: Global, text: &'a str) -> Result<Vec<&'a str>, AllocError
     text.split(',').collect(alloc)
 }
 
-/// The names that an option gives, where it was given.
+/// The names that an option gives, if it was given.
 pub fn given_names<'a>(
     alloc: Global,
     matches: &ArgMatches<'a>,
@@ -47,7 +47,7 @@ pub fn given_names<'a>(
     }
 }
 
-/// The step that an option names, or another where it is not given.
+/// The step that an option names, or another if it is not given.
 pub fn step_named(matches: &ArgMatches<'_>, name: &str, otherwise: u32) -> u32
     ensures { result ≡ spec.step_named name.now otherwise (rows_of (found_of matches.now)) }
 {

@@ -2,7 +2,7 @@
 //! or help.
 //!
 //! `specs/ToolCommand` says what is asked, over what `clap` says of a simple command. The layer above may rely on this:
-//! `read_tool_words` gives exactly what the words ask for, and a text exactly where `clap` has a fault of them.
+//! `read_tool_words` returns exactly what the words ask for, and a text exactly if `clap` finds a fault in them.
 #![tactic(auto)]
 
 mod form;

@@ -1,4 +1,4 @@
-//! What the words come to.
+//! What the words result in.
 ghost use Rattle.std.specs.Prelude.{◌≡◌, IfOk, map, string_bytes};
 ghost use Rattle.clap.specs.Words.{found_of, kind_of, rows_of};
 ghost use Rattle.tool_words.specs.ToolCommand as spec;
@@ -52,7 +52,7 @@ fn asked_with<'a>(
     }
 }
 
-/// What words come to that are not taken, or nothing for want of memory.
+/// What words that are not taken result in, or nothing for want of memory.
 fn not_taken<'a>(alloc: Global, error: &Error) -> Result<ToolWords<'a>, NoMemory>
     ensures { IfOk result (SaysFault (kind_of error.now)) }
 {

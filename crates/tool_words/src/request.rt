@@ -1,6 +1,6 @@
 //! What is asked of the tools.
 
-/// What of a record is to be shown.
+/// What must be shown of a record.
 #[derive(Drop)]
 pub struct ShowRequest<'a> {
     pub record_name: &'a str,
@@ -8,9 +8,9 @@ pub struct ShowRequest<'a> {
     pub from: u32,
     /// The last step.
     pub to: u32,
-    /// Names of kinds of items; where there are none, all items are meant.
+    /// Names of kinds of items; if there are none, all items are meant.
     pub only: Option<Vec<&'a str>>,
-    /// How many items there are of each kind, in the place of the items.
+    /// How many items there are of each kind, instead of the items.
     pub counts: bool,
 }
 
@@ -32,7 +32,7 @@ pub enum ToolRequest<'a> {
     },
 }
 
-/// What the words come to.
+/// What the words result in.
 #[derive(Drop)]
 pub enum ToolWords<'a> {
     Asks(ToolRequest<'a>),

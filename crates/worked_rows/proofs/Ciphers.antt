@@ -102,7 +102,7 @@ value_in-with_value_in page value long low =
     rw (drop_at (take 20 page) (take 4 (to_le_bytes w32 value) ++ drop 24 page) 20
     (length-take-le 20 page (omega arith))) (from_le_bytes-to_le_bytes_4 value low)
 
--- a word as a signed load of four bytes gives it
+-- a word as a signed load of four bytes returns it
 extended-word : (word : ℕ) → word < 2 ^ 32 → extended true 4 word ≡ word
 extended-word word low =
     elim (has_bit word 31) as

@@ -101,7 +101,7 @@ unfoldable pub program_steps : Unit {0}
 unfolding told_steps ask_pages.ask_reach
 program_steps = tt
 
--- steps of a program by itself, with pages of zeros
+-- steps of a program alone, with pages of zeros
 unfoldable pub program_runs : Unit {0}
 unfolding program_steps runs.run pages.zero_page
 program_runs = tt

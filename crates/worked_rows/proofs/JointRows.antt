@@ -2,6 +2,7 @@
 use Rattle.std.proofs.Common.{◌≡◌, ℕ, ◌-◌, ◌*◌, refl, true, false, List, [], ◌∷◌, ◌++◌, Option, Some, None, ◌∙◌, ap}
 use Rattle.std.specs.Prelude.{Result, Ok, replicate, drop, length, if◌then◌else◌}
 use Rattle.std.specs.List.{flat_map}
+use Rattle.std.specs.Result.{result_map_both}
 use Rattle.std.specs.Str.{bytes_eq}
 use Rattle.cloak_base.specs.Pages.{zero_page, with_page, is_of}
 use Rattle.cloak_base.specs.Random.{Random, handed}
@@ -10,11 +11,12 @@ use Rattle.cloak_base.specs.declared.names.Kind.TheVariants.{Fetch}
 use Rattle.cloak_base.specs.declared.names.SpaceId.{SpaceId}
 use Rattle.cloak_model.specs.declared.answer.Answer.{Answer}
 use Rattle.cloak_model.specs.declared.answer.Answer.TheVariants as told
+use Rattle.cloak_model.specs.declared.image.Bundle.{Bundle}
 use Rattle.cloak_model.specs.declared.item.Item.TheVariants as item
 use Rattle.cloak_model.specs.Bits.{word}
 use Rattle.cloak_model.specs.Bundle as bundle
 use Rattle.cloak_model.specs.BundleFault as faults
-use Rattle.cloak_model.specs.Cloaking.{CloakedMemory, with_comparison}
+use Rattle.cloak_model.specs.Cloaking.{CloakedMemory, is_clash, with_comparison}
 use Rattle.cloak_model.specs.Contexts.{Context, with_space}
 use Rattle.cloak_model.specs.Exchange as exchange
 use Rattle.cloak_model.specs.Fields as fields
@@ -26,52 +28,62 @@ use Rattle.cloak_model.specs.Opening.{Lack, Opened, opening, numbers_below, keys
 use Rattle.cloak_model.specs.Asking.{Told}
 use Rattle.cloak_model.specs.Parts.{Joint}
 use Rattle.cloak_model.specs.Run as run
-use Rattle.cloak_model.specs.Run.{Run, run_of_turns, turns_from}
+use Rattle.cloak_model.specs.Run.{Run, joint_run, run_of_turns, turns_from}
 use Rattle.cloak_model.specs.World.{Cloaked}
-use Rattle.worked_rows.specs.Images.{keyed_program, keyed_image, halt, boot, flip_and_resume, look_and_resume, remap_and_resume, resume_words, exit_words, image_of, page_with, words_page}
+use Rattle.worked_rows.specs.Images.{keyed_program, keyed_image, image, halt, boot, flip_and_resume, look_and_resume, remap_and_resume, resume_words, exit_words, image_of, page_with, words_page}
 use Rattle.worked_rows.specs.Runs.{running, registers_from}
 use Rattle.worked_rows.specs.JointRuns.{one_key, seen, seen_of, read_off, counted, key, draw_1, draw_2, csrs_of, inside_hart, outside_hart}
-use Rattle.worked_rows.specs.JointRows.{whole_image, whole_items, other_opening, other_closing, OtherKey, opening_cipher, closing_cipher, program_with, started_context, not_started, answered_context, gone_program, shown_exit, whole, WholeRun, ThreeDraws, TwoDraws, OtherRoot, AfterExit, FlippedBit, NothingFlipped}
-use Rattle.worked_rows.proofs.Ciphers.{length-cbc, length-record_of, IsBytes-cbc, IsBytes-computed, flipped_word, flipped-differs}
+use Rattle.worked_rows.specs.JointRows.{whole_image, whole_items, other_opening, other_closing, OtherKey, opening_cipher, closing_cipher, program_with, started_context, not_started, answered_context, gone_program, shown_exit, whole, WholeRun, ThreeDraws, TwoDraws, OtherRoot, AfterExit, flipped_frame, FlippedBit, NothingFlipped}
+use Rattle.worked_rows.proofs.Ciphers.{length-cbc, length-record_of, IsBytes-cbc, IsBytes-computed, flipped-differs}
 use Rattle.worked_rows.proofs.Computing.{joint_steps, joint_runs}
 use Rattle.worked_rows.proofs.Offers.{refused_events, reach-shown, reach-changed}
 use Rattle.worked_rows.proofs.Turns.{first_turns, moment_after, goes_on, plus, turns_from-step, turns_from-plus}
 use Rattle.worked_rows.proofs.Whole.{Begun, first_shown, page, ram_of, plain_of, bare_root, opened_memory, resumed_memory, stored_page, stored_plain, first_hart, program_hart, machine, at_step, opened_moment, left_moment, fetched_step, cloak_for, fetch_granted, joint_step-of, turns_from-boot, turns_to_call, turns_from-call}
 
--- Runs of a program of one page, by the words of its kernel behind the boot.
-
-abbrev opened : List ℕ → List ℕ → Begun → Opened
+-- Runs of a program of one page, by the words of its kernel after the boot.
+abbrev pub opened : List ℕ → List ℕ → Begun → Opened
 opened bytes rest begun =
     record {
       joint = machine first_hart (program_with not_started []) (opened_memory bytes rest begun);
       items = item.Cipher 8 (first_shown begun bytes) ∷ [];
     }
 
--- what stands in the kernel's frame behind its boot
-abbrev behind_boot : List ℕ → List ℕ
+-- what stands in the kernel's frame after its boot
+abbrev pub behind_boot : List ℕ → List ℕ
 behind_boot words = flat_map word words ++ replicate (4076 - 4 * length words) 0
 
 -- what a run whose program has key 0 draws of the counted bytes as it begins
-abbrev behind_draw : ℕ → Begun
+abbrev pub behind_draw : ℕ → Begun
 behind_draw n = record { keys = one_key; draw = draw_1; stream = handed (drop 32 (numbers_below n)) }
 
 -- what is read off a run that there is
-abbrev there_is : {A : Type 0} → A → Result A Lack
+abbrev pub there_is : {A : Type 0} → A → Result A Lack
 there_is a = Ok a
 
 -- the run from the program's call on
-abbrev run_from_call : List ℕ → Begun → ℕ → Run
+abbrev pub run_from_call : List ℕ → Begun → ℕ → Run
 run_from_call rest begun n =
     run_of_turns (opened words_page rest begun) (turns_to_call rest begun (turns_from n (left_moment rest begun)))
+
+-- the run of a bundle that is opened so
+pub runs-opened : (b : Bundle) (stream : Random) (n : ℕ) (o : Opened) → opening b stream ≡ Ok o →
+    joint_run b stream n ≡ there_is (run_of_turns o (turns_from n (run.first_moment b o.joint)))
+unfolding run.run_of
+runs-opened b stream n o opens = rw opens refl
+
+pub runs-from_call : (number : ℕ) (words : List ℕ) (stream : Random) (rest : List ℕ) (begun : Begun) (n : ℕ)
+    → opening (keyed_image number words) stream ≡ Ok (opened words_page rest begun)
+    → joint_run (keyed_image number words) stream (plus 12 n) ≡ there_is (run_from_call rest begun n)
+runs-from_call number words stream rest begun n opens =
+    runs-opened (keyed_image number words) stream (plus 12 n) (opened words_page rest begun) opens
+    ∙ ap (λ (ts : List Turn). there_is (run_of_turns (opened words_page rest begun) ts)) (turns_from-call rest begun n)
 
 read_off-from_call : {A : Type 0} (what : Run → A) (number : ℕ) (words : List ℕ) (stream : Random) (rest : List ℕ)
     (begun : Begun) (n : ℕ) → opening (keyed_image number words) stream ≡ Ok (opened words_page rest begun)
     → read_off what (keyed_image number words) stream (plus 12 n) ≡ there_is (what (run_from_call rest begun n))
-unfolding run.run_of
 read_off-from_call what number words stream rest begun n opens =
-    rw opens refl
-    ∙ ap (λ (ts : List Turn). there_is (what (run_of_turns (opened words_page rest begun) ts)))
-    (turns_from-call rest begun n)
+    ap (λ (r : Result Run Lack). result_map_both what (λ (lack : Lack). lack) r)
+    (runs-from_call number words stream rest begun n opens)
 
 -- The kernel halts.
 
@@ -81,7 +93,7 @@ halts : {A : Type 0} (what : Run → A) (number n : ℕ) (begun : Begun) → ope
 halts what number n begun opens =
     read_off-from_call what number (boot ++ halt) (counted n) (behind_boot halt) begun 88 opens
 
-halted : seen_of (run_from_call (behind_boot halt) (behind_draw 256) 88) ≡ whole
+pub halted : seen_of (run_from_call (behind_boot halt) (behind_draw 256) 88) ≡ whole
 unfolding joint_runs turns_to_call
 halted = refl
 
@@ -150,10 +162,10 @@ abbrev loads : List (ℕ × ℕ)
 loads = (0x80008100, 7) ∷ []
 
 -- a hart that runs the program again
-abbrev second_hart : Hart
+abbrev pub second_hart : Hart
 second_hart = inside_hart 0 (csrs_of 0x80000014 0x00001000 8 0)
 
--- the page tables of spaces behind the second resume, which records the same one again
+-- the page tables of the spaces after the second resume, which records the same one again
 abbrev again_root : SpaceId → Option ℕ
 again_root = with_space bare_root (record { domain = 0; number = 0 }) (Some 0)
 
@@ -176,8 +188,8 @@ looked_memory rest shown = record {
   marks = None ∷ [];
 }
 
--- behind step 18
-abbrev looked_moment : List ℕ → List ℕ → Moment
+-- after step 18
+abbrev pub looked_moment : List ℕ → List ℕ → Moment
 looked_moment rest shown =
     at_step 18 (machine second_hart (program_with answered_context loads) (looked_memory rest shown))
 
@@ -191,7 +203,7 @@ unfolding joint_runs goes_on
 look_goes_on = refl
 
 -- step 19: the fetch is granted, and what it finds is no instruction
-abbrev look_turn : Turn
+abbrev pub look_turn : Turn
 look_turn = quiet
     (machine (outside_hart 0x80000014 (replicate 32 0) (csrs_of 0x80000014 0x00001000 2 0))
     (program_with (record answered_context { on = None }) loads)
@@ -222,8 +234,8 @@ look_turns =
     ∙ ap (λ (ts : List Turn). first_turns 6 (left_moment (behind_boot look_and_resume) (behind_draw 256)) ++ ts)
     (turns_from-step 0 (looked_moment (behind_boot look_and_resume) closing_cipher) look_turn look_step refl)
 
--- the whole run with these steps behind the call
-abbrev run_with : List ℕ → List Turn → Run
+-- the whole run, with these steps after the call
+abbrev pub run_with : List ℕ → List Turn → Run
 run_with words turns =
     run_of_turns (opened words_page (behind_boot words) (behind_draw 256))
     (turns_to_call (behind_boot words) (behind_draw 256) turns)
@@ -236,12 +248,8 @@ nothing_flipped =
     ∙ ap (λ (ts : List Turn). there_is (seen_of (run_with look_and_resume ts))) look_turns
     ∙ refl
 
--- the frame with the flipped bit
-abbrev flipped : List ℕ
-flipped = with_value_in closing_cipher 20 4 (flipped_word closing_cipher)
-
 flip : moment_after 6 (left_moment (behind_boot flip_and_resume) (behind_draw 256)) ≡
-    looked_moment (behind_boot flip_and_resume) flipped
+    looked_moment (behind_boot flip_and_resume) flipped_frame
 unfolding joint_runs moment_after
 flip = refl
 
@@ -249,7 +257,7 @@ flip_goes_on : goes_on 6 (left_moment (behind_boot flip_and_resume) (behind_draw
 unfolding joint_runs goes_on
 flip_goes_on = refl
 
-flipped_is_other : bytes_eq flipped closing_cipher ≡ false
+flipped_is_other : bytes_eq flipped_frame closing_cipher ≡ false
 flipped_is_other =
     flipped-differs closing_cipher
     (IsBytes-cbc key draw_2 stored_page (IsBytes-computed 16 key refl refl) (IsBytes-computed 16 draw_2 refl refl)
@@ -259,12 +267,12 @@ flipped_is_other =
 flip_met : Turn
 flip_met = record
     (quiet (machine second_hart (program_with answered_context loads)
-    (with_comparison flipped closing_cipher (looked_memory (behind_boot flip_and_resume) flipped)))
+    (with_comparison flipped_frame closing_cipher (looked_memory (behind_boot flip_and_resume) flipped_frame)))
     (item.Stopped 0 ∷ [])) {
       violation = Some (violation.Page page (record { 0 = 8 }));
     }
 
-flip_turn : Turn
+pub flip_turn : Turn
 unfolding flip_met
 flip_turn = end_domain 0 (program_with answered_context loads) (violation.Page page (record { 0 = 8 })) flip_met
 
@@ -272,26 +280,26 @@ flip_told : Told Answer
 unfolding cloak_for
 flip_told =
     let before = cloak_for second_hart (program_with answered_context loads) answered_context
-    (looked_memory (behind_boot flip_and_resume) flipped) in
+    (looked_memory (behind_boot flip_and_resume) flipped_frame) in
     record {
       answer = told.Stopped;
       world = Cloaked (record before {
-        memory = with_comparison flipped closing_cipher (looked_memory (behind_boot flip_and_resume) flipped);
+        memory = with_comparison flipped_frame closing_cipher (looked_memory (behind_boot flip_and_resume) flipped_frame);
         items = item.Stopped 0 ∷ [];
         events = refused_events page 0x8000801C Fetch before;
         violation = Some (violation.Page page (record { 0 = 8 }));
       });
     }
 
-flip_step : joint_step (looked_moment (behind_boot flip_and_resume) flipped) ≡ flip_turn
+pub flip_step : joint_step (looked_moment (behind_boot flip_and_resume) flipped_frame) ≡ flip_turn
 unfolding joint_steps fetched_step flip_told flip_met flip_turn
 flip_step = joint_step-of 18 second_hart (program_with answered_context loads) answered_context
-    (looked_memory (behind_boot flip_and_resume) flipped) flip_turn (record {
+    (looked_memory (behind_boot flip_and_resume) flipped_frame) flip_turn (record {
       told = flip_told;
       asks = refl;
       tells = reach-changed page 0x8000801C Fetch
           (cloak_for second_hart (program_with answered_context loads) answered_context
-          (looked_memory (behind_boot flip_and_resume) flipped)) (record { bare = refl; inside = refl; drawn = refl })
+          (looked_memory (behind_boot flip_and_resume) flipped_frame)) (record { bare = refl; inside = refl; drawn = refl })
           (record { last = closing_cipher; owed = refl; owing = refl; shown = refl; other = flipped_is_other });
       ends = refl;
     })
@@ -300,7 +308,7 @@ flip_goes_on_too : stop_of flip_turn ≡ None
 unfolding joint_steps flip_met flip_turn
 flip_goes_on_too = refl
 
-flip_turns : turns_from 8 (left_moment (behind_boot flip_and_resume) (behind_draw 256)) ≡
+pub flip_turns : turns_from 8 (left_moment (behind_boot flip_and_resume) (behind_draw 256)) ≡
     first_turns 6 (left_moment (behind_boot flip_and_resume) (behind_draw 256)) ++ flip_turn ∷ turns_from 1
     (at_step 19 flip_turn.joint)
 flip_turns =
@@ -308,15 +316,36 @@ flip_turns =
     ∙ ap (λ (m : Moment). first_turns 6 (left_moment (behind_boot flip_and_resume) (behind_draw 256))
     ++ turns_from 2 m) flip
     ∙ ap (λ (ts : List Turn). first_turns 6 (left_moment (behind_boot flip_and_resume) (behind_draw 256)) ++ ts)
-    (turns_from-step 1 (looked_moment (behind_boot flip_and_resume) flipped) flip_turn flip_step flip_goes_on_too)
+    (turns_from-step 1 (looked_moment (behind_boot flip_and_resume) flipped_frame) flip_turn flip_step flip_goes_on_too)
+
+-- the step meets the violation
+pub flip_turn-meets : flip_turn.violation ≡ Some (violation.Page page (record { 0 = 8 }))
+unfolding joint_steps flip_met flip_turn
+flip_turn-meets = refl
+
+abbrev pub flip_run : Run
+flip_run =
+    run_with flip_and_resume
+    (first_turns 6 (left_moment (behind_boot flip_and_resume) (behind_draw 256)) ++ flip_turn ∷
+    turns_from 1 (at_step 19 flip_turn.joint))
+
+pub flip_runs : joint_run (image (boot ++ flip_and_resume)) (counted 256) 20 ≡ there_is flip_run
+unfolding joint_runs zero_page
+flip_runs =
+    runs-from_call 0 (boot ++ flip_and_resume) (counted 256) (behind_boot flip_and_resume) (behind_draw 256) 8 refl
+    ∙ ap (λ (ts : List Turn). there_is (run_with flip_and_resume ts)) flip_turns
+
+pub flip_steps : length flip_run.turns ≡ 20
+unfolding joint_runs first_turns turns_to_call zero_page flip_met flip_turn
+flip_steps = refl
+
+pub flip_clashes : flip_run.closed.joint.memory.ledger.clashed ≡ is_clash flipped_frame closing_cipher
+unfolding joint_runs first_turns turns_to_call zero_page flip_met flip_turn
+flip_clashes = refl
 
 pub flipped_bit : FlippedBit
 unfolding joint_runs first_turns turns_to_call zero_page flip_met flip_turn
-flipped_bit =
-    read_off-from_call seen_of 0 (boot ++ flip_and_resume) (counted 256) (behind_boot flip_and_resume)
-    (behind_draw 256) 8 refl
-    ∙ ap (λ (ts : List Turn). there_is (seen_of (run_with flip_and_resume ts))) flip_turns
-    ∙ refl
+flipped_bit = ap (λ (r : Result Run Lack). result_map_both seen_of (λ (lack : Lack). lack) r) flip_runs ∙ refl
 
 -- The program ends in its third instruction, whose fetch is compared too.
 

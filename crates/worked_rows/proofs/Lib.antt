@@ -4,3 +4,6 @@ pub mod Offers
 pub mod Turns
 pub mod Whole
 pub mod JointRows
+pub mod Meeting
+pub mod Reserving
+pub mod MetPremises

@@ -1,4 +1,4 @@
--- Offers of a page in a frame, where no frame is owed it: the frame has the bytes that were last shown of the page, or
+-- Offers of a page in a frame, when no frame is owed it: the frame has the bytes that were last shown of the page, or
 -- others.
 use Rattle.std.proofs.Common.{◌≡◌, ℕ, refl, Bool, List, [], ◌∷◌, ◌++◌, Some, None, true, false, ◌∙◌, ap}
 use Rattle.std.specs.Prelude.{Ok, slice_index_or, ◌||◌, ◌&&◌}
@@ -65,15 +65,15 @@ pub offer-changed : (q : PageId) (g : ℕ) (write : Bool) (m : CloakedMemory) (h
 unfolding cloaking.offer cloaking.settle cloaking.settle_if cloaking.unless_missed cloaking.compared
 offer-changed q g write m h = rw (h.owed, h.owing, h.shown, h.other) refl
 
--- Questions of a hart without paging, for an address of RAM, where no draw was missing.
+-- Questions of a hart without paging, for an address of RAM, when no draw was missing.
 pub record IsPlainAccess (va : ℕ) (c : Cloak) : Type 0 where
-  pub bare : has_paging c.view.satp ≡ false
+  pub bare : has_paging c.regime.satp ≡ false
   pub inside : is_in_ram c.memory.ram va ≡ true
   pub drawn : c.memory.ledger.missed ≡ false
 
 -- an access that was asked for
 abbrev pub looked : ℕ → Kind → Cloak → Cloak
-looked va kind c = record c { events = c.events ++ Look c.view.satp (inside_access (Cloaked c) va kind) ∷ [] }
+looked va kind c = record c { events = c.events ++ Look c.regime.satp (inside_access (Cloaked c) va kind) ∷ [] }
 
 -- an address leads to itself
 leads-to_itself : (va : ℕ) (kind : Kind) (c : Cloak) → IsPlainAccess va c → ask_inside_address va kind (Cloaked c) ≡
@@ -85,7 +85,7 @@ if_drawn-drawn : (next : Asking Answer) (w : World) → is_missed w ≡ false �
 unfolding if_drawn
 if_drawn-drawn next w e = rw e refl
 
--- what the offer of a page comes to
+-- what the offer of a page results in
 offer_asked : PageId → ℕ → Kind → Cloak → AfterOffer → Told Answer
 unfolding ask_pages.offered_by ask_pages.replies
 offer_asked q va kind c o =
@@ -107,7 +107,7 @@ reach-offer q va kind c p =
 -- what an offer that is granted does to translations that are known
 abbrev pub granted_events : PageId → ℕ → Kind → Cloak → List Event
 granted_events q va kind c = ((looked va kind c).events ++ events.Offer q (frame_of va) true ∷ [])
-    ++ births (taken q (frame_of va) (is_store kind) c.memory).ram c.view.satp (inside_access (Cloaked c) va kind)
+    ++ births (taken q (frame_of va) (is_store kind) c.memory).ram c.regime.satp (inside_access (Cloaked c) va kind)
     (Some q)
 
 -- and one that is not
@@ -123,7 +123,7 @@ pub reach-shown : (q : PageId) (va : ℕ) (kind : Kind) (c : Cloak) → IsPlainA
           (record c {
             memory = taken q (frame_of va) (is_store kind) c.memory;
             items = c.items
-                ++ item.Ok c.view.domain ∷ [];
+                ++ item.Ok c.regime.domain ∷ [];
             events = granted_events q va kind c;
           });
     }
@@ -139,7 +139,7 @@ pub reach-changed : (q : PageId) (va : ℕ) (kind : Kind) (c : Cloak) → IsPlai
       answer = told.Stopped;
       world = Cloaked (record c {
         memory = with_comparison (slice_index_or c.memory.ram (frame_of va) []) h.last c.memory;
-        items = c.items ++ item.Stopped c.view.domain ∷ [];
+        items = c.items ++ item.Stopped c.regime.domain ∷ [];
         events = refused_events q va kind c;
         violation = Some (violation.Page q (record { 0 = frame_of va }));
       });

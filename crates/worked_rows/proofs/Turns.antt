@@ -5,7 +5,7 @@ use Rattle.cloak_base.specs.declared.causes.Stop.{Stop}
 use Rattle.cloak_model.specs.Joint.{Moment, Turn, joint_step, after_turn, stop_of}
 use Rattle.cloak_model.specs.Run.{turns_from}
 
--- n steps, one after another, and the moment behind them
+-- n steps, one after another, and the moment after them
 unfoldable pub first_turns : ℕ → Moment → List Turn
 first_turns zero m = []
 first_turns (suc n) m = let t = joint_step m in t ∷ first_turns n (after_turn m t)

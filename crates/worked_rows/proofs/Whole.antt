@@ -1,5 +1,5 @@
--- The steps that several rows share: the kernel's boot, and the program up to its call. They are the same for all that
--- stands behind the boot, and for all keys, draws and rests of the stream.
+-- The steps that several rows share: the kernel's boot, and the program up to its call. They are the same whatever
+-- stands after the boot, and for all keys, draws and rests of the stream.
 use Rattle.std.proofs.Common.{◌≡◌, ℕ, refl, true, false, List, [], ◌∷◌, ◌++◌, Option, Some, None, ◌∙◌, ap}
 use Rattle.std.specs.Prelude.{replicate}
 use Rattle.std.specs.List.{flat_map}
@@ -182,7 +182,7 @@ fetch_granted h d c m =
           });
     }
 
--- the step as it asks, what it is told, and what it then comes to
+-- the step as it asks, what it is told, and what it then results in
 pub record IsStep (n : ℕ) (h : Hart) (d : Domain) (c : Context) (m : CloakedMemory) (t : Turn) : Type 0 where
   pub told : Told Answer
   pub asks : joint_step (at_step n (machine h d m)) ≡
@@ -298,7 +298,7 @@ second rest begun =
       ends = store_asks rest begun ∙ ap (store_step rest begun) (store_tells rest begun) ∙ store_ends rest begun;
     })
 
--- Behind the store the frame is owed its page, and nothing is compared up to the call: five steps.
+-- After the store the frame is owed its page, and nothing is compared up to the call: five steps.
 
 abbrev pub left_moment : List ℕ → Begun → Moment
 left_moment rest begun = at_step 12 (machine (called_hart 0x80000014 9) program_at_call (stored_memory rest begun))

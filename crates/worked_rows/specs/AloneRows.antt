@@ -75,7 +75,7 @@ pub record ForgedLeave : Type 0 where
   pub kernel : (lone_kernel (outward_half (map forged whole.items))).unfit ≡ Some 12
   pub inward : inward_half 0 (map forged whole.items) ≡ whole_inward
 
--- An answer that is missing is unfit, in the step that lacks it. The kernel does not see answers.
+-- A missing answer is unfit, in the step that lacks it. The kernel does not see answers.
 pub record MissingAnswer : Type 0 where
   pub program : (lone_program (inward_to_six ++ inward_from_seven)).unfit ≡ Some 6
   pub outward : outward_half (inward_to_six ++ inward_from_seven) ≡ outward_half whole_inward
@@ -98,8 +98,8 @@ lone_letter items = kernel_alone (kernel_of 1 (0 ∷ []) letter_words) items
 abbrev pub four_steps : List Item
 four_steps = item.Step 1 ∷ item.Step 2 ∷ item.Step 3 ∷ item.Step 4 ∷ []
 
--- Its record fits. A step is made when its end has been read. A step behind the one that halted is unfit, and the
--- halted one is named; so is a Put in a step of the kernel, a Leave there, and a Cipher of a frame that there is not.
+-- Its record fits. A step is made when its end has been read. A step after the one that halted is unfit, and the halted
+-- one is named. So are a Put in a step of the kernel, a Leave there, and a Cipher of a frame that does not exist.
 pub record LetterAlone : Type 0 where
   pub made : lone_letter letter.items ≡ record {
     kernel = record {

@@ -39,7 +39,7 @@ pub record TableWords : Type 0 where
   pub conditional : atomic_instruction 0x1862A42F ≡ Some (record { op = op.Sc; rd = 8; rs1 = 5; rs2 = 6; order = 0 })
   pub none : atomic_instruction 0x1062A3AF ≡ None
 
--- What is stored where 0x80000000 stood, the least of signed words, and the operand is 1.
+-- What is stored over 0x80000000, the least signed word, when the operand is 1.
 pub record Operations : Type 0 where
   pub add : combined op.Add 0x80000000 1 ≡ 0x80000001
   pub xor : combined op.Xor 0x80000000 1 ≡ 0x80000001
@@ -102,9 +102,9 @@ abbrev pub conditional_at_next : Told SteppedKernel
 conditional_at_next =
     kernel_step (record (hart_at 0 0x80000004) { regs = word_registers 0x80000804 }) [] hart_reserved.world
 
--- Hart 0 reserves the word. Behind a store by hart 1, of the 0 that stands there, its SC gives 1, and the word stays; so
--- it does behind a store of one byte of the word, behind a trap of its own, at another word, and where nothing was
--- reserved. At once, behind a store of the next word, and behind a trap of hart 1, SC gives 0 and stores. It ends the
+-- Hart 0 reserves the word. After a store by hart 1 of the 0 that stands there, its SC gives 1, and the word stays; so
+-- it does after a store of one byte of the word, after a trap of its own, at another word, and when nothing was
+-- reserved. At once, after a store of the next word, and after a trap of hart 1, SC gives 0 and stores. It ends the
 -- reservation either way.
 pub record HartReserves : Type 0 where
   pub loaded : register hart_reserved.answer.hart.regs 7 ≡ 0
@@ -137,8 +137,8 @@ conditional_in owed =
 abbrev pub sevens_cipher : List ℕ
 sevens_cipher = cbc key draw_1 (replicate 4096 7)
 
--- SC reads its word before it looks at the reservation. Where the frame is owed a page, that settles it, which writes
--- it: SC gives 1, and the frame has the ciphertext. Where it is not, SC gives 0.
+-- SC reads its word before it looks at the reservation. If the frame is owed a page, the read settles it, which writes
+-- it: SC gives 1, and the frame has the ciphertext. If it is not, SC gives 0.
 pub record SettledFrame : Type 0 where
   pub settled : register (conditional_in (Some (page 0 0))).answer.hart.regs 8 ≡ 1
   pub items : items_of (conditional_in (Some (page 0 0))).world ≡ item.Cipher 8 sevens_cipher ∷ []
@@ -170,7 +170,7 @@ two_contexts first second =
     with_child (record (context_at_word second 0x00400800) { on = Some (record { 0 = 1 }) })
     (with_first (context_at_word first 0x00400800) (started_domain 0 (small 1)))
 
--- its pages, and so many questions that are granted
+-- its pages, and these answers to its questions; or n of them, all granted
 abbrev pub with_answers : List Answer → World
 with_answers answers = alone (one_page 0 0 (page_with inside_words)) answers
 
@@ -212,7 +212,7 @@ nothing_between = stepped (0 ∷ 0 ∷ []) (two_contexts 0x00400000 0x00400008) 
 abbrev pub added_between : ProgramRun
 added_between = stepped (0 ∷ 1 ∷ 0 ∷ []) (two_contexts 0x00400000 0x0040000C) (granted_all 6)
 
--- the same where context 1 copies a byte of a READ there, a 0
+-- the same when context 1 copies a byte of a READ there, a 0
 abbrev pub copied_between : ProgramRun
 copied_between = stepped (0 ∷ 1 ∷ 0 ∷ [])
     (with_child (record
@@ -229,9 +229,9 @@ at_next_between = stepped (0 ∷ [])
     (with_first (record (context_at_word 0x00400004 0x00400804) { mark = Some shared_place })
     (two_contexts 0x00400000 0x00400000)) (granted_all 2)
 
--- Where context 1 writes the word, by a store of what stood there, by an operation, or by a byte that it copies, the SC
--- of context 0 gives 1 and stores nothing; so does an SC at another word. Where it does not write it, SC gives 0 and
--- stores. LR is told of as a load, and SC is not.
+-- If context 1 writes the word, by a store of what stood there, by an operation, or by a byte that it copies, the SC of
+-- context 0 gives 1 and stores nothing; so does an SC at another word. If it does not write it, SC gives 0 and stores.
+-- LR is told of as a load, and SC is not.
 pub record ContextReserves : Type 0 where
   pub reserved : reserved_by_first
       (stepped (0 ∷ []) (two_contexts 0x00400000 0x00400008) (granted_all 2)).domain ≡ Some shared_place
@@ -254,7 +254,7 @@ trapped = stepped (0 ∷ 0 ∷ []) (two_contexts 0x00400000 0x00400008)
 abbrev pub behind_own_trap : ProgramRun
 behind_own_trap = stepped (0 ∷ []) (resumed_first 0 0 trapped.domain) (granted_all 2)
 
--- the kernel has no page for a fetch of context 1, in the place of its store
+-- instead of its store, context 1 makes a fetch for which the kernel has no page
 abbrev pub behind_other_trap : ProgramRun
 behind_other_trap = stepped (0 ∷ 1 ∷ 0 ∷ []) (two_contexts 0x00400000 0x00400008)
     (with_answers (told.Ok ∷ told.Ok ∷ told.Absent 12 ∷ told.Ok ∷ told.Ok ∷ []))
@@ -336,7 +336,7 @@ adding_machine = record {
   refused = 0;
 }
 
--- the machine behind so many steps under a schedule
+-- the machine after n steps under a schedule
 abbrev pub added_by : List ℕ → ℕ → Joint
 added_by schedule n =
     joint_after adding_machine (turns_from n (record { schedule = schedule; steps = 0; joint = adding_machine }))
@@ -353,9 +353,9 @@ loaded_by slot j = register (context_in_slot slot (first_domain j)).regs 7
 abbrev pub loads_of : List ℕ → List (ℕ × ℕ)
 loads_of values = map (λ value. (0x80008800, value)) values
 
--- Each context adds 1 three times. Where the harts take turns, the step behind these six is a load of the first, which
--- finds 6. Where the second hart makes two steps for each of the first, it loads a 5 before the first one's last
--- addition, and both load a 6 behind it.
+-- Each context adds 1 three times. If the harts take turns, the step after these six is a load of the first, which
+-- finds 6. If the second hart makes two steps for each of the first, it loads a 5 before the first one's last addition,
+-- and both load a 6 after it.
 pub record Sums : Type 0 where
   pub by_turns : loaded_by 0 (added_by (0 ∷ 1 ∷ []) 7) ≡ 6
   pub loads_by_turns : (first_domain (added_by (0 ∷ 1 ∷ []) 7)).loads ≡ loads_of (0 ∷ 1 ∷ 2 ∷ 3 ∷ 4 ∷ 5 ∷ 6 ∷ [])

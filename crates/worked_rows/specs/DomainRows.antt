@@ -1,7 +1,7 @@
--- Rows of a cloaked program by itself: what its steps do where its questions find these answers.
+-- Rows of a cloaked program alone: what its steps do when its questions find these answers.
 --
--- Of a READ of 4096 bytes the first byte, the one at the end of a page and the last are computed, and not all in a
--- row: so many steps take too long. What is settled and drawn in a fork is a row of memory, since a program by itself
+-- Of a READ of 4096 bytes the first byte, the one at the end of a page and the last are computed, and not all in a row:
+-- that many steps take too long. What is settled and drawn in a fork is among the rows of memory, since a program alone
 -- sees none of it.
 use Rattle.std.specs.Prelude.{◌≡◌, ℕ, zero, suc, ◌+◌, ◌-◌, List, [], ◌∷◌, ◌++◌, length, replicate, slice_set, Some, None, Ok, Err}
 use Rattle.std.specs.List.{concat}
@@ -58,7 +58,7 @@ whole_state = concat (
     (1 ∷ 255 ∷ []) ∷  -- slot 0 has a context, which is on no hart
     (2 ∷ replicate 8 0) ∷  -- it waits for an answer
     word 0 ∷  -- in space 0
-    word 0x8000801C ∷  -- behind its ecall
+    word 0x8000801C ∷  -- after its ecall
     word 0 ∷ word 0x80008100 ∷ replicate 28 0 ∷  -- x1, x2, x3 to x9
     word 7 ∷ word 7 ∷ replicate 16 0 ∷  -- x10, x11, x12 to x15
     word 9 ∷ word 0x4F560008 ∷ replicate 56 0 ∷  -- x16, x17, x18 to x31
@@ -70,8 +70,8 @@ whole_state = concat (
     replicate 15 0 ∷  -- fifteen numbers are free
     [])
 
--- Where all is granted, six steps go on and the seventh leaves with call 9, whose arguments are the 7 that was stored
--- and the 7 that was loaded.
+-- If all is granted, six steps go on and the seventh leaves with call 9, whose arguments are the 7 that was stored and
+-- the 7 that was loaded.
 pub record WholeProgram : Type 0 where
   pub wents : granted.wents ≡ stays_then 6 (shown_call 9 (7 ∷ 7 ∷ 0 ∷ 0 ∷ 0 ∷ 0 ∷ []))
   pub answers : AllUsed granted.world
@@ -83,8 +83,8 @@ pub record WholeProgram : Type 0 where
 abbrev pub faulted : ProgramRun
 faulted = run 3 0 program_alone (alone (one_page 0 0 words_page) (replicate 4 told.Ok ++ told.Absent 13 ∷ []))
 
--- Where the second question of the load finds no page, that step leaves with the page's address and the cause of loads.
--- The context is as it was behind the two steps before.
+-- If the second question of the load finds no page, that step leaves with the page's address and the cause of loads.
+-- The context is as it was after the two steps before.
 pub record LoadFault : Type 0 where
   pub wents : faulted.wents ≡ stays_then 2 (shown_trap 13 0x80008000)
   pub answers : AllUsed faulted.world
@@ -165,7 +165,7 @@ waits = run 1 0 (reader 4096) (alone ecalls (told.Ok ∷ []))
 abbrev pub read_begun : ProgramRun
 read_begun = run 1 0 (resumed_first 0 4096 waits.domain) (alone ecalls (told.Word 5 ∷ told.Ok ∷ []))
 
--- the same behind the first bytes
+-- the same after the first bytes
 abbrev pub copying : ℕ → Domain
 copying done =
     with_first (record
@@ -184,9 +184,9 @@ abbrev pub final : ProgramRun
 final = run 2 0 (copying 4095) (alone ecalls (told.Word 7 ∷ told.Ok ∷ []))
 
 -- A READ of 4096 bytes leaves at once. Its answer is a count, and bytes are copied one a step, each got from the area
--- and stored in the buffer. Where the kernel has no page for the next one, the context leaves and nothing is lost:
--- resumed with any answer it goes on with that byte. When all are there one step more ends the call, whose answer is
--- the first.
+-- and stored in the buffer. If the kernel has no page for the next one, the context leaves and nothing is lost: resumed
+-- with any answer it goes on with that byte. When all are there, one more step ends the call, whose answer is the first
+-- one.
 pub record ReadCrossing : Type 0 where
   pub leaves : waits.wents ≡ stays_then 0 (shown_call 3 (0 ∷ 0x00600000 ∷ 4096 ∷ 0x00600000 ∷ 0 ∷ 0 ∷ []))
   pub begins : phase_of 0 read_begun.domain ≡ phase.CopyOut 1 4096
@@ -213,7 +213,7 @@ abbrev pub behind_copy_cut : ProgramRun
 behind_copy_cut = run 1 0 copy_cut.domain (alone ecalls (told.Ok ∷ []))
 
 -- Another context unmaps the buffer in the middle of a copy: the next step asks nothing and refuses the call, and the
--- one behind it fetches the instruction behind the ecall.
+-- one after it fetches the instruction after the ecall.
 pub record UnmappedBuffer : Type 0 where
   pub wents : copy_cut.wents ≡ went.Stay ∷ []
   pub answers : AllUsed copy_cut.world
@@ -224,7 +224,7 @@ pub record UnmappedBuffer : Type 0 where
 
 -- Refused hypercalls.
 
--- A hypercall asks for its instruction alone, answers this word, and goes on behind its ecall. Nothing else changes.
+-- A hypercall asks only for its instruction, returns this word, and goes on after its ecall. Nothing else changes.
 abbrev pub HypercallRefuses : ℕ → List ℕ → ℕ → Domain → Type 0
 HypercallRefuses number arguments word d = made_hypercall number arguments (told.Ok ∷ []) d ≡ record {
   answer = record {
@@ -234,7 +234,7 @@ HypercallRefuses number arguments word d = made_hypercall number arguments (told
   world = alone ecalls [];
 }
 
--- a program of one page behind a hypercall
+-- a program of one page after a hypercall
 abbrev pub program_behind : ℕ → List ℕ → Domain → Domain
 program_behind number arguments d = (made_hypercall number arguments (told.Ok ∷ []) d).answer.domain
 
@@ -245,7 +245,7 @@ one_page_domain = started_domain 0 (small 1)
 abbrev pub two_resources : Domain
 two_resources = program_behind 0x4F560001 (1023 ∷ []) one_page_domain
 
--- NEW of 0 or of 1025 pages, and of 1024 where the domain has one page already; of 1023 it gives resource 1.
+-- NEW of 0 or of 1025 pages, and of 1024 when the domain has one page already; of 1023 it returns resource 1.
 pub record NewRefused : Type 0 where
   pub no_page : HypercallRefuses 0x4F560001 (0 ∷ []) 0xFFFFFFFE one_page_domain
   pub too_many : HypercallRefuses 0x4F560001 (1025 ∷ []) 0xFFFFFFFE one_page_domain
@@ -254,8 +254,8 @@ pub record NewRefused : Type 0 where
   pub held : two_resources.control.resources.held ≡ Some (record { owner = owner.Space 0; pages = 1 }) ∷
       Some (record { owner = owner.Space 0; pages = 1023 }) ∷ replicate 14 None
 
--- MAP of resource 1 at an address that begins no page, or over the program's region; of a resource 9 that there is not,
--- which goes before a bad address; in a good place it answers 0.
+-- MAP of resource 1 at an address that begins no page, or over the program's region; of a resource 9 that does not
+-- exist, which goes before a bad address; in a good place it returns 0.
 pub record MapRefused : Type 0 where
   pub unaligned : HypercallRefuses 0x4F560002 (1 ∷ 0x00001001 ∷ 0 ∷ 1 ∷ []) 0xFFFFFFFE two_resources
   pub overlap : HypercallRefuses 0x4F560002 (1 ∷ 0x00400000 ∷ 0 ∷ 1 ∷ []) 0xFFFFFFFD two_resources
@@ -263,7 +263,7 @@ pub record MapRefused : Type 0 where
   pub unknown_first : HypercallRefuses 0x4F560002 (9 ∷ 0x00001001 ∷ 0 ∷ 1 ∷ []) 0xFFFFFFFC two_resources
   pub mapped : answer_and_pc 0 (program_behind 0x4F560002 (1 ∷ 0x00500000 ∷ 0 ∷ 1023 ∷ []) two_resources) ≡ (0, 0x00400004)
 
--- UNMAP where no region starts; a number that is no hypercall, also that of resuming.
+-- UNMAP where no region starts; a number that is no hypercall, and that of resuming.
 pub record OthersRefused : Type 0 where
   pub unmap : HypercallRefuses 0x4F560003 (0x00005000 ∷ []) 0xFFFFFFFC two_resources
   pub unknown : HypercallRefuses 0x4F560009 [] 0xFFFFFFFB two_resources
@@ -275,8 +275,8 @@ pub record OthersRefused : Type 0 where
 abbrev pub filed : Domain
 filed = program_behind 0x4F560004 (4 ∷ 1 ∷ []) one_page_domain
 
--- FILE gives a resource, the same one again, and refuses another size. Another number is another resource. A file has
--- pages, and no more than are left.
+-- FILE returns a resource, returns the same one again, and refuses another size. Another number is another resource. A
+-- file has at least one page, and no more than are left.
 pub record FileRows : Type 0 where
   pub made : answer_and_pc 0 filed ≡ (1, 0x00400004)
   pub again : answer_and_pc 0 (program_behind 0x4F560004 (4 ∷ 1 ∷ []) filed) ≡ (1, 0x00400004)
@@ -311,7 +311,7 @@ with_threads n = record filed {
   };
 }
 
--- THREAD gives contexts 1 to 7. There is no ninth context, by THREAD or by FORK. A thread at an address that holds no
+-- THREAD returns contexts 1 to 7. There is no ninth context, by THREAD or by FORK. A thread at an address that holds no
 -- instruction is refused.
 pub record Threads : Type 0 where
   pub first : threads 1 ≡ with_threads 1
@@ -326,8 +326,8 @@ exited = made_hypercall 0x4F560007 [] (told.Ok ∷ told.Ok ∷ []) filed
 abbrev pub exit_stopped : Told DomainStepped
 exit_stopped = made_hypercall 0x4F560007 [] (told.Ok ∷ told.Stopped ∷ []) filed
 
--- The last context ends: its space and the private resource are gone, and the file stays. Where the clearing of frames
--- is stopped, the domain is as it was.
+-- The last context ends: its space and the private resource are gone, and the file stays. If the clearing of frames is
+-- stopped, the domain is as it was.
 pub record LastExit : Type 0 where
   pub ending : exited.answer.went ≡ went.SpaceGone 0 (shown_call 0x4F560007 (replicate 6 0))
   pub answers : AllUsed exited.world
@@ -366,8 +366,8 @@ page resource n = record { domain = 0; resource = resource; page = n }
 abbrev pub child_stored : World
 child_stored = (ask_write (page 2 0) 0 4 0x99 fork_made.world).world
 
--- FORK gives the parent context 1, which is answered 0. The private resource 0 is copied to resource 2 of space 1,
--- page by page, and the file is shared. What the child stores the parent does not load.
+-- FORK returns context 1 to the parent, and 0 to context 1. The private resource 0 is copied to resource 2 of space 1,
+-- page by page, and the file is shared. What the child stores, the parent does not load.
 pub record ForkedSpace : Type 0 where
   pub went : fork_made.answer.went ≡ went.Stay
   pub answers : AllUsed fork_made.world
@@ -425,12 +425,12 @@ with_news n = record one_page_domain {
 abbrev pub with_pages : ℕ → Domain
 with_pages n = program_behind 0x4F560001 (n ∷ []) one_page_domain
 
--- a domain behind a fork that is granted
+-- a domain after a fork that is granted
 abbrev pub behind_fork : Domain → Domain
 behind_fork d = (made_hypercall 0x4F560006 [] (told.Ok ∷ told.Ok ∷ []) d).answer.domain
 
--- FORK with nine resources, the last of which NEW gave, whose copies have too few numbers, and with 513 pages, whose
--- copies are too many; with one less it is granted. Where the clearing of frames is stopped, the domain is as it was.
+-- FORK with nine resources, the last of which NEW made, whose copies have too few numbers, and with 513 pages, whose
+-- copies are too many; with one less it is granted. If the clearing of frames is stopped, the domain is as it was.
 pub record ForkRefused : Type 0 where
   pub made : (program_behind 0x4F560001 (1 ∷ []) (with_news 7)).control.resources ≡ (with_news 8).control.resources
   pub numbers : HypercallRefuses 0x4F560006 [] 0xFFFFFFFF (with_news 8)

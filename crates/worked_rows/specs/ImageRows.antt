@@ -4,7 +4,7 @@ use Rattle.rv_isa.specs.Table.{instruction}
 use Rattle.rv_isa.specs.declared.instr.Instr.TheVariants.{Lui, Auipc, Beq, Lw, Sw, Addi, Xori, Csrrw, Ecall}
 use Rattle.worked_rows.specs.Images.{boot, halt, program_words, letter_words, flip_and_resume, look_and_resume, remap_and_resume, resume_words, resume_third, exit_words, share_words}
 
-pub record Words : Type 0 where
+pub record ImageWords : Type 0 where
   pub boot : map instruction boot ≡
       Some (Auipc 6 0) ∷ Some (Addi 6 6 (pos 20)) ∷ Some (Csrrw 0 6 0x105) ∷ Some (Lui 17 0x4F560000) ∷ Some Ecall ∷ []
   pub halt : map instruction halt ≡ Some (Addi 17 0 (pos 4)) ∷ Some Ecall ∷ []

@@ -7,7 +7,7 @@ use Rattle.cloak_model.specs.declared.image.KernelImage.{KernelImage}
 use Rattle.cloak_model.specs.declared.image.Program.{Program}
 use Rattle.cloak_model.specs.declared.image.Bundle.{Bundle}
 
--- The kernel sets its trap vector to the word behind this, and resumes context 0.
+-- The kernel sets its trap vector to the word after this, and resumes context 0.
 abbrev pub boot : List ℕ
 boot =
     0x00000317 ∷  -- auipc x6, 0
@@ -99,7 +99,7 @@ exit_words =
     0x00000073 ∷  -- ecall
     []
 
--- A program forks. Behind it the parent, whose answer is not 0, stores its answer, and the child loads a word.
+-- A program forks. After that the parent, whose answer is not 0, stores its answer, and the child loads a word.
 abbrev pub share_words : List ℕ
 share_words =
     0x00000073 ∷  -- ecall

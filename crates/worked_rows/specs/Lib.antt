@@ -10,3 +10,4 @@ pub mod MemoryRows
 pub mod AloneRows
 pub mod AtomicRows
 pub mod StoreRows
+pub mod PremiseRows

@@ -59,7 +59,7 @@ world_of satp m = Cloaked (record {
   items = [];
   events = [];
   violation = None;
-  view = record { satp = satp; sum = false; mxr = false; domain = 0 };
+  regime = record { satp = satp; sum = false; mxr = false; domain = 0 };
   pages = λ va. None;
 })
 
@@ -93,9 +93,9 @@ held = world_of 0x80080001
     (memory (zero_page ∷ page_with (0 ∷ 0x20000801 ∷ []) ∷ table_cipher ∷ replicate 61 zero_page) (λ q. zero_page)
     (with_page (λ q. None) (page 0 0) (Some table_cipher)) (replicate 64 None))
 
--- A fresh page is reached in the frame of its own table: it is zeros, and the frame is owed it. The next walk reads
--- its entry there: the frame is settled first, by one draw, and the entry is bytes 4 to 7 of the ciphertext. Where the
--- frame holds the page unchanged, nothing is drawn and no item is written.
+-- A fresh page is reached in the frame of its own table: it is zeros, and the frame is owed it. The next walk reads its
+-- entry there: the frame is settled first, by one draw, and the entry is bytes 4 to 7 of the ciphertext. If the frame
+-- holds the page unchanged, nothing is drawn and no item is written.
 pub record OwnTable : Type 0 where
   pub answer : reached_fresh.answer ≡ told.Ok
   pub items : items_of reached_fresh.world ≡ item.Ok 0 ∷ []
@@ -180,7 +180,7 @@ wrote = run 5 0
     (with_first (running 0x80008000 (call_registers 1 (0 ∷ 0x80008100 ∷ 3 ∷ 0x80005000 ∷ [])))
     (started_domain 0 program_start)) before_write
 
--- WRITE of three bytes where the kernel sees them: each is a Put of one byte, behind the answer of the buffer's page
+-- WRITE of three bytes where the kernel sees them: each is a Put of one byte, after the answer for the buffer's page
 -- and before its own. The kernel finds the bytes in the area.
 pub record WriteArea : Type 0 where
   pub wents : wrote.wents ≡ stays_then 4 (shown_call 1 (0 ∷ 0x80005000 ∷ 3 ∷ 0x80005000 ∷ 0 ∷ 0 ∷ []))

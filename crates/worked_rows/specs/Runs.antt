@@ -1,4 +1,4 @@
--- Steps of a cloaked program by itself, and what is told of them.
+-- Steps of a cloaked program alone, and what is told of them.
 use Rattle.std.specs.Prelude.{◌≡◌, ℕ, zero, suc, ◌+◌, ◌==◌, ◌&&◌, Bool, false, List, [], ◌∷◌, ◌++◌, slice_set, replicate, Some, None, unwrap_or, if◌then◌else◌}
 use Rattle.cloak_base.specs.declared.names.Start.{Start}
 use Rattle.cloak_model.specs.declared.answer.Answer.{Answer}
@@ -94,7 +94,7 @@ phase_of slot d = (context_in_slot slot d).phase
 
 -- Programs.
 
--- so many pages from 0x00400000 on
+-- this many pages from 0x00400000 on
 abbrev pub small : ℕ → Start
 small pages = record { pages = pages; base = 0x00400000; entry = 0x00400000; sp = 0 }
 

@@ -1,8 +1,7 @@
 -- Rows of store files: a vector of the code, what a table spells, and first faults.
-use Rattle.std.specs.Prelude.{◌≡◌, ℕ, List, [], ◌∷◌, ◌++◌, codes, replicate, take, slice_set, Option, Some, None}
+use Rattle.std.specs.Prelude.{◌≡◌, ℕ, List, [], ◌∷◌, ◌++◌, codes, replicate, take, slice_set, Some, None}
 use Rattle.cloak_base.specs.declared.names.Meta.{Meta}
-use Rattle.cloak_model.specs.declared.fault.StoreFault.{StoreFault}
-use Rattle.cloak_model.specs.declared.fault.StoreFault.TheVariants.{Short, BadMagic, Seal, Counter, Form}
+use Rattle.cloak_model.specs.declared.fault.StoreFault.TheVariants.{Short, BadMagic, Seal, Counter}
 use Rattle.cloak_model.specs.Hmac.{hmac}
 use Rattle.cloak_model.specs.StoredFiles.{StoredFile, store_bytes, table_bytes}
 use Rattle.cloak_model.specs.StoreFault.{store_fault}

@@ -2,5 +2,5 @@ ghost use Rattle.worked_rows.specs.ImageRows as row;
 
 /// The words of the images that the other rows run.
 pub fn rows_of_images()
-    ensures { row.Words }
+    ensures { row.ImageWords }
 {}

@@ -6,6 +6,10 @@
 //! with the cipher and the digest left as they are applied: a row says which page is enciphered under which draw, and
 //! not the bytes of the ciphertext.
 //!
+//! Each row of a run says whether pages clashed in it: that none did is the premise of what `run` promises. In one run
+//! the kernel flips a bit of a page, and two different pages are compared; the row says that they clash if they have one
+//! digest. In all others none did. `specs/PremiseRows` has runs that meet at once what the laws on runs ask of a run.
+//!
 //! No body turns a row, so there is no wrong body to refuse here. These changed definitions of atomic instructions were
 //! tried on a copy, and the rows refused each. Of words and operations: LR may have a second operand; the least of two
 //! words is that of unsigned ones. Of reservations of harts: a store of the value that stood there ends none, as if SC
@@ -21,6 +25,7 @@ mod images;
 mod joint_runs;
 mod machines_alone;
 mod memory;
+mod premises;
 mod programs;
 mod stores;
 
@@ -29,5 +34,6 @@ pub use images::rows_of_images;
 pub use joint_runs::rows_of_joint_runs;
 pub use machines_alone::rows_of_machines_alone;
 pub use memory::rows_of_cloaked_memory;
+pub use premises::rows_of_premises;
 pub use programs::rows_of_a_program;
 pub use stores::rows_of_stores;

@@ -1,6 +1,6 @@
 ghost use Rattle.worked_rows.specs.DomainRows as row;
 
-/// A cloaked program by itself: what its steps do where its questions find these answers.
+/// A cloaked program alone: what its steps do when its questions find these answers.
 pub fn rows_of_a_program()
     ensures whole { row.WholeProgram }
     ensures load_fault { row.LoadFault }

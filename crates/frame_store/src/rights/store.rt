@@ -11,8 +11,9 @@ use std::marker::Model;
 /// A frame in which nothing was stored yet.
 static ZEROS: [u8; 4096] = [0; 4096];
 
-/// The bytes of all frames. Its value is the list of the frames, each a list of its 4096 bytes. Frames behind the last one in
-/// which something was stored are zeros, and only their room is there: the system gives it memory as something is stored.
+/// The bytes of all frames. Its value is the list of the frames, each a list of its 4096 bytes. Frames after the last
+/// one in which something was stored are zeros, and only their room is there: the system gives it memory as something
+/// is stored.
 #[derive(Drop)]
 pub struct FrameStore {
     frames: Vec<[u8; 4096]>,

@@ -14,7 +14,7 @@ fn place(q: PageId) -> usize
     (q.domain as usize * 16 + q.resource as usize) * 1024 + q.page as usize
 }
 
-/// A row for the pages of so many programs, none of which is owed.
+/// A row for the pages of this many programs, none of which is owed.
 pub fn none_owed(alloc: Global, programs: u32) -> Result<Vec<bool>, FrozenFault>
     ensures none { IfOk result (λ row. TellsOwed programs row.items []) }
     ensures fault { IfErr result (λ fault. fault ≡ faults.NoMemory) }

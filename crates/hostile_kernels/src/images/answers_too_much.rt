@@ -1,9 +1,9 @@
 //! READ is answered with more bytes than were asked for.
 //!
-//! An answer above the length copies nothing, so no byte behind the buffer is written. The program gets the answer,
+//! An answer above the length copies nothing, so no byte after the buffer is written. The program gets the answer,
 //! and its buffer keeps what it had. What it makes of such an answer is its own affair.
 
-use crate::draft::{Draft, Guest, Words};
+use crate::draft::{Draft, Guest, StandingWords};
 use cloak_base::Start;
 
 /// The text of the kernel.
@@ -65,11 +65,11 @@ pub const IMAGE: Draft = Draft {
     schedule: &[0],
     entry: 0x8000_0000,
     segments: &[
-        Words {
+        StandingWords {
             address: 0x8000_0000,
             words: KERNEL,
         },
-        Words {
+        StandingWords {
             address: 0x8000_9000,
             words: AREA,
         },

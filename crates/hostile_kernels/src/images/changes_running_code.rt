@@ -3,7 +3,7 @@
 //! There is no instruction cache in which the old code could live on, and the new code is not the program's: the next
 //! fetch stops the run.
 
-use crate::draft::{Draft, Guest, Words};
+use crate::draft::{Draft, Guest, StandingWords};
 use cloak_base::Start;
 
 /// The text of the kernel.
@@ -45,7 +45,7 @@ pub const IMAGE: Draft = Draft {
     harts: 2,
     schedule: &[0, 1],
     entry: 0x8000_0000,
-    segments: &[Words {
+    segments: &[StandingWords {
         address: 0x8000_0000,
         words: KERNEL,
     }],

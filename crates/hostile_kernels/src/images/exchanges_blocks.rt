@@ -2,7 +2,7 @@
 //!
 //! Both pages have the same bytes. Their ciphertexts differ, and neither is the other's.
 
-use crate::draft::{Draft, Guest, Words};
+use crate::draft::{Draft, Guest, StandingWords};
 use crate::shared::CALLS;
 use cloak_base::Start;
 
@@ -38,7 +38,7 @@ pub const IMAGE: Draft = Draft {
     harts: 1,
     schedule: &[0],
     entry: 0x8000_0000,
-    segments: &[Words {
+    segments: &[StandingWords {
         address: 0x8000_0000,
         words: KERNEL,
     }],

@@ -1,10 +1,10 @@
 //! A forked child is resumed over the frame of its parent.
 //!
-//! The fork shows the parent's page once more, and these bytes are the child's page too. Behind the fork the parent
+//! The fork shows the parent's page once more, and these bytes are the child's page too. After the fork the parent
 //! stores to its page. So its frame has the wrong bytes for the child, whose page is gone: the kernel would have had
 //! to copy the frame before.
 
-use crate::draft::{Draft, Guest, Words};
+use crate::draft::{Draft, Guest, StandingWords};
 use cloak_base::Start;
 
 /// The text of the kernel.
@@ -53,7 +53,7 @@ pub const IMAGE: Draft = Draft {
     harts: 1,
     schedule: &[0],
     entry: 0x8000_0000,
-    segments: &[Words {
+    segments: &[StandingWords {
         address: 0x8000_0000,
         words: KERNEL,
     }],

@@ -3,7 +3,7 @@
 //! The page is enciphered before it is dropped, so the kernel finds ciphertext. The next program gets the frame for a
 //! new page, and finds zeros: not what the first one left.
 
-use crate::draft::{Draft, Guest, Words};
+use crate::draft::{Draft, Guest, StandingWords};
 use cloak_base::Start;
 
 /// The text of the kernel.
@@ -78,7 +78,7 @@ pub const IMAGE: Draft = Draft {
     harts: 1,
     schedule: &[0],
     entry: 0x8000_0000,
-    segments: &[Words {
+    segments: &[StandingWords {
         address: 0x8000_0000,
         words: KERNEL,
     }],

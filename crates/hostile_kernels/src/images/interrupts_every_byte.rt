@@ -1,8 +1,8 @@
-//! The timer interrupts a program at each step, also between the bytes of a copy.
+//! The timer interrupts a program at each step, even between the bytes of a copy.
 //!
 //! The kernel gives the program one step at a time. The four bytes come out all the same, each once.
 
-use crate::draft::{Draft, Guest, Words};
+use crate::draft::{Draft, Guest, StandingWords};
 use cloak_base::Start;
 
 /// The text of the kernel.
@@ -61,7 +61,7 @@ pub const IMAGE: Draft = Draft {
     harts: 1,
     schedule: &[0],
     entry: 0x8000_0000,
-    segments: &[Words {
+    segments: &[StandingWords {
         address: 0x8000_0000,
         words: KERNEL,
     }],

@@ -3,7 +3,7 @@
 //! Program 1 works for the kernel: at an address that is not cloaked for it, it loads what program 0 has stored. One
 //! table entry covers both. What it gets is ciphertext, as the kernel itself would.
 
-use crate::draft::{Draft, Guest, Words};
+use crate::draft::{Draft, Guest, StandingWords};
 use crate::shared::{CALLS, KERNEL_LEAF};
 use cloak_base::Start;
 
@@ -62,15 +62,15 @@ pub const IMAGE: Draft = Draft {
     schedule: &[0],
     entry: 0x8000_0000,
     segments: &[
-        Words {
+        StandingWords {
             address: 0x8000_0000,
             words: KERNEL,
         },
-        Words {
+        StandingWords {
             address: 0x8000_1004,
             words: SUPERPAGE,
         },
-        Words {
+        StandingWords {
             address: 0x8000_1800,
             words: KERNEL_LEAF,
         },

@@ -4,7 +4,7 @@
 //! cloaked page. The first byte gets there, as a change of the ciphertext. The page that the second one comes from is
 //! then not the one that was shown.
 
-use crate::draft::{Draft, Guest, Words};
+use crate::draft::{Draft, Guest, StandingWords};
 use crate::shared::{KERNEL_LEAF, POINTER};
 use cloak_base::Start;
 
@@ -59,19 +59,19 @@ pub const IMAGE: Draft = Draft {
     schedule: &[0],
     entry: 0x8000_0000,
     segments: &[
-        Words {
+        StandingWords {
             address: 0x8000_0000,
             words: KERNEL,
         },
-        Words {
+        StandingWords {
             address: 0x8000_1004,
             words: POINTER,
         },
-        Words {
+        StandingWords {
             address: 0x8000_1800,
             words: KERNEL_LEAF,
         },
-        Words {
+        StandingWords {
             address: 0x8000_2000,
             words: TABLE,
         },

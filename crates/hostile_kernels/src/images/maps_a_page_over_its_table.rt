@@ -4,7 +4,7 @@
 //! so the frame is enciphered before: the kernel's table is gone, and its own deed made it so. Under a random stream
 //! of 32 bytes the draw for that is missing, and the run ends.
 
-use crate::draft::{Draft, Guest, Words};
+use crate::draft::{Draft, Guest, StandingWords};
 use cloak_base::Start;
 
 /// The text of the kernel.
@@ -62,15 +62,15 @@ pub const IMAGE: Draft = Draft {
     schedule: &[0],
     entry: 0x8040_0000,
     segments: &[
-        Words {
+        StandingWords {
             address: 0x8040_0000,
             words: KERNEL,
         },
-        Words {
+        StandingWords {
             address: 0x8040_1800,
             words: ROOT,
         },
-        Words {
+        StandingWords {
             address: 0x8040_2000,
             words: TABLE,
         },

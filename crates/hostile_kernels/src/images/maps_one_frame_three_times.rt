@@ -3,7 +3,7 @@
 //! At two of them the program has one page of its own, at the third nothing is cloaked. Through the first two it
 //! finds what it stored, through the third the ciphertext, like anybody else; and then again what it stored.
 
-use crate::draft::{Draft, Guest, Words};
+use crate::draft::{Draft, Guest, StandingWords};
 use crate::shared::{KERNEL_LEAF, POINTER};
 use cloak_base::Start;
 
@@ -64,7 +64,7 @@ pub const PROGRAM: &[u32] = &[
     0x004034b7, 0x0004a583, 0x00032503, 0x00900813, 0x00688893, 0x00000073,
 ];
 
-/// The table of level 0: page 0x00400000 is frame 8, the three behind it are frame 9.
+/// The table of level 0: page 0x00400000 is frame 8, the three after it are frame 9.
 pub const TABLE: &[u32] = &[0x200020df, 0x200024df, 0x200024df, 0x200024df];
 
 /// The image.
@@ -74,19 +74,19 @@ pub const IMAGE: Draft = Draft {
     schedule: &[0],
     entry: 0x8000_0000,
     segments: &[
-        Words {
+        StandingWords {
             address: 0x8000_0000,
             words: KERNEL,
         },
-        Words {
+        StandingWords {
             address: 0x8000_1004,
             words: POINTER,
         },
-        Words {
+        StandingWords {
             address: 0x8000_1800,
             words: KERNEL_LEAF,
         },
-        Words {
+        StandingWords {
             address: 0x8000_2000,
             words: TABLE,
         },

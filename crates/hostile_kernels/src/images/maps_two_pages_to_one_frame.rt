@@ -3,7 +3,7 @@
 //! The entry 514 of the root table gives 0x80808000 the frame 8, which holds the program's first page. The second
 //! page is new and takes the frame over. Then the first is not there.
 
-use crate::draft::{Draft, Guest, Words};
+use crate::draft::{Draft, Guest, StandingWords};
 use cloak_base::Start;
 
 /// The text of the kernel.
@@ -58,11 +58,11 @@ pub const IMAGE: Draft = Draft {
     schedule: &[0],
     entry: 0x8040_0000,
     segments: &[
-        Words {
+        StandingWords {
             address: 0x8040_0000,
             words: KERNEL,
         },
-        Words {
+        StandingWords {
             address: 0x8040_1800,
             words: ROOT,
         },

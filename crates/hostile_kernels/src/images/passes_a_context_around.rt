@@ -4,7 +4,7 @@
 //! so that it makes no step, and hart 0 resumes it again. The context goes on with the store that faulted, as if
 //! nothing had been.
 
-use crate::draft::{Draft, Guest, Words};
+use crate::draft::{Draft, Guest, StandingWords};
 use crate::shared::{CALLS, KERNEL_LEAF, POINTER};
 use cloak_base::Start;
 
@@ -78,19 +78,19 @@ pub const IMAGE: Draft = Draft {
     schedule: &[0, 1],
     entry: 0x8000_0000,
     segments: &[
-        Words {
+        StandingWords {
             address: 0x8000_0000,
             words: KERNEL,
         },
-        Words {
+        StandingWords {
             address: 0x8000_1004,
             words: POINTER,
         },
-        Words {
+        StandingWords {
             address: 0x8000_1800,
             words: KERNEL_LEAF,
         },
-        Words {
+        StandingWords {
             address: 0x8000_2000,
             words: TABLE,
         },

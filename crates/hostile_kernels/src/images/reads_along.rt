@@ -3,7 +3,7 @@
 //! No rule is broken, and nothing is gained: each load finds the ciphertext. The program halts the machine with its
 //! 7, and hart 1 holds a word of the ciphertext.
 
-use crate::draft::{Draft, Guest, Words};
+use crate::draft::{Draft, Guest, StandingWords};
 use crate::shared::CALLS;
 use cloak_base::Start;
 
@@ -38,7 +38,7 @@ pub const IMAGE: Draft = Draft {
     harts: 2,
     schedule: &[0, 1],
     entry: 0x8000_0000,
-    segments: &[Words {
+    segments: &[StandingWords {
         address: 0x8000_0000,
         words: KERNEL,
     }],

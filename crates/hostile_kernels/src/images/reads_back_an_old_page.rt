@@ -3,7 +3,7 @@
 //! The kernel keeps the page on the disk before the program runs, and reads it back after the program stored to it.
 //! The old bytes were shown once, but they are not those that were shown last.
 
-use crate::draft::{Draft, Guest, Words};
+use crate::draft::{Draft, Guest, StandingWords};
 use crate::shared::CALLS;
 use cloak_base::Start;
 
@@ -40,7 +40,7 @@ pub const IMAGE: Draft = Draft {
     harts: 1,
     schedule: &[0],
     entry: 0x8000_0000,
-    segments: &[Words {
+    segments: &[StandingWords {
         address: 0x8000_0000,
         words: KERNEL,
     }],

@@ -2,7 +2,7 @@
 //!
 //! No program, and no attack on pages: it is a kernel that would empty any cache of translations.
 
-use crate::draft::{Draft, Words};
+use crate::draft::{Draft, StandingWords};
 
 /// The text of the kernel.
 #[cfg(test)]
@@ -30,7 +30,7 @@ pub const IMAGE: Draft = Draft {
     harts: 1,
     schedule: &[0],
     entry: 0x8000_0000,
-    segments: &[Words {
+    segments: &[StandingWords {
         address: 0x8000_0000,
         words: KERNEL,
     }],

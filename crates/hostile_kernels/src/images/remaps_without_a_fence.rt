@@ -3,7 +3,7 @@
 //! The program's addresses lead to other frames now, with zeros. Nothing is cached that would hide the change, and
 //! zeros are not what was last shown of the page.
 
-use crate::draft::{Draft, Guest, Words};
+use crate::draft::{Draft, Guest, StandingWords};
 use crate::shared::CALLS;
 use cloak_base::Start;
 
@@ -44,11 +44,11 @@ pub const IMAGE: Draft = Draft {
     schedule: &[0],
     entry: 0x8040_0000,
     segments: &[
-        Words {
+        StandingWords {
             address: 0x8040_0000,
             words: KERNEL,
         },
-        Words {
+        StandingWords {
             address: 0x8040_1800,
             words: ROOT,
         },

@@ -3,7 +3,7 @@
 //! The new word of satp leaves paging off, so no address leads anywhere else than before. It is refused all the same:
 //! the first word is recorded, and only that one will do.
 
-use crate::draft::{Draft, Guest, Words};
+use crate::draft::{Draft, Guest, StandingWords};
 use crate::shared::CALLS;
 use cloak_base::Start;
 
@@ -34,7 +34,7 @@ pub const IMAGE: Draft = Draft {
     harts: 1,
     schedule: &[0],
     entry: 0x8000_0000,
-    segments: &[Words {
+    segments: &[StandingWords {
         address: 0x8000_0000,
         words: KERNEL,
     }],

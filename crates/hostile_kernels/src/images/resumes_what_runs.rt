@@ -3,7 +3,7 @@
 //! Both harts boot alike. Hart 0 runs the context when hart 1 asks for it, and a context that runs is not there to be
 //! resumed.
 
-use crate::draft::{Draft, Guest, Words};
+use crate::draft::{Draft, Guest, StandingWords};
 use crate::shared::CALLS;
 use cloak_base::Start;
 
@@ -27,7 +27,7 @@ pub const IMAGE: Draft = Draft {
     harts: 2,
     schedule: &[0, 1],
     entry: 0x8000_0000,
-    segments: &[Words {
+    segments: &[StandingWords {
         address: 0x8000_0000,
         words: KERNEL,
     }],

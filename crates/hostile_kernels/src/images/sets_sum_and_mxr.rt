@@ -4,7 +4,7 @@
 //! mappings, and finds the ciphertext through them: what one sees depends on who looks, not on the rights in the
 //! table.
 
-use crate::draft::{Draft, Guest, Words};
+use crate::draft::{Draft, Guest, StandingWords};
 use crate::shared::{KERNEL_LEAF, POINTER};
 use cloak_base::Start;
 
@@ -65,19 +65,19 @@ pub const IMAGE: Draft = Draft {
     schedule: &[0],
     entry: 0x8000_0000,
     segments: &[
-        Words {
+        StandingWords {
             address: 0x8000_0000,
             words: KERNEL,
         },
-        Words {
+        StandingWords {
             address: 0x8000_1004,
             words: POINTER,
         },
-        Words {
+        StandingWords {
             address: 0x8000_1800,
             words: KERNEL_LEAF,
         },
-        Words {
+        StandingWords {
             address: 0x8000_2000,
             words: TABLE,
         },

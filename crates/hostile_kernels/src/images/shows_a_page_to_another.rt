@@ -3,7 +3,7 @@
 //! Both programs have the same bytes at the same address, and one page table serves both. The second one is led to
 //! the first one's page. It is another page, with a ciphertext of its own.
 
-use crate::draft::{Draft, Guest, Words};
+use crate::draft::{Draft, Guest, StandingWords};
 use crate::shared::{CALLS, KERNEL_LEAF, POINTER};
 use cloak_base::Start;
 
@@ -40,19 +40,19 @@ pub const IMAGE: Draft = Draft {
     schedule: &[0],
     entry: 0x8000_0000,
     segments: &[
-        Words {
+        StandingWords {
             address: 0x8000_0000,
             words: KERNEL,
         },
-        Words {
+        StandingWords {
             address: 0x8000_1004,
             words: POINTER,
         },
-        Words {
+        StandingWords {
             address: 0x8000_1800,
             words: KERNEL_LEAF,
         },
-        Words {
+        StandingWords {
             address: 0x8000_2000,
             words: TABLE,
         },

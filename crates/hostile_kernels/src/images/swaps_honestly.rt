@@ -1,8 +1,8 @@
 //! A page goes through the disk and comes back unchanged.
 //!
-//! No attack: what every kernel that swaps has to do. The program goes on as if nothing had happened.
+//! No attack: what every kernel that swaps must do. The program goes on as if nothing had happened.
 
-use crate::draft::{Draft, Guest, Words};
+use crate::draft::{Draft, Guest, StandingWords};
 use cloak_base::Start;
 
 /// The text of the kernel.
@@ -63,7 +63,7 @@ pub const IMAGE: Draft = Draft {
     harts: 1,
     schedule: &[0],
     entry: 0x8000_0000,
-    segments: &[Words {
+    segments: &[StandingWords {
         address: 0x8000_0000,
         words: KERNEL,
     }],

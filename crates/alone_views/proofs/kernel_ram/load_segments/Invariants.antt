@@ -6,7 +6,7 @@ use Rattle.alone_views.proofs.kernel_ram.load_segments.Given as goal
 abbrev pub invariant-loop-made : goal.invariant-loop-made
 invariant-loop-made l = l.frames.items ≡ zero_ram l.made
 
--- what is left of the segments, stored behind those that are
+-- what is left of the segments, stored after those that are stored already
 abbrev pub invariant-loop-segment : goal.invariant-loop-segment
 invariant-loop-segment l = record {
   count : length l.frames.items ≡ l.fn.count;

@@ -1,4 +1,4 @@
-use Rattle.program_parts.specs.Outside.{files}
+use Rattle.command_parts.specs.Outside.{files}
 use Rattle.asm_text.proofs.command.asm_command.Goals as goal
 
 pub returns : goal.returns

@@ -1,4 +1,4 @@
-use Rattle.program_parts.specs.Outside.{files}
+use Rattle.command_parts.specs.Outside.{files}
 use Rattle.asm_text.specs.Commanded.{TellsTextFault}
 use Rattle.asm_text.proofs.ReasonFacts.{told_why}
 use Rattle.asm_text.proofs.command.words_of_file.Goals as goal

@@ -1,8 +1,8 @@
 use Rattle.std.proofs.Common.{refl, inl}
 use Rattle.command_words.specs.declared.usage_fault.UsageFault.TheVariants.{WrongWords}
 use Rattle.command_words.specs.Command.{Faulty}
-use Rattle.program_parts.specs.declared.refusal.Refusal.TheVariants as refusal
-use Rattle.program_parts.proofs.Refused.{only_refuses}
+use Rattle.command_parts.specs.declared.refusal.Refusal.TheVariants as refusal
+use Rattle.command_parts.proofs.Refused.{only_refuses}
 use Rattle.cloak_commands.proofs.program.obey.Goals as goal
 
 pub returns-in-Taken : goal.returns-in-Taken

@@ -1,5 +1,5 @@
 use Rattle.command_words.specs.Request.{freeze_names_of}
-use Rattle.program_parts.specs.Outside.{files}
+use Rattle.command_parts.specs.Outside.{files}
 use Rattle.frozen_commands.proofs.FreezeFacts.{answers_no_run, same_files}
 use Rattle.frozen_commands.proofs.freeze.freeze_command.Goals as goal
 

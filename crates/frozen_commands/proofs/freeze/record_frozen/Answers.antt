@@ -1,7 +1,7 @@
 use Rattle.std.proofs.Common.{◌∙◌, sym}
 use Rattle.cloak_model.specs.Beginning.{Fresh}
 use Rattle.command_words.specs.Request.{freeze_names_of}
-use Rattle.program_parts.specs.Outside.{files, output}
+use Rattle.command_parts.specs.Outside.{files, output}
 use Rattle.run_command.proofs.BegunFacts.{are_low, begins}
 use Rattle.frozen_commands.proofs.FreezeFacts.{ended_first, failed_first, not_begun, reached_first}
 use Rattle.frozen_commands.proofs.freeze.record_frozen.Goals as goal

@@ -3,7 +3,7 @@ use Rattle.cloak_base.specs.Random.{Random}
 use Rattle.cloak_machine.specs.Standing.{Opens}
 use Rattle.frozen_state.specs.Room.{IsRoomFor}
 use Rattle.joint_machine.specs.declared.opened.OpenFault.{OpenFault}
-use Rattle.program_parts.proofs.Refused.{no_bundle, no_file}
+use Rattle.command_parts.proofs.Refused.{no_bundle, no_file}
 use Rattle.frozen_commands.proofs.Refused.{asks_frozen, is_lack}
 use Rattle.frozen_commands.proofs.freezing.prepare_frozen.Goals as goal
 

@@ -1,5 +1,5 @@
 use Rattle.std.proofs.Common.{refl, inl, inr}
-use Rattle.program_parts.specs.Outside.{output}
+use Rattle.command_parts.specs.Outside.{output}
 use Rattle.frozen_commands.proofs.saving.save_state.Goals as goal
 
 pub returns-in-Ok : goal.returns-in-Ok

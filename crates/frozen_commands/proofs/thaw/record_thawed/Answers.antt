@@ -1,6 +1,6 @@
 use Rattle.std.proofs.Common.{◌∙◌, sym}
 use Rattle.command_words.specs.Request.{thaw_names_of}
-use Rattle.program_parts.specs.Outside.{files, output}
+use Rattle.command_parts.specs.Outside.{files, output}
 use Rattle.run_command.proofs.BegunFacts.{are_low, begins}
 use Rattle.frozen_commands.proofs.ThawFacts.{not_begun, rest_failed, rest_written}
 use Rattle.frozen_commands.proofs.thaw.record_thawed.Goals as goal

@@ -1,6 +1,6 @@
 use Rattle.std.proofs.Common.{◌≤◌, arith}
 use Rattle.command_words.specs.Request.{thaw_names_of}
-use Rattle.program_parts.specs.Outside.{files}
+use Rattle.command_parts.specs.Outside.{files}
 use Rattle.frozen_commands.proofs.ThawFacts.{answers_no_run, same_files}
 use Rattle.frozen_commands.proofs.thaw.thaw_command.Goals as goal
 

@@ -2,11 +2,11 @@ use Rattle.std.proofs.Common.{◌∙◌, ℕ, List, Vec, Option, Err, refl, sym,
 use Rattle.std.specs.declared.alloc.Global.{Global}
 use Rattle.cloak_base.specs.Random.{Random}
 use Rattle.command_words.specs.Request.{asked_of_thaw, thaw_names_of, randomness_of}
-use Rattle.program_parts.specs.declared.refusal.Refusal.{Refusal}
-use Rattle.program_parts.specs.NoRun.{NoRun}
-use Rattle.program_parts.specs.Outside.{files}
-use Rattle.program_parts.specs.Thawing.{SpellsState}
-use Rattle.program_parts.proofs.Refused.{no_bundle, no_file}
+use Rattle.command_parts.specs.declared.refusal.Refusal.{Refusal}
+use Rattle.command_parts.specs.NoRun.{NoRun}
+use Rattle.command_parts.specs.Outside.{files}
+use Rattle.command_parts.specs.Thawing.{SpellsState}
+use Rattle.command_parts.proofs.Refused.{no_bundle, no_file}
 use Rattle.frozen_commands.specs.Thawing.{IsStateFront, JudgesState}
 use Rattle.frozen_commands.proofs.Refused.{asks_thawed, no_state, not_thawed, too_many}
 use Rattle.frozen_commands.proofs.thawing.prepare_thawed.Goals as goal

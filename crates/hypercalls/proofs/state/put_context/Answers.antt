@@ -3,7 +3,8 @@ use Rattle.std.specs.List.{flat_map}
 use Rattle.cloak_model.specs.Bits.{word}
 use Rattle.cloak_model.specs.DomainState.{hart_byte, phase_bytes}
 use Rattle.hypercalls.specs.Hashing.{TakesIn}
-use Rattle.hypercalls.proofs.Hashed.{then, bytes_are, take-rest}
+use Rattle.hypercalls.proofs.Hashed.{then, bytes_are}
+use Rattle.domain_page.proofs.Written.{take-rest}
 use Rattle.hypercalls.proofs.state.put_context.Goals as goal
 
 pub returns : goal.returns

@@ -1,7 +1,7 @@
 use Rattle.std.proofs.Common.{◌∙◌, ap}
 use Rattle.cloak_base.specs.Random.{numbered}
 use Rattle.guest_kernel.specs.Generated.{generated}
-use Rattle.program_parts.proofs.FaultFacts.{raised}
+use Rattle.command_parts.proofs.FaultFacts.{raised}
 use Rattle.run_command.specs.Running.{status_of}
 use Rattle.image_commands.proofs.Runs.{shows_all, shows_front}
 use Rattle.image_commands.proofs.demonstrating.demo_command.Goals as goal

@@ -1,5 +1,5 @@
 use Rattle.std.proofs.Common.{◌∙◌, refl}
-use Rattle.program_parts.proofs.Refused.{no_bundle, unread}
+use Rattle.command_parts.proofs.Refused.{no_bundle, unread}
 use Rattle.image_commands.proofs.Upgraded.{not_made, upgrade_refuses, upgrades}
 use Rattle.image_commands.proofs.upgrading.upgrade_command.Goals as goal
 

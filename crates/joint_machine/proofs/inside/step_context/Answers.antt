@@ -23,11 +23,11 @@ returns-clause-emits_some g c = some_then g.E.Emit.gave _ c.step_domain.new.e _ 
 pub returns-clause-turns : goal.returns-clause-turns
 returns-clause-turns g c j was stands holds are unclashed =
     let due = sym (ap (λ (h : Hart). interrupt_due h.mode h.csrs) c.h.view_is) ∙ sym c.due.ensures ∙ c.if-due.false in
-    let v = c.view_of-view.ensures in
-    let view = c.view_of-view.result in
-    let begins = begun_is j.memory view c.args.slot was c.args.h.now c.args.d v.satp v.sum v.mxr v.domain in
+    let v = c.regime_of-regime.ensures in
+    let regime = c.regime_of-regime.result in
+    let begins = begun_is j.memory regime c.args.slot was c.args.h.now c.args.d v.satp v.sum v.mxr v.domain in
     turns_now g.E.Emit.gave _ _ c.args.h.now _ _ _ _ _ j c.args.number c.args.d c.args.slot was _ false due
-    (turns_stepping g.E.Emit.gave _ _ _ c.args.h.now _ _ c.args.roots.now _ c.end_space.new.memory c.go_on.new.memory c.step_domain.new.stepped _ j c.args.number c.args.d c.args.slot was view begins are
+    (turns_stepping g.E.Emit.gave _ _ _ c.args.h.now _ _ c.args.roots.now _ c.end_space.new.memory c.go_on.new.memory c.step_domain.new.stepped _ j c.args.number c.args.d c.args.slot was regime begins are
     (λ u. steps_on g.E.Emit.gave _ _ c.step_domain.new.memory c.end_space.new.memory _ _ _ c.end_space.ensures.holds
     (c.step_domain.ensures.steps j.memory was holds stands u)) (λ after w met same. c.go_on.ensures.goes_on after w met same)) unclashed
 
@@ -40,12 +40,12 @@ returns-then-due-clause-goes g c j was stands holds unclashed =
 pub returns-clause-goes : goal.returns-clause-goes
 returns-clause-goes g c j was stands holds unclashed =
     let due = sym (ap (λ (h : Hart). interrupt_due h.mode h.csrs) c.h.view_is) ∙ sym c.due.ensures ∙ c.if-due.false in
-    let v = c.view_of-view.ensures in
-    let view = c.view_of-view.result in
-    let begins = begun_is j.memory view c.args.slot was c.args.h.now c.args.d v.satp v.sum v.mxr v.domain in
+    let v = c.regime_of-regime.ensures in
+    let regime = c.regime_of-regime.result in
+    let begins = begun_is j.memory regime c.args.slot was c.args.h.now c.args.d v.satp v.sum v.mxr v.domain in
     let there = taken_slot c.args.domain.now was c.args.slot c.args.space stands c.requires.runs in
     goes_same c.args.memory.now c.end_space.new.memory c.go_on.new.memory _ c.go_on.ensures.same
-    (goes_stepped c.args.memory.now c.step_domain.new.memory c.end_space.new.memory _ j c.args.number c.args.h.now c.args.d c.args.slot was there.0 _ view c.step_domain.new.stepped.went
+    (goes_stepped c.args.memory.now c.step_domain.new.memory c.end_space.new.memory _ j c.args.number c.args.h.now c.args.d c.args.slot was there.0 _ regime c.step_domain.new.stepped.went
     due there.1.0 (ap (λ (n : ℕ). let s : SpaceId = record { domain = c.args.d; number = n } in s) there.1.1) begins
     (λ u. ((c.step_domain.ensures.steps j.memory was holds stands u).went, c.step_domain.ensures.goes j.memory was holds stands u))
     c.end_space.ensures.goes unclashed)

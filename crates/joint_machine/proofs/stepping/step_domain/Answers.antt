@@ -23,23 +23,23 @@ pub returns-clause-others : goal.returns-clause-others
 returns-clause-others g c =
     let kept = c.step.ensures.keeps _ (stays_self g.E.Emit.gave _) in
     let lent = sym kept.same_memory in
-    others_back c.args.view.domain c.args.memory.now.pager _ c.step.new.m.memory.now.pager (search rules) kept.others
+    others_back c.args.regime.domain c.args.memory.now.pager _ c.step.new.m.memory.now.pager (search rules) kept.others
 
 pub returns-clause-unused : goal.returns-clause-unused
 returns-clause-unused g c =
     let kept = c.step.ensures.keeps _ (stays_self g.E.Emit.gave _) in
     let lent = sym kept.same_memory in
-    unused_back c.step.new.m _ c.args.view _ (search rules) kept.view c.step.ensures.unused
+    unused_back c.step.new.m _ c.args.regime _ (search rules) kept.regime c.step.ensures.unused
 
 pub returns-clause-steps : goal.returns-clause-steps
 returns-clause-steps g c m d holds stands unclashed =
     let kept = c.step.ensures.keeps _ (stays_self g.E.Emit.gave _) in
     let memory_lent = sym kept.same_memory in
     let emitter_lent = sym kept.same_emitter in
-    let cloak = begun m c.args.view c.args.slot d in
+    let cloak = begun m c.args.regime c.args.slot d in
     let sees = sees_first g.E.Emit.gave _ cloak holds refl refl refl refl in
     steps_told g.E.Emit.gave _ c.step.new.m c.step.new.self _ _ _ _ _ (search rules) (search rules) c.keep.ensures refl
-    (c.step.ensures.steps _ d stands (Cloaked cloak) (pages_begun m c.args.view c.args.slot d _ stands.control) (sees, (c.args.space, refl)) unclashed)
+    (c.step.ensures.steps _ d stands (Cloaked cloak) (pages_begun m c.args.regime c.args.slot d _ stands.control) (sees, (c.args.space, refl)) unclashed)
 
 pub returns-clause-counting : goal.returns-clause-counting
 returns-clause-counting g c =
@@ -51,8 +51,8 @@ pub returns-clause-goes : goal.returns-clause-goes
 returns-clause-goes g c m d holds stands unclashed =
     let kept = c.step.ensures.keeps _ (stays_self g.E.Emit.gave _) in
     let lent = sym kept.same_memory in
-    let cloak = begun m c.args.view c.args.slot d in
+    let cloak = begun m c.args.regime c.args.slot d in
     let sees = sees_first g.E.Emit.gave _ cloak holds refl refl refl refl in
-    let steps = c.step.ensures.steps _ d stands (Cloaked cloak) (pages_begun m c.args.view c.args.slot d _ stands.control) (sees, (c.args.space, refl)) unclashed in
+    let steps = c.step.ensures.steps _ d stands (Cloaked cloak) (pages_begun m c.args.regime c.args.slot d _ stands.control) (sees, (c.args.space, refl)) unclashed in
     goes_back _ _ c.step.new.m.memory.now _ (returns-clause-size g c) (search rules)
     (goes_world g.E.Emit.gave _ c.step.new.m (Some c.args.space) (domain_step c.args.slot d (Cloaked cloak)).world kept.space steps.world_stands.0)

@@ -1,6 +1,6 @@
 use Rattle.std.proofs.Common.{◌∙◌, ℕ, List, Option, subst, sym}
 use Rattle.toml.specs.View.{view}
-use Rattle.program_parts.specs.Outside.{files}
+use Rattle.command_parts.specs.Outside.{files}
 use Rattle.manifest.specs.Manifest.{IsSource}
 use Rattle.manifest.proofs.Kept.{same_held, read_more}
 use Rattle.manifest.proofs.Listed.{items_view-more, stores_more}

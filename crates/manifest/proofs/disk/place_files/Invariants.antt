@@ -1,6 +1,6 @@
 use Rattle.std.proofs.Common.{◌≡◌, length, take}
 use Rattle.toml.specs.View.{items_view}
-use Rattle.program_parts.specs.Outside.{OnlyRead, files}
+use Rattle.command_parts.specs.Outside.{OnlyRead, files}
 use Rattle.manifest.specs.Manifest.{StoresFiles}
 use Rattle.manifest.proofs.disk.place_files.Given as goal
 

@@ -1,4 +1,4 @@
-use Rattle.program_parts.specs.Outside.{files}
+use Rattle.command_parts.specs.Outside.{files}
 use Rattle.manifest.proofs.pack.pack_command.Goals as goal
 
 pub returns : goal.returns

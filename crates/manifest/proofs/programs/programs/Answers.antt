@@ -3,7 +3,7 @@ use Rattle.std.proofs.lemmas.List.{take_all}
 use Rattle.std.proofs.lemmas.List.Elements.{All-push}
 use Rattle.toml.specs.declared.value.Value.{Value}
 use Rattle.toml.specs.View.{view, items_view}
-use Rattle.program_parts.specs.Outside.{files}
+use Rattle.command_parts.specs.Outside.{files}
 use Rattle.cloak_model.specs.declared.image.Program.{Program}
 use Rattle.cloak_model.specs.Bundle.{IsProgramIn}
 use Rattle.manifest.specs.declared.fault.PackFault.TheVariants.{NoMemory}

@@ -1,7 +1,7 @@
 use Rattle.std.proofs.Common.{◌≡◌, length, take}
 use Rattle.std.specs.Prelude.{All}
 use Rattle.toml.specs.View.{items_view}
-use Rattle.program_parts.specs.Outside.{OnlyRead, files}
+use Rattle.command_parts.specs.Outside.{OnlyRead, files}
 use Rattle.cloak_model.specs.Bundle.{IsProgramIn}
 use Rattle.manifest.specs.Manifest.{EachMeans, IsProgramOf}
 use Rattle.manifest.proofs.programs.programs.Given as goal

@@ -1,7 +1,7 @@
 use Rattle.std.proofs.Common.{◌≡◌, length, take}
 use Rattle.std.specs.Prelude.{All}
 use Rattle.toml.specs.View.{items_view}
-use Rattle.program_parts.specs.Outside.{OnlyRead, files}
+use Rattle.command_parts.specs.Outside.{OnlyRead, files}
 use Rattle.cloak_model.specs.Bundle.{IsSegmentIn}
 use Rattle.manifest.specs.Manifest.{EachMeans, IsSegmentOf}
 use Rattle.manifest.proofs.segments.segments.Given as goal

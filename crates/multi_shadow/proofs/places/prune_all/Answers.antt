@@ -30,7 +30,7 @@ returns-clause-ends c =
           let below = (inv.placed.there chain.Bucket s _ e l refl).0 in (
             i.0,
             not_true _ (λ w.
-                let less = subst (λ n. bucket_of n e.view e.page e.kind < n) inv.heads below in
+                let less = subst (λ n. bucket_of n e.regime e.page e.kind < n) inv.heads below in
                 let more = i.1 w in
                 let heads = c.requires.heads in
                 let end = c.loop-head-test.false in

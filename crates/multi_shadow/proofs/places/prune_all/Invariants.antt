@@ -9,7 +9,7 @@ invariant-loop-head l = record {
   heads : l.arena.heads ≡ l.fn.arena.heads;
   long : length l.arena.payloads ≡ length l.fn.arena.payloads;
   ended : (s : ℕ) (e : Entry) → LiesAt l.arena s e
-      → LiesAt l.fn.arena s e × (is_wanted l.space e ≡ true → l.head ≤ bucket_of l.fn.arena.heads e.view e.page e.kind);
+      → LiesAt l.fn.arena s e × (is_wanted l.space e ≡ true → l.head ≤ bucket_of l.fn.arena.heads e.regime e.page e.kind);
   kept : (s : ℕ) (e : Entry) → LiesAt l.fn.arena s e
-      → (is_wanted l.space e ≡ true → l.head ≤ bucket_of l.fn.arena.heads e.view e.page e.kind) → LiesAt l.arena s e;
+      → (is_wanted l.space e ≡ true → l.head ≤ bucket_of l.fn.arena.heads e.regime e.page e.kind) → LiesAt l.arena s e;
 }

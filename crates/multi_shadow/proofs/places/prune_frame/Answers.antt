@@ -8,7 +8,7 @@ pub returns-then-f-heads-clause-ends : goal.returns-then-f-heads-clause-ends
 returns-then-f-heads-clause-ends c =
     let now = c.prune_head.ensures.ends in record { long = now.long; ended = now.ended; kept = now.kept }
 
--- no entry hangs on a head that there is not
+-- no entry hangs on a head that does not exist
 pub returns-else-f-heads-clause-ends : goal.returns-else-f-heads-clause-ends
 returns-else-f-heads-clause-ends c = record {
   long = refl;

@@ -25,7 +25,7 @@ loop-page-preserved g c = record {
 
 pub insert-requires-2-clause-unknown : goal.insert-requires-2-clause-unknown
 insert-requires-2-clause-unknown g c =
-    ap (λ e. is_known e.view e.page e.kind c.find.new.self) c.load_of-3.ensures
+    ap (λ e. is_known e.regime e.page e.kind c.find.new.self) c.load_of-3.ensures
     ∙ (ap (is_known bare 1024 Load) c.find.ensures.counted
     ∙ (look_known _ _ _ bare 1024 Load c.loop-page.shadows
     ∙ c.loop-page.invariant.later 1024 (omega (arith, c.loop-page.auto.page-end))))

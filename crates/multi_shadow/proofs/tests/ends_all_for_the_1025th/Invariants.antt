@@ -1,7 +1,7 @@
 use Rattle.std.proofs.Common.{◌≡◌, ℕ, ◌≤◌, false}
 use Rattle.cloak_base.specs.declared.names.Kind.TheVariants.{Load}
 use Rattle.cloak_base.specs.declared.names.Mode.TheVariants.{S}
-use Rattle.shadow_fold.specs.declared.entry.ShadowView.TheVariants.{Outside}
+use Rattle.shadow_fold.specs.declared.entry.Regime.TheVariants.{Outside}
 use Rattle.shadow_fold.specs.Table.{is_known}
 use Rattle.multi_shadow.proofs.tests.ends_all_for_the_1025th.Given as goal
 

@@ -1,4 +1,4 @@
-use Rattle.program_parts.proofs.RefusalFacts.{puts}
+use Rattle.command_parts.proofs.RefusalFacts.{puts}
 use Rattle.read_back.proofs.ending.show_fault.Goals as goal
 
 pub returns-in-Unfit : goal.returns-in-Unfit

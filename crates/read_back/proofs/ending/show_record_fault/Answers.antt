@@ -1,4 +1,4 @@
-use Rattle.program_parts.proofs.RefusalFacts.{puts}
+use Rattle.command_parts.proofs.RefusalFacts.{puts}
 use Rattle.read_back.proofs.ending.show_record_fault.Goals as goal
 
 pub returns-in-Short : goal.returns-in-Short

@@ -1,8 +1,8 @@
 use Rattle.std.proofs.Common.{List, length, refl, ◌∙◌, ap, sym, arith}
 use Rattle.std.proofs.lemmas.Option.{slice_get_read}
-use Rattle.program_parts.specs.declared.refusal.Refusal.TheVariants as refusal
-use Rattle.program_parts.proofs.Refused.{no_bundle}
-use Rattle.program_parts.proofs.Refused.{unread}
+use Rattle.command_parts.specs.declared.refusal.Refusal.TheVariants as refusal
+use Rattle.command_parts.proofs.Refused.{no_bundle}
+use Rattle.command_parts.proofs.Refused.{unread}
 use Rattle.read_back.proofs.Answered.{unread_or_none, solo_refuses, solo_answers}
 use Rattle.read_back.proofs.solo.solo_command.Goals as goal
 

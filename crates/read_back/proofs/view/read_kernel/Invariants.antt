@@ -1,5 +1,5 @@
 use Rattle.std.proofs.Common.{◌≡◌, ◌<◌, ◌^◌, ◌-◌}
-use Rattle.outside_io.specs.Told.{SameFiles}
+use Rattle.io_traits.specs.Told.{SameFiles}
 use Rattle.cloak_model.specs.declared.image.KernelImage.{KernelImage}
 use Rattle.cloak_model.specs.KernelAlone.{opened_kernel}
 use Rattle.alone_views.specs.KernelStanding.{StandsForKernel}

@@ -1,6 +1,6 @@
 use Rattle.std.proofs.Common.{refl, ◌∙◌}
-use Rattle.program_parts.specs.declared.refusal.Refusal.TheVariants as refusal
-use Rattle.program_parts.proofs.Refused.{no_bundle, unread}
+use Rattle.command_parts.specs.declared.refusal.Refusal.TheVariants as refusal
+use Rattle.command_parts.proofs.Refused.{no_bundle, unread}
 use Rattle.read_back.proofs.Answered.{view_refuses, view_answers}
 use Rattle.read_back.proofs.view.view_command.Goals as goal
 

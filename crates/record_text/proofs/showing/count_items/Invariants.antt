@@ -1,5 +1,5 @@
 use Rattle.std.proofs.Common.{◌≡◌, ◌<◌, ◌^◌, ◌-◌}
-use Rattle.outside_io.specs.Told.{SameFiles}
+use Rattle.io_traits.specs.Told.{SameFiles}
 use Rattle.record_reader.specs.Reading.{reader_offset}
 use Rattle.record_text.proofs.SoFar.{CountedSoFar}
 use Rattle.record_text.proofs.showing.count_items.Given as goal

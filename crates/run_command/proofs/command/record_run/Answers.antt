@@ -1,7 +1,7 @@
 use Rattle.std.proofs.Common.{refl, ◌∙◌, sym, inl, inr, []}
-use Rattle.outside_io.proofs.ToldFacts.{Grows-none}
+use Rattle.io_traits.proofs.ToldFacts.{Grows-none}
 use Rattle.run_command.proofs.OutletFacts.{gave_all}
-use Rattle.program_parts.proofs.FaultFacts.{succeeded, failed, counted, risen}
+use Rattle.command_parts.proofs.FaultFacts.{succeeded, failed, counted, risen}
 use Rattle.run_command.proofs.AnswerFacts.{recorded_front, recorded_all}
 use Rattle.run_command.proofs.command.record_run.Goals as goal
 

@@ -2,7 +2,7 @@ use Rattle.std.proofs.Common.{subst}
 use Rattle.std.specs.List.{AllByRecursion}
 use Rattle.cloak_model.specs.declared.image.Program.{Program}
 use Rattle.cloak_model.specs.declared.image.Segment.{Segment}
-use Rattle.item_law.specs.Writing.{AreBytes}
+use Rattle.range_law.specs.Writing.{AreBytes}
 use Rattle.run_command.proofs.prepare.image_is_of_bytes.Goals as goal
 
 pub returns : goal.returns

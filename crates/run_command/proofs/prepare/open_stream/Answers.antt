@@ -1,5 +1,5 @@
 use Rattle.std.proofs.Common.{refl, subst}
-use Rattle.item_law.specs.Writing.{AreBytes}
+use Rattle.range_law.specs.Writing.{AreBytes}
 use Rattle.run_command.proofs.PrepareFacts.{numbered_bytes}
 use Rattle.run_command.proofs.prepare.open_stream.Goals as goal
 

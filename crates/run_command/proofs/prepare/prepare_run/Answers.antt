@@ -4,7 +4,7 @@ use Rattle.run_command.proofs.PrepareFacts.{run_named, stream_before}
 use Rattle.cloak_base.specs.Random.{Random}
 use Rattle.cloak_machine.specs.Standing.{Opens}
 use Rattle.joint_machine.specs.declared.opened.OpenFault.{OpenFault}
-use Rattle.program_parts.proofs.Refused.{no_bundle, no_file}
+use Rattle.command_parts.proofs.Refused.{no_bundle, no_file}
 use Rattle.run_command.proofs.prepare.prepare_run.Goals as goal
 
 pub returns-in-Err-clause-prepares : goal.returns-in-Err-clause-prepares

@@ -1,7 +1,7 @@
 use Rattle.std.proofs.Common.{take}
 use Rattle.std.specs.List.{AllByRecursion}
 use Rattle.cloak_model.specs.declared.image.Program.{Program}
-use Rattle.item_law.specs.Writing.{AreBytes}
+use Rattle.range_law.specs.Writing.{AreBytes}
 use Rattle.run_command.proofs.prepare.programs_are_bytes.Given as goal
 
 abbrev pub invariant-loop-program : goal.invariant-loop-program

@@ -1,6 +1,6 @@
 use Rattle.std.proofs.Common.{subst}
 use Rattle.cloak_model.specs.declared.image.Segment.{Segment}
-use Rattle.item_law.specs.Writing.{AreBytes}
+use Rattle.range_law.specs.Writing.{AreBytes}
 use Rattle.run_command.proofs.PrepareFacts.{all_so_far, all_at_end}
 use Rattle.run_command.proofs.prepare.segments_are_bytes.Goals as goal
 

@@ -1,5 +1,5 @@
 use Rattle.std.proofs.Common.{Ok}
-use Rattle.program_parts.specs.Outside.{outside}
+use Rattle.command_parts.specs.Outside.{outside}
 use Rattle.run_story.proofs.Answered.{no_bundle, shows_story, shows_untold}
 use Rattle.run_story.proofs.Ends.{lacks_since, tells_behind}
 use Rattle.run_story.proofs.command.explain_command.Goals as goal

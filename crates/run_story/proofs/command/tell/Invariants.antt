@@ -1,5 +1,5 @@
 use Rattle.std.proofs.Common.{◌≡◌, ◌<◌, ◌^◌, ◌-◌}
-use Rattle.outside_io.specs.Told.{SameFiles}
+use Rattle.io_traits.specs.Told.{SameFiles}
 use Rattle.record_reader.specs.Reading.{reader_offset}
 use Rattle.run_story.proofs.Ends.{StandsSoFar}
 use Rattle.run_story.proofs.command.tell.Given as goal

@@ -1,7 +1,7 @@
 use Rattle.std.proofs.Common.{take, get_or}
 use Rattle.std.proofs.lemmas.List.{take_more}
 use Rattle.rv_isa.specs.declared.instr.Instr.TheVariants.{Lui}
-use Rattle.rv_asm.specs.declared.item.Item.TheVariants.{Instruction}
+use Rattle.rv_asm.specs.declared.image_word.ImageWord.TheVariants.{Instruction}
 use Rattle.rv_asm.proofs.Encoded.{one_more}
 use Rattle.rv_asm.proofs.assembler.words_of.Goals as goal
 

@@ -4,7 +4,7 @@ use Rattle.shadow_fold.proofs.Agreeing.{found, keeps_ending, keeps_insert}
 use Rattle.shadow_fold.proofs.laws.law_of_agreement.Goals as goal
 
 pub returns-clause-found : goal.returns-clause-found
-returns-clause-found c = λ p view page kind t e all is. found (EntryAgrees p) (is_for view page kind) t.live e all is
+returns-clause-found c = λ p regime page kind t e all is. found (EntryAgrees p) (is_for regime page kind) t.live e all is
 
 pub returns-clause-ending : goal.returns-clause-ending
 returns-clause-ending c = λ p p'. keeps_ending (EntryAgrees p) (EntryAgrees p')

@@ -1,5 +1,5 @@
 use Rattle.std.proofs.Common.{refl}
-use Rattle.program_parts.proofs.FaultFacts.{raised}
+use Rattle.command_parts.proofs.FaultFacts.{raised}
 use Rattle.stats_command.proofs.AnswerFacts.{shows_front, shows_lines}
 use Rattle.stats_command.proofs.command.count_and_show.Goals as goal
 

@@ -1,7 +1,7 @@
 use Rattle.std.proofs.Common.{◌∙◌, ap, inl, refl, sym}
 use Rattle.cloak_machine.specs.Ending.{end_is_refused}
 use Rattle.command_words.specs.Request.{names_of}
-use Rattle.program_parts.specs.Outside.{files, output}
+use Rattle.command_parts.specs.Outside.{files, output}
 use Rattle.run_command.specs.Running.{status_of}
 use Rattle.run_command.proofs.BegunFacts.{are_low, at_pieces, begins}
 use Rattle.store_command.proofs.RunFacts.{closed_disk, runs_over}

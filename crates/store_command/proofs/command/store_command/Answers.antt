@@ -1,5 +1,5 @@
 use Rattle.command_words.specs.Request.{names_of}
-use Rattle.program_parts.specs.Outside.{files}
+use Rattle.command_parts.specs.Outside.{files}
 use Rattle.store_command.proofs.AnswerFacts.{answers_no_run, answers_stored, keeps_stored, same_files}
 use Rattle.store_command.proofs.command.store_command.Goals as goal
 

@@ -1,11 +1,11 @@
 use Rattle.std.proofs.Common.{◌≡◌, ◌∙◌, ◌+◌, ℕ, List, Option, length, refl, sym, ap, subst, arith}
 use Rattle.cloak_base.specs.Random.{Random}
 use Rattle.command_words.specs.Request.{asked_of_store, names_of, randomness_of}
-use Rattle.program_parts.specs.declared.refusal.Refusal.{Refusal}
-use Rattle.program_parts.specs.NoRun.{NoRun}
-use Rattle.program_parts.specs.Outside.{files}
-use Rattle.program_parts.specs.Storing.{IsSecret}
-use Rattle.program_parts.proofs.Refused.{no_bundle, no_file}
+use Rattle.command_parts.specs.declared.refusal.Refusal.{Refusal}
+use Rattle.command_parts.specs.NoRun.{NoRun}
+use Rattle.command_parts.specs.Outside.{files}
+use Rattle.command_parts.specs.Storing.{IsSecret}
+use Rattle.command_parts.proofs.Refused.{no_bundle, no_file}
 use Rattle.store_command.specs.Preparing.{keys_of}
 use Rattle.store_command.proofs.Lengths.{place_small, place_within}
 use Rattle.store_command.proofs.Refused.{asks_stored, no_old, no_secret, not_opened}
@@ -20,7 +20,7 @@ pub returns-in-Err-read_secret-clause-prepares : goal.returns-in-Err-read_secret
 returns-in-Err-read_secret-clause-prepares g c =
     let b = c.in-Ok.ensures in
     let e = c.in-Err-read_secret.ensures in
-    no_secret _ _ _ _ c.in-Err-read_secret.refusal _ _ _ _ (b.files _) b.bundle.0 e.secret c.requires.reading
+    no_secret _ _ _ _ c.in-Err-read_secret.refusal _ _ _ _ b.bundle.1.0 _ _ b.bundle.1.1 (b.files _) b.bundle.0 e.secret c.requires.reading
     (λ name. e.files name ∙ b.files name) (e.writing ∙ b.writing)
 
 pub returns-in-Err-read_old-clause-prepares : goal.returns-in-Err-read_old-clause-prepares
@@ -29,7 +29,8 @@ returns-in-Err-read_old-clause-prepares g c =
     let s = c.in-Ok-read_secret.ensures in
     let e = c.in-Err-read_old.ensures in
     let name = c.args.store.now.files.old_name.now in
-    no_old _ _ _ _ c.in-Err-read_old.refusal _ _ _ _ (keys_of c.in-Ok-read_secret.secret) c.read_old.new.table
+    no_old _ _ _ _ c.in-Err-read_old.refusal _ _ _ _ b.bundle.1.0 _ _ (keys_of c.in-Ok-read_secret.secret)
+    c.read_old.new.table b.bundle.1.1
     (subst (λ (t : Option (List ℕ)). IsSecret t (keys_of c.in-Ok-read_secret.secret)) (b.files _) s.secret.1)
     (s.files name ∙ b.files name) (s.secret.0 ∙ b.bundle.0) e.old c.requires.reading
     (λ name. e.files name ∙ (s.files name ∙ b.files name)) (e.writing ∙ (s.writing ∙ b.writing))

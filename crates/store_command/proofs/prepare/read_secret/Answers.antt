@@ -1,5 +1,5 @@
 use Rattle.std.proofs.Common.{◌<◌, length, arith}
-use Rattle.program_parts.specs.Storing.{secret_length}
+use Rattle.command_parts.specs.Storing.{secret_length}
 use Rattle.store_command.proofs.OldFacts.{too_short}
 use Rattle.store_command.proofs.prepare.read_secret.Goals as goal
 

@@ -1,4 +1,4 @@
--- A `&` to the places lends each value that is written, and not the room behind them. Assumes `Logic`.
+-- A `&` to the places lends each value that is written, and not the room after them. Assumes `Logic`.
 use mathlib.Core.Path.{sym, subst}
 use mathlib.Core.List.{[], ◌++◌}
 use lib.ListN.{length}

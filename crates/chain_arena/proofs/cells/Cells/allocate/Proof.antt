@@ -59,7 +59,7 @@ use Rattle.chain_arena.specs.Ownership.{cells_own}
 use Rattle.chain_arena.specs.Places.{HasPlaces, IsDeedOf}
 use Rattle.chain_arena.proofs.Memory.{CellsOf, BaseOf, mark, all_room_left}
 use Rattle.chain_arena.proofs.Triples.{Mark, mark_made, word_made, three_val, three_of}
-use Rattle.chain_arena.specs.contracts.cells.Deed as deeds
+use Rattle.chain_arena.specs.contracts.cells.BlockRight as deeds
 use Rattle.chain_arena.specs.contracts.cells.Cells.allocate as F
 use Rattle.chain_arena.specs.contracts.cells.Cells.allocate.Key.{name as #self}
 use Rattle.chain_arena.proofs.cells.Cells.allocate.Statement.{statement}

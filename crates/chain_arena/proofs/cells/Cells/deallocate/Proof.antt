@@ -49,8 +49,8 @@ use Rattle.chain_arena.specs.Places.{IsDeedOf}
 use Rattle.chain_arena.proofs.Memory.{CellsOf, BaseOf, mark, nowhere, all_forgotten}
 use Rattle.chain_arena.proofs.cells.Base.TheLaws as base_laws
 use Rattle.chain_arena.proofs.cells.Cells.TheLaws as cells_laws
-use Rattle.chain_arena.proofs.cells.Deed.TheLaws as deed_laws
-use Rattle.chain_arena.specs.contracts.cells.Deed as deeds
+use Rattle.chain_arena.proofs.cells.BlockRight.TheLaws as deed_laws
+use Rattle.chain_arena.specs.contracts.cells.BlockRight as deeds
 use Rattle.chain_arena.specs.contracts.cells.Cells.deallocate as F
 use Rattle.chain_arena.specs.contracts.cells.Cells.deallocate.Key.{name as #self}
 use Rattle.chain_arena.proofs.cells.Cells.deallocate.Statement.{statement}

@@ -91,7 +91,7 @@ module _ (E : El) {M : Type 1} {𝓤 : Ura M} (𝓛 : Logic 𝓤) (at_mem : Memo
   abbrev Asks : Type 0
   Asks = (base.ptr ≡ d.at) × (i < length d.values)
 
-  -- the owner's value, with w in the place of the value that is lent
+  -- the owner's value, with w instead of the value that is lent
   abbrev new : el_x E → Cr.Denot
   new w = with_values d (set d.values i w)
 

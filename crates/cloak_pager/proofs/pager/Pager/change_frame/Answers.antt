@@ -1,4 +1,4 @@
-use Rattle.cloak_pager.specs.declared.held.Held.TheVariants.{Clean}
+use Rattle.cloak_pager.specs.declared.frame_right.FrameRight.TheVariants.{Clean}
 use Rattle.cloak_pager.proofs.Keeping.{right_seen}
 use Rattle.cloak_pager.proofs.Turned.{change_kept, change_turns}
 use Rattle.cloak_pager.proofs.pager.Pager.change_frame.Goals as goal

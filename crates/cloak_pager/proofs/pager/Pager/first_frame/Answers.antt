@@ -1,5 +1,5 @@
 use Rattle.protect_meta.specs.Pages.{IsIn}
-use Rattle.cloak_pager.specs.declared.held.Held.TheVariants.{Outside}
+use Rattle.cloak_pager.specs.declared.frame_right.FrameRight.TheVariants.{Outside}
 use Rattle.cloak_pager.proofs.Keeping.{right_seen}
 use Rattle.cloak_pager.proofs.Turned.{first_kept, first_turns}
 use Rattle.cloak_pager.proofs.pager.Pager.first_frame.Goals as goal

@@ -1,4 +1,4 @@
-use Rattle.cloak_pager.specs.declared.held.Held.TheVariants.{Changed}
+use Rattle.cloak_pager.specs.declared.frame_right.FrameRight.TheVariants.{Changed}
 use Rattle.cloak_pager.proofs.Keeping.{right_seen}
 use Rattle.cloak_pager.proofs.Writes.{whole_now}
 use Rattle.cloak_pager.proofs.Frozen.{freeze_kept, freezes, owed_inside, froze_right, froze_stays}

@@ -4,7 +4,7 @@ use Rattle.cloak_base.specs.declared.names.PageId.{PageId}
 use Rattle.cloak_base.proofs.Pages.{same_page-decides}
 use Rattle.protect_meta.specs.Table.{meta_at}
 use Rattle.cloak_pager.specs.Turns.{OfferTurns}
-use Rattle.cloak_pager.specs.declared.held.Held.TheVariants.{Clean, Changed}
+use Rattle.cloak_pager.specs.declared.frame_right.FrameRight.TheVariants.{Clean, Changed}
 use Rattle.cloak_pager.specs.declared.offering.Offered.TheVariants.{Ready}
 use Rattle.cloak_pager.proofs.Keeping.{right_now}
 use Rattle.cloak_pager.proofs.Offers.{may_again, offer_by}

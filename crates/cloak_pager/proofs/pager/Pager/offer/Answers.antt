@@ -1,7 +1,7 @@
 use Rattle.std.proofs.Common.{refl, sym, subst, Bool}
 use Rattle.protect_meta.specs.Table.{meta_at}
 use Rattle.cloak_pager.specs.Turns.{OfferTurns}
-use Rattle.cloak_pager.specs.declared.held.Held.TheVariants.{Clean, Changed}
+use Rattle.cloak_pager.specs.declared.frame_right.FrameRight.TheVariants.{Clean, Changed}
 use Rattle.cloak_pager.specs.declared.offering.Offered.TheVariants.{Ready}
 use Rattle.cloak_pager.proofs.Keeping.{right_now}
 use Rattle.cloak_pager.proofs.Offers.{MayOffer, offer_by}

@@ -2,7 +2,7 @@ use Rattle.std.proofs.Common.{◌≡◌, ◌∙◌, ap, refl, sym, subst, Some, 
 use Rattle.protect_meta.specs.Table.{meta_at}
 use Rattle.cloak_pager.specs.State.{page_of, owed_under}
 use Rattle.cloak_pager.specs.Turns.{OfferTurns}
-use Rattle.cloak_pager.specs.declared.held.Held.TheVariants.{Outside, Clean, Changed}
+use Rattle.cloak_pager.specs.declared.frame_right.FrameRight.TheVariants.{Outside, Clean, Changed}
 use Rattle.cloak_pager.specs.declared.offering.Offered.TheVariants.{Ready}
 use Rattle.cloak_pager.proofs.Keeping.{right_now}
 use Rattle.cloak_pager.proofs.Offers.{MayOffer, offer_by, shown_turns, clean_turns}

@@ -4,7 +4,7 @@ use Rattle.protect_meta.specs.Table.{meta_at}
 use Rattle.protect_meta.specs.Pages.{IsIn}
 use Rattle.cloak_pager.specs.State.{PagerState, IsWholeWithHomes, page_of}
 use Rattle.cloak_pager.specs.Turns.{IsClean}
-use Rattle.cloak_pager.specs.declared.held.Held.TheVariants.{Outside}
+use Rattle.cloak_pager.specs.declared.frame_right.FrameRight.TheVariants.{Outside}
 use Rattle.cloak_pager.proofs.Keeping.{right_seen}
 use Rattle.cloak_pager.proofs.Turned.{open_kept, open_turns, put_back, seen_outside, taken_right}
 use Rattle.cloak_pager.proofs.pager.Pager.open_frame.Goals as goal

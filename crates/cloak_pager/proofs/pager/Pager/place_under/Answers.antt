@@ -1,6 +1,6 @@
 use Rattle.std.proofs.Common.{refl, sym, ◌∙◌, ap}
 use Rattle.sha2.specs.Sha256.{sha256}
-use Rattle.cloak_pager.specs.declared.held.Held.TheVariants.{Outside}
+use Rattle.cloak_pager.specs.declared.frame_right.FrameRight.TheVariants.{Outside}
 use Rattle.cloak_pager.proofs.Keeping.{right_seen}
 use Rattle.cloak_pager.proofs.Turned.{place_turns}
 use Rattle.cloak_pager.proofs.pager.Pager.place_under.Goals as goal

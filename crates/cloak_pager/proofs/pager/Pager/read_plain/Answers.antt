@@ -1,6 +1,6 @@
 use Rattle.std.proofs.Common.{ℕ, List, refl}
 use Rattle.cloak_model.specs.Memory.{value_in}
-use Rattle.cloak_pager.specs.declared.held.Held.TheVariants.{Clean, Changed}
+use Rattle.cloak_pager.specs.declared.frame_right.FrameRight.TheVariants.{Clean, Changed}
 use Rattle.cloak_pager.proofs.Writes.{read_value, read_newest}
 use Rattle.cloak_pager.proofs.pager.Pager.read_plain.Goals as goal
 

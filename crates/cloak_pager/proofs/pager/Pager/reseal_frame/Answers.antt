@@ -1,7 +1,7 @@
 use Rattle.std.proofs.Common.{sym, ◌∙◌, ap}
 use Rattle.cloak_base.specs.declared.names.PageId.{PageId}
 use Rattle.cloak_model.specs.Ledger.{key_in}
-use Rattle.cloak_pager.specs.declared.held.Held.TheVariants.{Clean}
+use Rattle.cloak_pager.specs.declared.frame_right.FrameRight.TheVariants.{Clean}
 use Rattle.protect_meta.specs.Table.{meta_at}
 use Rattle.cloak_pager.proofs.Keeping.{right_seen}
 use Rattle.cloak_pager.proofs.Turned.{reseal_kept, reseal_turns}

@@ -1,4 +1,4 @@
-use Rattle.cloak_pager.specs.declared.held.Held.TheVariants.{Changed}
+use Rattle.cloak_pager.specs.declared.frame_right.FrameRight.TheVariants.{Changed}
 use Rattle.cloak_pager.proofs.Keeping.{right_seen}
 use Rattle.cloak_pager.proofs.Turned.{seal_kept, seal_turns}
 use Rattle.cloak_pager.proofs.pager.Pager.seal_frame.Goals as goal

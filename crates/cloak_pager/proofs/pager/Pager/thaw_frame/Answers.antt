@@ -2,7 +2,7 @@ use Rattle.std.proofs.Common.{ℕ, List, ◌≡◌, ◌≢◌, true, sym, subst,
 use Rattle.sha2.specs.Sha256.{sha256}
 use Rattle.protect_meta.specs.Pages.{IsIn}
 use Rattle.cloak_pager.specs.State.{PagerState, IsWholeWithHomes, owed_under}
-use Rattle.cloak_pager.specs.declared.held.Held.TheVariants.{Outside}
+use Rattle.cloak_pager.specs.declared.frame_right.FrameRight.TheVariants.{Outside}
 use Rattle.cloak_pager.proofs.Keeping.{right_seen}
 use Rattle.cloak_pager.proofs.Turned.{put_back, seen_outside, taken_right}
 use Rattle.cloak_pager.proofs.Writes.{whole_now}

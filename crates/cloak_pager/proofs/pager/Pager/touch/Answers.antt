@@ -1,7 +1,7 @@
 use Rattle.std.proofs.Common.{refl}
 use Rattle.cloak_base.specs.declared.names.PageId.{PageId}
 use Rattle.cloak_pager.specs.Turns.{IsResealed, IsSealed}
-use Rattle.cloak_pager.specs.declared.held.Held.TheVariants.{Outside, Clean, Changed}
+use Rattle.cloak_pager.specs.declared.frame_right.FrameRight.TheVariants.{Outside, Clean, Changed}
 use Rattle.cloak_pager.proofs.Keeping.{HasRight, right_now}
 use Rattle.cloak_pager.proofs.Touches.{of_page, clean_outside, outside_now, quiet_follows, resealed_follows, seal_state}
 use Rattle.cloak_pager.proofs.Touches.{sealed_follows, wiped_follows}

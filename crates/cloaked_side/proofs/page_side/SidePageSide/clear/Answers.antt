@@ -18,7 +18,7 @@ returns-clause-cleared g c ok r mark =
     let new = c.clear_frames.new.self in
     let kept = within_of g.E.Emit.gave c.args.self.now new c.clear_frames.ensures.keeps in
     let own = (served_is c.args.self.now c.args.domain c.ranges.domain.fits c.requires).0
-    ∙ sym (ap (λ v. v.domain) kept.stays.view) in
+    ∙ sym (ap (λ v. v.domain) kept.stays.regime) in
     let sixteen : length c.args.resources.now ≡ 16 = search rules in
     record {
       resource = subst (λ (n : ℕ). r < n) sixteen (mark_inside c.args.resources.now r mark);
@@ -28,9 +28,9 @@ returns-clause-cleared g c ok r mark =
 pub returns-clause-unused : goal.returns-clause-unused
 returns-clause-unused g c n unused =
     let kept = within_of g.E.Emit.gave c.args.self.now c.clear_frames.new.self c.clear_frames.ensures.keeps in
-    unused_still c.args.self.now c.clear_frames.new.self n kept.stays.view kept.no_more unused
+    unused_still c.args.self.now c.clear_frames.new.self n kept.stays.regime kept.no_more unused
 
 pub returns-clause-same_domain : goal.returns-clause-same_domain
 returns-clause-same_domain g c =
     let kept = within_of g.E.Emit.gave c.args.self.now c.clear_frames.new.self c.clear_frames.ensures.keeps in
-    served_same c.args.self.now c.clear_frames.new.self kept.stays.size kept.stays.view
+    served_same c.args.self.now c.clear_frames.new.self kept.stays.size kept.stays.regime

@@ -31,7 +31,7 @@ pub returns-clause-follows : goal.returns-clause-follows
 returns-clause-follows g c first w sees unclashed =
     wrap_inside g.E.Emit.gave first c.args.self.now _ _ _ refl sees.1
     (sees_copied g.E.Emit.gave first c.args.self.now _ c.args.domain c.args.from c.args.to w
-    (record { stream = refl; draws = refl; missed = refl; marks = refl; emitter = refl; violation = refl; view = refl; space = refl })
+    (record { stream = refl; draws = refl; missed = refl; marks = refl; emitter = refl; violation = refl; regime = refl; space = refl })
     (λ m m' seen. still_turned _ _ m m' c.copy_pages.ensures.state.rights_are
     (turned_count _ _ _ c.copy_pages.ensures.state) refl seen)
     c.copy_pages.ensures.model

@@ -27,22 +27,22 @@ returns-clause-keeps g c first stays =
 pub returns-clause-cleared : goal.returns-clause-cleared
 returns-clause-cleared g c r cleared =
     let kept = within_of g.E.Emit.gave c.args.self.now c.drop_resource.new.self c.drop_resource.ensures.keeps in
-    cleared_still c.args.self.now c.drop_resource.new.self r kept.stays.view kept.no_more cleared
+    cleared_still c.args.self.now c.drop_resource.new.self r kept.stays.regime kept.no_more cleared
 
 pub returns-clause-unused : goal.returns-clause-unused
 returns-clause-unused g c n unused =
     let kept = within_of g.E.Emit.gave c.args.self.now c.drop_resource.new.self c.drop_resource.ensures.keeps in
-    unused_still c.args.self.now c.drop_resource.new.self n kept.stays.view kept.no_more unused
+    unused_still c.args.self.now c.drop_resource.new.self n kept.stays.regime kept.no_more unused
 
 pub returns-clause-dropped : goal.returns-clause-dropped
 returns-clause-dropped g c =
     let kept = within_of g.E.Emit.gave c.args.self.now c.drop_resource.new.self c.drop_resource.ensures.keeps in
     let own = (served_is c.args.self.now c.args.domain c.ranges.domain.fits c.requires.domain).0
-    ∙ sym (ap (λ v. v.domain) kept.stays.view) in
+    ∙ sym (ap (λ v. v.domain) kept.stays.regime) in
     subst (λ (d : ℕ). IsNoneHeld c.drop_resource.new.self.memory.now.pager d c.args.resource) own
     c.drop_resource.ensures.away
 
 pub returns-clause-same_domain : goal.returns-clause-same_domain
 returns-clause-same_domain g c =
     let kept = within_of g.E.Emit.gave c.args.self.now c.drop_resource.new.self c.drop_resource.ensures.keeps in
-    served_same c.args.self.now c.drop_resource.new.self kept.stays.size kept.stays.view
+    served_same c.args.self.now c.drop_resource.new.self kept.stays.size kept.stays.regime

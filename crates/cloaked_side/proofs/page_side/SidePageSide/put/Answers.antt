@@ -15,9 +15,9 @@ returns-clause-keeps g c first stays = stays_on g.E.Emit.gave first c.args.self.
 pub returns-clause-unused : goal.returns-clause-unused
 returns-clause-unused g c n unused =
     let kept = within_of g.E.Emit.gave c.args.self.now c.put_value.new.self c.put_value.ensures.keeps in
-    unused_still c.args.self.now c.put_value.new.self n kept.stays.view kept.no_more unused
+    unused_still c.args.self.now c.put_value.new.self n kept.stays.regime kept.no_more unused
 
 pub returns-clause-same_domain : goal.returns-clause-same_domain
 returns-clause-same_domain g c =
     let kept = within_of g.E.Emit.gave c.args.self.now c.put_value.new.self c.put_value.ensures.keeps in
-    served_same c.args.self.now c.put_value.new.self kept.stays.size kept.stays.view
+    served_same c.args.self.now c.put_value.new.self kept.stays.size kept.stays.regime

@@ -12,9 +12,9 @@ returns-clause-follows g c first w has sees unclashed =
 pub returns-clause-unused : goal.returns-clause-unused
 returns-clause-unused g c n other unused =
     let kept = c.reach_page.ensures.keeps c.args.self.now (stays_self g.E.Emit.gave c.args.self.now) in
-    unused_offered c.args.self.now c.reach_page.new.self c.args.q n kept.view c.reach_page.ensures.others other unused
+    unused_offered c.args.self.now c.reach_page.new.self c.args.q n kept.regime c.reach_page.ensures.others other unused
 
 pub returns-clause-same_domain : goal.returns-clause-same_domain
 returns-clause-same_domain g c =
     let kept = c.reach_page.ensures.keeps c.args.self.now (stays_self g.E.Emit.gave c.args.self.now) in
-    served_same c.args.self.now c.reach_page.new.self kept.size kept.view
+    served_same c.args.self.now c.reach_page.new.self kept.size kept.regime

@@ -1,8 +1,8 @@
 use Rattle.std.proofs.Common.{◌<◌, ◌∙◌, ℕ, List, slice_index_or, Option, refl, sym, ap, subst}
 use Rattle.cloak_base.specs.declared.names.PageId.{PageId}
 use Rattle.cloak_pager.specs.State.{held_in, owed_under}
-use Rattle.cloak_pager.specs.declared.held.Held.{Held}
-use Rattle.cloak_pager.specs.declared.held.Held.TheVariants.{Spent}
+use Rattle.cloak_pager.specs.declared.frame_right.FrameRight.{FrameRight}
+use Rattle.cloak_pager.specs.declared.frame_right.FrameRight.TheVariants.{Spent}
 use Rattle.cloaked_side.proofs.Answering.{plain_stored}
 use Rattle.cloaked_side.proofs.Holders.{no_more_rights}
 use Rattle.cloaked_side.proofs.Sided.{stays_repaged, written_size, written_count}
@@ -16,7 +16,7 @@ returns-clause-follows g c first w sees unclashed =
     let state = c.write_plain.ensures.state in
     wrap_inside g.E.Emit.gave first c.args.self.now _ _ _ refl sees.1
     (plain_stored g.E.Emit.gave first c.args.self.now _ c.args.q c.args.at c.args.width c.args.v w
-    (record { stream = refl; draws = refl; missed = refl; marks = refl; emitter = refl; violation = refl; view = refl; space = refl }) refl
+    (record { stream = refl; draws = refl; missed = refl; marks = refl; emitter = refl; violation = refl; regime = refl; space = refl }) refl
     state.rights_are (written_count _ _ _ _ state)
     c.write_plain.ensures.model
     (same_tracks _ _ _ _ (held_in c.args.self.now.memory.now.pager) (held_in c.write_plain.new.self) refl refl
@@ -38,7 +38,7 @@ returns-clause-writable g c =
       resource = r.resource;
       page = r.page;
       drawn = r.drawn;
-      owed = ap (λ (rs : List Held). owed_under (slice_index_or rs c.args.self.now.reached.0 Spent)) state.rights_are ∙ r.owed;
+      owed = ap (λ (rs : List FrameRight). owed_under (slice_index_or rs c.args.self.now.reached.0 Spent)) state.rights_are ∙ r.owed;
     }
 
 pub returns-clause-unused : goal.returns-clause-unused

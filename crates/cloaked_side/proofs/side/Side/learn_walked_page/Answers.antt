@@ -14,30 +14,30 @@ returns-then-not-is_table-clause-sees g c first w sees viewed so =
     let gave = g.E.Emit.gave in
     let old = c.args.self.now in
     let led = c.args.led.now in
-    let view = c.args.view.now in
+    let regime = c.args.regime.now in
     let q = c.args.q in
     let walked = c.in-Some.walked in
-    let by = subst (λ (o : Option Walked). IfSome o (λ x. IsWalkOf w view c.args.va c.args.kind x × (x.pa ≡ led.pa))) c.in-Some.is so.by in
-    let reached = subst (λ (o : Option Walked). IfSome o (λ x. let e = entry_at view c.args.va c.args.kind led.pa x (Some q) in is_table e.frame e ≡ false → IsEntryOf w (held_in old.memory.now.pager) e)) c.in-Some.is so.reached in
-    let is = entry_is view c.args.va c.args.kind c.frame_of-f.result led.pa walked (Some q) c.entry_of-e.result c.frame_of-f.ensures c.entry_of-e.ensures in
+    let by = subst (λ (o : Option Walked). IfSome o (λ x. IsWalkOf w regime c.args.va c.args.kind x × (x.pa ≡ led.pa))) c.in-Some.is so.by in
+    let reached = subst (λ (o : Option Walked). IfSome o (λ x. let e = entry_at regime c.args.va c.args.kind led.pa x (Some q) in is_table e.frame e ≡ false → IsEntryOf w (held_in old.memory.now.pager) e)) c.in-Some.is so.reached in
+    let is = entry_is regime c.args.va c.args.kind c.frame_of-f.result led.pa walked (Some q) c.entry_of-e.result c.frame_of-f.ensures c.entry_of-e.ensures in
     let other : is_own_table c.entry_of-e.result ≡ false = own_of c.frame_of-f.result q c.entry_of-e.result c.entry_of-e.ensures (sym c.if-not-is_table.ensures) in
-    born_known gave first c.learn.new.self view c.args.va c.args.kind walked (Some q) w by.0
-    (c.learn.ensures.sees first w (satp_in view) (access_in view c.args.va c.args.kind) walked (Some q) sees
+    born_known gave first c.learn.new.self regime c.args.va c.args.kind walked (Some q) w by.0
+    (c.learn.ensures.sees first w (satp_in regime) (access_in regime c.args.va c.args.kind) walked (Some q) sees
     (subst (λ e. IsEntryOf w (held_in old.memory.now.pager) e) is (reached (own_same q _ _ is other refl)))
-    (entry_same old.space view c.args.va c.args.kind walked (Some q) c.frame_of-f.result led.pa c.entry_of-e.result viewed by.1 c.frame_of-f.ensures c.entry_of-e.ensures) other)
+    (entry_same old.space regime c.args.va c.args.kind walked (Some q) c.frame_of-f.result led.pa c.entry_of-e.result viewed by.1 c.frame_of-f.ensures c.entry_of-e.ensures) other)
 
 pub returns-else-not-is_table-clause-sees : goal.returns-else-not-is_table-clause-sees
 returns-else-not-is_table-clause-sees g c first w sees viewed so =
     let old = c.args.self.now in
     let led = c.args.led.now in
-    let view = c.args.view.now in
+    let regime = c.args.regime.now in
     let q = c.args.q in
     let walked = c.in-Some.walked in
-    let by = subst (λ (o : Option Walked). IfSome o (λ x. IsWalkOf w view c.args.va c.args.kind x × (x.pa ≡ led.pa))) c.in-Some.is so.by in
-    never_known g.E.Emit.gave first old view c.args.va c.args.kind walked (Some q) c.entry_of-e.result w sees by.0
-    (entry_same old.space view c.args.va c.args.kind walked (Some q) c.frame_of-f.result led.pa c.entry_of-e.result viewed by.1 c.frame_of-f.ensures c.entry_of-e.ensures)
+    let by = subst (λ (o : Option Walked). IfSome o (λ x. IsWalkOf w regime c.args.va c.args.kind x × (x.pa ≡ led.pa))) c.in-Some.is so.by in
+    never_known g.E.Emit.gave first old regime c.args.va c.args.kind walked (Some q) c.entry_of-e.result w sees by.0
+    (entry_same old.space regime c.args.va c.args.kind walked (Some q) c.frame_of-f.result led.pa c.entry_of-e.result viewed by.1 c.frame_of-f.ensures c.entry_of-e.ensures)
     (own_of c.frame_of-f.result q c.entry_of-e.result c.entry_of-e.ensures (sym c.if-not-is_table.ensures))
 
 pub returns-in_default-clause-sees : goal.returns-in_default-clause-sees
 returns-in_default-clause-sees g c first w sees viewed so =
-    sees_live g.E.Emit.gave first c.args.self.now c.args.view.now c.args.va c.args.kind (Some c.args.q) w sees viewed (λ counts. (so.live c.in_default.is counts).0)
+    sees_live g.E.Emit.gave first c.args.self.now c.args.regime.now c.args.va c.args.kind (Some c.args.q) w sees viewed (λ counts. (so.live c.in_default.is counts).0)

@@ -7,14 +7,14 @@ pub returns-in-Missed-clause-follows : goal.returns-in-Missed-clause-follows
 returns-in-Missed-clause-follows g c first w cloaked so unclashed =
     let kind = c.args.kind in
     c.led_by_walk.ensures.follows first w
-    (subst (λ f. IsFoundSo g.E.Emit.gave first c.args.self.now w c.args.view.now c.args.va kind cloaked (found_to kind f)) c.in-Missed.is so) unclashed
+    (subst (λ f. IsFoundSo g.E.Emit.gave first c.args.self.now w c.args.regime.now c.args.va kind cloaked (found_to kind f)) c.in-Missed.is so) unclashed
 
 pub returns-in-Missed-clause-leads : goal.returns-in-Missed-clause-leads
 returns-in-Missed-clause-leads g c =
     let kind = c.args.kind in
     if_led c.led_by_walk.result (λ led leads first w cloaked so unclashed.
     leads first w cloaked
-    (subst (λ f. IsFoundSo g.E.Emit.gave first c.args.self.now w c.args.view.now c.args.va kind cloaked (found_to kind f)) c.in-Missed.is so) unclashed)
+    (subst (λ f. IsFoundSo g.E.Emit.gave first c.args.self.now w c.args.regime.now c.args.va kind cloaked (found_to kind f)) c.in-Missed.is so) unclashed)
     c.led_by_walk.ensures.leads
 
 pub handed_on-requires : goal.handed_on-requires

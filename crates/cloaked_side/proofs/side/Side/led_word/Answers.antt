@@ -2,8 +2,8 @@ use Rattle.std.proofs.Common.{sym, subst, Option}
 use Rattle.cloak_base.specs.declared.names.SpaceId.{SpaceId}
 use Rattle.cloak_base.specs.Constants.{frame_of}
 use Rattle.cloak_model.specs.Ask.{ask_led, opened}
-use Rattle.shadow_fold.specs.declared.entry.ShadowView.TheVariants.{Outside}
-use Rattle.cloaked_side.specs.Leading.{IsViewIn}
+use Rattle.shadow_fold.specs.declared.entry.Regime.TheVariants.{Outside}
+use Rattle.cloaked_side.specs.Leading.{IsRegimeIn}
 use Rattle.cloaked_side.proofs.Atomics.{led_word_told, led_word_fault}
 use Rattle.cloaked_side.proofs.Holders.{none_still}
 use Rattle.cloaked_side.proofs.Known.{viewed_outside}
@@ -22,7 +22,7 @@ returns-in-Ok-clause-follows g c first w sees none unclashed =
     let mid = c.led.new.self in
     let led = c.in-Ok.led in
     let a = c.args.access in
-    let view = Outside c.args.satp a.mode a.sum a.mxr in
+    let regime = Outside c.args.satp a.mode a.sum a.mxr in
     let told = ask_led c.args.satp a w in
     let viewed = viewed_outside old.space c.args.satp a none in
     let kept = within_of gave old mid c.led.ensures.keeps in
@@ -30,7 +30,7 @@ returns-in-Ok-clause-follows g c first w sees none unclashed =
     led_word_told gave first mid c.read_settled-word.new.self c.args.satp a led.pa _ w f
     (c.read_settled-word.ensures.told first (opened c.args.satp a led.pa told.world)
     (c.settle_led.ensures.sees first told.world f.stands
-    (subst (λ (o : Option SpaceId). IsViewIn o view) (sym kept.stays.space) viewed)
+    (subst (λ (o : Option SpaceId). IsRegimeIn o regime) (sym kept.stays.space) viewed)
     (c.in-Ok.ensures.leads first w sees viewed unclashed)))
 
 pub returns-in-Ok-clause-outside : goal.returns-in-Ok-clause-outside

@@ -11,13 +11,13 @@ unfolding reach_by_table
 returns-then-self-clause-told g c first w s spaced is same so unclashed =
     asked_drawn g.E.Emit.gave first c.args.self.now _ _ c.args.va c.args.kind
     (reached c.args.q c.args.va c.args.kind) (Ok c.args.led.now.pa) w (later_reached c.args.q c.args.va c.args.kind) unclashed
-    (λ u. (found_inside g.E.Emit.gave first c.args.self.now c.args.view.now c.args.va c.args.kind (Some c.args.q) (Ok c.args.led.now) w same so u).0) c.if-self.true
+    (λ u. (found_inside g.E.Emit.gave first c.args.self.now c.args.regime.now c.args.va c.args.kind (Some c.args.q) (Ok c.args.led.now) w same so u).0) c.if-self.true
     (λ v stands. c.stop.ensures.told first v stands)
 
 pub returns-clause-told : goal.returns-clause-told
 unfolding reach_by_table
 returns-clause-told g c first w s spaced is same so unclashed =
-    let found = found_inside g.E.Emit.gave first c.args.self.now c.args.view.now c.args.va c.args.kind (Some c.args.q) (Ok c.args.led.now) w same so in
+    let found = found_inside g.E.Emit.gave first c.args.self.now c.args.regime.now c.args.va c.args.kind (Some c.args.q) (Ok c.args.led.now) w same so in
     asked_undrawn g.E.Emit.gave first c.args.self.now _ _ c.args.va c.args.kind
     (reached c.args.q c.args.va c.args.kind) (Ok c.args.led.now.pa) w (later_reached c.args.q c.args.va c.args.kind) unclashed
     (λ u. (found u).0) c.if-self.false

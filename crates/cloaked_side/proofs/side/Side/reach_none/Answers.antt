@@ -11,7 +11,7 @@ unfolding reach_by_table
 returns-then-self-clause-told g c first w s spaced is same so unclashed =
     asked_drawn g.E.Emit.gave first c.args.self.now _ _ c.args.va c.args.kind
     (reached c.args.q c.args.va c.args.kind) (Err c.args.cause) w (later_reached c.args.q c.args.va c.args.kind) unclashed
-    (λ u. (found_inside g.E.Emit.gave first c.args.self.now c.args.view.now c.args.va c.args.kind (Some c.args.q) (Err c.args.cause) w same so u).0) c.if-self.true
+    (λ u. (found_inside g.E.Emit.gave first c.args.self.now c.args.regime.now c.args.va c.args.kind (Some c.args.q) (Err c.args.cause) w same so u).0) c.if-self.true
     (λ v stands. c.answer.ensures.told first v stands)
 
 pub returns-clause-told : goal.returns-clause-told
@@ -19,7 +19,7 @@ unfolding reach_by_table
 returns-clause-told g c first w s spaced is same so unclashed =
     asked_undrawn g.E.Emit.gave first c.args.self.now _ _ c.args.va c.args.kind
     (reached c.args.q c.args.va c.args.kind) (Err c.args.cause) w (later_reached c.args.q c.args.va c.args.kind) unclashed
-    (λ u. (found_inside g.E.Emit.gave first c.args.self.now c.args.view.now c.args.va c.args.kind (Some c.args.q) (Err c.args.cause) w same so u).0) c.if-self.false
+    (λ u. (found_inside g.E.Emit.gave first c.args.self.now c.args.regime.now c.args.va c.args.kind (Some c.args.q) (Err c.args.cause) w same so u).0) c.if-self.false
     (λ u stands clash. reached_err g.E.Emit.gave first _ c.args.q c.args.va c.args.kind c.args.cause _ (Err c.args.cause) _ refl
     (c.answer-2.ensures.told first _ stands))
 

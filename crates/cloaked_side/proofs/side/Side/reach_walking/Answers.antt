@@ -1,18 +1,18 @@
 use Rattle.std.proofs.Common.{◌∙◌, ◌<◌, ℕ, Some, ap, sym, subst}
-use Rattle.cloaked_side.specs.Leading.{inside_view}
+use Rattle.cloaked_side.specs.Leading.{inside_regime}
 use Rattle.cloaked_side.proofs.Sided.{stays_on, no_other_on, within_of}
 use Rattle.cloaked_side.proofs.side.Side.reach_walking.Goals as goal
 
 pub returns-in-Ok-clause-told : goal.returns-in-Ok-clause-told
 returns-in-Ok-clause-told g c first w s spaced is same so =
     let kept = (within_of g.E.Emit.gave c.args.self.now c.led_by_walk.new.self c.led_by_walk.ensures.keeps).stays in
-    c.reach_led.ensures.told first w s (kept.space ∙ spaced) (is ∙ ap (λ v. inside_view v s) (sym kept.view)) same
+    c.reach_led.ensures.told first w s (kept.space ∙ spaced) (is ∙ ap (λ v. inside_regime v s) (sym kept.regime)) same
     (λ u. (c.in-Ok.ensures.follows first w (so u) u, c.in-Ok.ensures.leads first w (Some c.args.q) (so u) u))
 
 pub returns-in-Err-clause-told : goal.returns-in-Err-clause-told
 returns-in-Err-clause-told g c first w s spaced is same so =
     let kept = (within_of g.E.Emit.gave c.args.self.now c.led_by_walk.new.self c.led_by_walk.ensures.keeps).stays in
-    c.reach_none.ensures.told first w s (kept.space ∙ spaced) (is ∙ ap (λ v. inside_view v s) (sym kept.view)) same
+    c.reach_none.ensures.told first w s (kept.space ∙ spaced) (is ∙ ap (λ v. inside_regime v s) (sym kept.regime)) same
     (λ u. (c.in-Err.ensures.follows first w (so u) u, tt))
 
 pub returns-in-Ok-clause-keeps : goal.returns-in-Ok-clause-keeps
@@ -39,4 +39,4 @@ reach_led-requires-clause-domain g c =
 pub reach_led-requires-clause-own : goal.reach_led-requires-clause-own
 reach_led-requires-clause-own g c =
     let kept = (within_of g.E.Emit.gave c.args.self.now c.led_by_walk.new.self c.led_by_walk.ensures.keeps).stays in
-    c.requires.own ∙ ap (λ v. v.domain) (sym kept.view)
+    c.requires.own ∙ ap (λ v. v.domain) (sym kept.regime)

@@ -27,22 +27,22 @@ returns-in-Ready-clause-told g c first w s sees spaced is so unclashed =
     } in
     let q = c.args.q in
     let led = c.args.led.now in
-    let view = c.args.view.now in
+    let regime = c.args.regime.now in
     let at = c.requires.frame in
     reached_told gave first _ q c.args.va c.args.kind led.pa c.args.g.0 _ w at unclashed (λ u.
     asked_offer gave first old mid _ ended.Ready q c.args.va c.args.kind c.args.g.0 c.is_store.result _ w c.is_store.ensures sees u
     c.in-Ready.ensures.offers c.in-Ready.ensures.tracks c.in-Ready.ensures.spends c.in-Ready.ensures.maps refl refl refl
-    (λ k k' there seen seen' is_memory same_view.
+    (λ k k' there seen seen' is_memory same_regime.
     let here = subst (λ (n : ℕ). held_in mid.memory.now.pager n ≡ Some q) at (c.in-Ready.ensures.held refl) in
-    let reached = reached_so gave first old mid view c.args.va c.args.kind q led k k' seen seen'
+    let reached = reached_so gave first old mid regime c.args.va c.args.kind q led k k' seen seen'
     (is_memory ∙ ap (λ (n : ℕ). (offer q n (is_store c.args.kind) k.memory).memory) at)
-    (subst (λ (v : World). IsLedSo old.memory.now v view c.args.va c.args.kind (Some q) led) there so) c.offer.ensures.others here
+    (subst (λ (v : World). IsLedSo old.memory.now v regime c.args.va c.args.kind (Some q) led) there so) c.offer.ensures.others here
     (λ store. subst (λ (n : ℕ). owed_at mid.memory.now.pager n ≡ Some q) at (c.in-Ready.ensures.owed refl (c.is_store.ensures ∙ ap is_store store)))
     c.offer.ensures.same.frames c.offer.ensures.counting
     (λ held. c.offer.ensures.again (subst (λ (n : ℕ). held_in old.memory.now.pager n ≡ Some q) (sym at) held)) in
     granted_told gave first c.learn_page.new.self _ q c.args.va c.args.kind c.args.g.0 _ k'
-    (known_inside gave first mid c.learn_page.new.self s view c.args.va c.args.kind (Some q) (Cloaked k') seen' is
-    (c.learn_page.ensures.sees first (Cloaked k') seen' (viewed_inside old.space s view old.view spaced is) reached))
+    (known_inside gave first mid c.learn_page.new.self s regime c.args.va c.args.kind (Some q) (Cloaked k') seen' is
+    (c.learn_page.ensures.sees first (Cloaked k') seen' (viewed_inside old.space s regime old.regime spaced is) reached))
     (λ v stands. c.grant.ensures.told first v stands)))
 
 pub returns-in-Mismatch-clause-told : goal.returns-in-Mismatch-clause-told
@@ -58,7 +58,7 @@ returns-in-Mismatch-clause-told g c first w s sees spaced is so unclashed =
     reached_told gave first _ c.args.q c.args.va c.args.kind c.args.led.now.pa c.args.g.0 _ w at unclashed (λ u.
     asked_offer gave first old mid _ ended.Mismatch c.args.q c.args.va c.args.kind c.args.g.0 c.is_store.result _ w c.is_store.ensures sees u
     c.in-Mismatch.ensures.offers c.in-Mismatch.ensures.tracks c.in-Mismatch.ensures.spends c.in-Mismatch.ensures.maps refl refl refl
-    (λ k k' there seen seen' is_memory same_view.
+    (λ k k' there seen seen' is_memory same_regime.
     mismatched_told gave first after _ c.args.q c.args.va c.args.kind c.args.g.0 _ k'
     (with_violation gave first mid after _ k' seen' refl refl refl refl refl)
     (λ v stands. c.stop.ensures.told first v stands)))
@@ -74,7 +74,7 @@ returns-in-Missed-clause-told g c first w s sees spaced is so unclashed =
     reached_told gave first _ c.args.q c.args.va c.args.kind c.args.led.now.pa c.args.g.0 _ w c.requires.frame unclashed (λ u.
     asked_offer gave first old mid _ ended.Missed c.args.q c.args.va c.args.kind c.args.g.0 c.is_store.result _ w c.is_store.ensures sees u
     c.in-Missed.ensures.offers c.in-Missed.ensures.tracks c.in-Missed.ensures.spends c.in-Missed.ensures.maps refl refl refl
-    (λ k k' there seen seen' is_memory same_view.
+    (λ k k' there seen seen' is_memory same_regime.
     missed_told gave first mid _ c.args.q c.args.va c.args.kind c.args.g.0 _ k' seen'
     (λ v stands. c.stop-in-Missed.ensures.told first v stands)))
 

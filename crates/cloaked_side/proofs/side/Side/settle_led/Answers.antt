@@ -8,7 +8,7 @@ use Rattle.cloak_pager.specs.State.{held_in}
 use Rattle.shadow_fold.specs.Table.{is_known}
 use Rattle.shadow_fold.specs.Agreement.{satp_in, access_in}
 use Rattle.shadow_law.specs.Agreeing.{AreOutside}
-use Rattle.cloaked_side.specs.Leading.{IsEntryOf, IsViewIn, IsWalkOf}
+use Rattle.cloaked_side.specs.Leading.{IsEntryOf, IsRegimeIn, IsWalkOf}
 use Rattle.cloaked_side.specs.Seeing.{Sees}
 use Rattle.cloaked_side.proofs.Known.{born_known, entry_is, entry_same, led_entry, opened_live, settled_is}
 use Rattle.cloaked_side.proofs.Losing.{loses_killed, unknown_still}
@@ -21,20 +21,20 @@ returns-in-Some-clause-sees g c first w sees viewed so =
     let old = c.args.self.now in
     let mid = c.settle.new.self in
     let led = c.args.led.now in
-    let view = c.args.view.now in
+    let regime = c.args.regime.now in
     let walked = c.in-Some.walked in
     let pa = led.pa in
     let kept = within_of gave old mid c.settle.ensures.keeps in
     let seen = subst (λ (f : ℕ). Sees gave first mid (settled f w)) c.frame_of-f.ensures (c.settle.ensures.sees first w sees) in
     let none = subst (λ (f : ℕ). held_in mid.memory.now.pager f ≡ None) c.frame_of-f.ensures c.settle.ensures.outside in
-    let by = subst (λ (o : Option Walked). IfSome o (λ x. IsWalkOf w view c.args.va c.args.kind x × (x.pa ≡ pa))) c.in-Some.is so.by in
+    let by = subst (λ (o : Option Walked). IfSome o (λ x. IsWalkOf w regime c.args.va c.args.kind x × (x.pa ≡ pa))) c.in-Some.is so.by in
     let out = subst (λ (o : Option Walked). IfSome o (AreOutside (held_in old.memory.now.pager))) c.in-Some.is so.outside in
-    let entry = led_entry gave first old mid view c.args.va c.args.kind led walked w sees c.in-Some.is so.by so.outside kept.no_more none c.settle.ensures.same_count in
-    born_known gave first c.learn_walk.new.self view c.args.va c.args.kind walked None (settled (frame_of pa) w)
-    (settled_is gave first old view c.args.va c.args.kind walked (frame_of pa) w sees out by.0)
-    (c.learn_walk.ensures.sees first (settled (frame_of pa) w) (satp_in view) (access_in view c.args.va c.args.kind) walked seen
+    let entry = led_entry gave first old mid regime c.args.va c.args.kind led walked w sees c.in-Some.is so.by so.outside kept.no_more none c.settle.ensures.same_count in
+    born_known gave first c.learn_walk.new.self regime c.args.va c.args.kind walked None (settled (frame_of pa) w)
+    (settled_is gave first old regime c.args.va c.args.kind walked (frame_of pa) w sees out by.0)
+    (c.learn_walk.ensures.sees first (settled (frame_of pa) w) (satp_in regime) (access_in regime c.args.va c.args.kind) walked seen
     (subst (λ e. IsEntryOf (settled (frame_of pa) w) (held_in mid.memory.now.pager) e) (entry_is _ _ _ c.frame_of-f.result pa walked None _ c.frame_of-f.ensures refl) entry)
-    (entry_same mid.space view c.args.va c.args.kind walked None c.frame_of-f.result pa _ (subst (λ (o : Option SpaceId). IsViewIn o view) (sym kept.stays.space) viewed) by.1 c.frame_of-f.ensures refl))
+    (entry_same mid.space regime c.args.va c.args.kind walked None c.frame_of-f.result pa _ (subst (λ (o : Option SpaceId). IsRegimeIn o regime) (sym kept.stays.space) viewed) by.1 c.frame_of-f.ensures refl))
 
 pub returns-in_default-clause-sees : goal.returns-in_default-clause-sees
 returns-in_default-clause-sees g c first w sees viewed so =
@@ -43,14 +43,14 @@ returns-in_default-clause-sees g c first w sees viewed so =
     let mid = c.settle.new.self in
     let kept = within_of gave old mid c.settle.ensures.keeps in
     let seen = subst (λ (f : ℕ). Sees gave first mid (settled f w)) c.frame_of-f.ensures (c.settle.ensures.sees first w sees) in
-    opened_live gave first old mid c.args.view.now c.args.va c.args.kind c.args.led.now c.frame_of-f.result.0 w c.frame_of-f.ensures seen
-    (subst (λ (o : Option SpaceId). IsViewIn o c.args.view.now) (sym kept.stays.space) viewed) (c.in_default.is) so.live c.settle.ensures.counting c.settle.ensures.ends
+    opened_live gave first old mid c.args.regime.now c.args.va c.args.kind c.args.led.now c.frame_of-f.result.0 w c.frame_of-f.ensures seen
+    (subst (λ (o : Option SpaceId). IsRegimeIn o c.args.regime.now) (sym kept.stays.space) viewed) (c.in_default.is) so.live c.settle.ensures.counting c.settle.ensures.ends
 
 pub learn_walk-requires : goal.learn_walk-requires
 learn_walk-requires g c = record {
-  unknown = λ missed. unknown_still c.args.self.now.memory.now.shadows c.settle.new.self.memory.now.shadows c.args.view.now (c.args.va / 4096)
+  unknown = λ missed. unknown_still c.args.self.now.memory.now.shadows c.settle.new.self.memory.now.shadows c.args.regime.now (c.args.va / 4096)
       c.args.kind
-      (λ view page kind known. loses_killed _ _ c.args.self.now.memory.now.shadows view page kind
-      (sym (ap (is_known view page kind) c.settle.ensures.ends) ∙ known))
+      (λ regime page kind known. loses_killed _ _ c.args.self.now.memory.now.shadows regime page kind
+      (sym (ap (is_known regime page kind) c.settle.ensures.ends) ∙ known))
       (c.requires.missed missed);
 }

@@ -20,7 +20,7 @@ returns-clause-told g c first w sees =
     (after_write_outside (frame_of pa) (record { at = at; width = c.args.width; value = c.args.v })))
     c.place_of.ensures.value at_frame in
     stored_after g.E.Emit.gave first side _ pa c.args.width c.args.v w
-    (record { stream = refl; draws = refl; missed = refl; emitter = refl; violation = refl; view = refl; space = refl })
+    (record { stream = refl; draws = refl; missed = refl; emitter = refl; violation = refl; regime = refl; space = refl })
     c.word_written.ensures
     (λ m. still_written side.memory.now _ m c.frame_of-f.result (frame_of pa) _ _ c.frame_of-f.ensures
     c.write_outside.ensures.state c.kill_dependents.ensures)

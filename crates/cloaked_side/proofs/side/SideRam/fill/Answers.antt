@@ -16,7 +16,7 @@ returns-clause-follows g c first w sees unclashed =
     let kept = within_of g.E.Emit.gave c.args.self.now c.settle.new.self c.settle.ensures.keeps in
     wrap_outside g.E.Emit.gave first c.args.self.now _ _ _ kept.stays.space sees.1
     (filled_after g.E.Emit.gave first c.settle.new.self _ c.args.f.0 c.args.b.now (settled c.args.f.0 w)
-    (record { stream = refl; draws = refl; missed = refl; emitter = refl; violation = refl; view = refl; space = refl })
+    (record { stream = refl; draws = refl; missed = refl; emitter = refl; violation = refl; regime = refl; space = refl })
     c.frame_written.ensures
     (λ m. still_written c.settle.new.self.memory.now _ m c.args.f c.args.f.0 _ c.args.b.now refl
     c.fill_outside.ensures.state c.kill_dependents.ensures)

@@ -1,8 +1,8 @@
 use Rattle.std.proofs.Common.{◌∙◌, sym, subst, Option}
 use Rattle.cloak_base.specs.declared.names.SpaceId.{SpaceId}
 use Rattle.cloak_model.specs.Ask.{ask_led, opened}
-use Rattle.shadow_fold.specs.declared.entry.ShadowView.TheVariants.{Outside}
-use Rattle.cloaked_side.specs.Leading.{IsViewIn}
+use Rattle.shadow_fold.specs.declared.entry.Regime.TheVariants.{Outside}
+use Rattle.cloaked_side.specs.Leading.{IsRegimeIn}
 use Rattle.cloaked_side.proofs.Known.{store_unclashed, stored_told, store_fault, viewed_outside}
 use Rattle.cloaked_side.proofs.Serving.{wrap_outside}
 use Rattle.cloaked_side.proofs.Sided.{within_of}
@@ -27,7 +27,7 @@ returns-in-Ok-clause-follows g c first w sees unclashed =
     let u = store_unclashed c.args.satp c.args.access c.args.width c.args.v w unclashed in
     let led = c.in-Ok.led in
     let a = c.args.access in
-    let view = Outside c.args.satp a.mode a.sum a.mxr in
+    let regime = Outside c.args.satp a.mode a.sum a.mxr in
     let told = ask_led c.args.satp c.args.access w in
     let viewed = viewed_outside old.space c.args.satp c.args.access sees.1 in
     let kept = within_of gave old mid c.led.ensures.keeps in
@@ -38,5 +38,5 @@ returns-in-Ok-clause-follows g c first w sees unclashed =
     (stored_told gave first mid c.write_settled.new.self c.args.satp c.args.access c.args.width led.pa c.args.v w f
     (c.write_settled.ensures.told first (opened c.args.satp c.args.access led.pa told.world)
     (c.settle_led.ensures.sees first told.world f.stands
-    (subst (λ (o : Option SpaceId). IsViewIn o view) (sym kept.stays.space) viewed)
+    (subst (λ (o : Option SpaceId). IsRegimeIn o regime) (sym kept.stays.space) viewed)
     (c.in-Ok.ensures.leads first w sees.0 viewed u))))

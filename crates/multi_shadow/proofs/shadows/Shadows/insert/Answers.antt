@@ -8,8 +8,8 @@ use Rattle.multi_shadow.proofs.shadows.Shadows.insert.Goals as goal
 pub put-requires-clause-unknown : goal.put-requires-clause-unknown
 put-requires-clause-unknown c =
     let e = c.args.e in
-    ap (is_known e.view e.page e.kind) c.make_room.ensures
-    ∙ unknown_in_room e.view e.page e.kind c.args.self.now c.requires.unknown
+    ap (is_known e.regime e.page e.kind) c.make_room.ensures
+    ∙ unknown_in_room e.regime e.page e.kind c.args.self.now c.requires.unknown
 
 pub put-requires-clause-within : goal.put-requires-clause-within
 put-requires-clause-within c =

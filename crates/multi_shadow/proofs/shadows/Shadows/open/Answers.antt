@@ -11,9 +11,9 @@ invariant_of-result c =
     record {
       slots = empty_long 1024 h A is;
       heads = sym (ap (λ D. D.heads) is);
-      some = power_some h c.in_ok-heads.ensures.1;
-      power = c.in_ok-heads.ensures.1;
-      enough = c.in_ok-heads.ensures.0;
+      some = power_some h c.in_ok-heads.ensures.power.1;
+      power = c.in_ok-heads.ensures.power.1;
+      enough = c.in_ok-heads.ensures.power.0;
       placed = empty_placed 1024 h A is c.in_ok-arena.ensures.tidy;
       of_kind = subst AreOfKind (sym c.empty.ensures) no_kind;
       recent = subst (AreWithin h) (sym c.empty.ensures) (no_within h);

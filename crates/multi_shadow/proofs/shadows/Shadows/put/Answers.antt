@@ -25,8 +25,8 @@ pub invariant_of-self : goal.invariant_of-self
 unfolding is_known
 invariant_of-self c =
     let s = c.self.inside in let e = c.args.e in let inv = c.self.invariant in let now = c.keep.ensures in
-    let unknown : list_any (is_for e.view e.page e.kind) (live_of s.recent s.arena) ≡ false =
-    ap (λ t. list_any (is_for e.view e.page e.kind) t.live) c.self.view_is ∙ c.requires.unknown in
+    let unknown : list_any (is_for e.regime e.page e.kind) (live_of s.recent s.arena) ≡ false =
+    ap (λ t. list_any (is_for e.regime e.page e.kind) t.live) c.self.view_is ∙ c.requires.unknown in
     record {
       slots = now.slots ∙ inv.slots;
       heads = inv.heads ∙ sym now.heads;

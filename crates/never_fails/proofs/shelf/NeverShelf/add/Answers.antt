@@ -1,7 +1,7 @@
 use Rattle.std.proofs.Common.{◌≡◌, List, ℕ, Some, string_bytes, subst}
 use Rattle.std.proofs.lemmas.Map.Text.{btree_map_updates_text}
 use Rattle.std.proofs.lemmas.Result.{IfOk-at_ok}
-use Rattle.outside_io.specs.Told.{OtherFiles}
+use Rattle.io_traits.specs.Told.{OtherFiles}
 use Rattle.never_fails.specs.Handed.{handed_in}
 use Rattle.never_fails.proofs.Handed.{others_stay}
 use Rattle.never_fails.proofs.shelf.NeverShelf.add.Goals as goal

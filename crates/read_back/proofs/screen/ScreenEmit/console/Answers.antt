@@ -1,5 +1,5 @@
 use Rattle.std.proofs.Common.{refl, [], ◌∷◌}
-use Rattle.program_parts.proofs.PutFacts.{put_one, put_none}
+use Rattle.command_parts.proofs.PutFacts.{put_one, put_none}
 use Rattle.read_back.proofs.ScreenFacts.{emits_none, emits_shown}
 use Rattle.read_back.proofs.screen.ScreenEmit.console.Goals as goal
 

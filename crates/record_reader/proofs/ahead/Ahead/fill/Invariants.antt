@@ -1,5 +1,5 @@
 use Rattle.std.proofs.Common.{◌≡◌, ◌≤◌, ◌-◌, ◌+◌, ◌^◌, length, min, IfSome}
-use Rattle.outside_io.specs.Told.{SameFiles}
+use Rattle.io_traits.specs.Told.{SameFiles}
 use Rattle.record_reader.proofs.Filled.{FrontFilled}
 use Rattle.record_reader.proofs.ahead.Ahead.fill.Given as goal
 

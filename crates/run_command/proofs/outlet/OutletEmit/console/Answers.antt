@@ -1,5 +1,5 @@
 use Rattle.std.proofs.Common.{refl, sym, ◌∙◌, [], ◌∷◌}
-use Rattle.program_parts.proofs.PutFacts.{put_one, put_none}
+use Rattle.command_parts.proofs.PutFacts.{put_one, put_none}
 use Rattle.run_command.proofs.OutletFacts.{emits_none, emits_shown}
 use Rattle.run_command.proofs.outlet.OutletEmit.console.Goals as goal
 

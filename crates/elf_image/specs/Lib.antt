@@ -1,0 +1,4 @@
+pub mod Elf
+pub mod Image
+pub mod Faults
+pub mod Views

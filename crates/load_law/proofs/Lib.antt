@@ -1,0 +1,7 @@
+pub mod Questions
+pub mod Steps
+pub mod Moves
+pub mod Turns
+pub mod Were
+pub mod Runs
+pub mod Listed

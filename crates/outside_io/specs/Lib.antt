@@ -1,8 +1,0 @@
-pub mod Told
-pub mod Memory
-pub mod Source
-pub mod Table
-pub mod Pieces
-pub mod Files
-pub mod Sinks
-pub mod Skipping

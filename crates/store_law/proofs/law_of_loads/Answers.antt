@@ -1,5 +1,0 @@
-use Rattle.store_law.proofs.Loads.{steps_load_newest}
-use Rattle.store_law.proofs.law_of_loads.Goals as goal
-
-pub returns : goal.returns
-returns c = steps_load_newest
