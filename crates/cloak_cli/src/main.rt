@@ -11,7 +11,7 @@ use std::fs::{File, OpenOptions};
 use std::io::ErrorKind;
 use std::process::ExitCode;
 use std::{env, io};
-use system_io::{FileShelf, StdSink};
+use system_io::{Console, FileShelf, StdSink, SystemDisk};
 
 /// Files that hold the three standard streams.
 type Held = [File; 3];
@@ -47,8 +47,8 @@ fn command_words(rt: &HostRuntime) -> ProgramWords {
 
 /// Runs the program with the files and the output of the system.
 fn run_here(rt: &HostRuntime, words: &ProgramWords) -> Result<Status, NoMemory> {
-    let mut shelf = FileShelf::open(rt.clone()?)?;
-    let mut out = StdSink::open(rt.clone()?)?;
+    let mut shelf = FileShelf::open(rt.alloc(), SystemDisk::new(rt.clone()?))?;
+    let mut out = StdSink::open(rt.alloc(), Console::new(rt.clone()?))?;
     Ok(run_program(rt.alloc(), words, &mut shelf, &mut out))
 }
 

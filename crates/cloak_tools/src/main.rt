@@ -10,7 +10,7 @@ use std::fs::{File, OpenOptions};
 use std::io::ErrorKind;
 use std::process::ExitCode;
 use std::{env, io};
-use system_io::{FileShelf, StdSink};
+use system_io::{Console, FileShelf, StdSink, SystemDisk};
 use tool_commands::{CommandLine, run_tools, sentence};
 
 /// Files that hold the three standard streams.
@@ -45,8 +45,8 @@ fn command_line(rt: &HostRuntime) -> CommandLine {
 
 /// Runs the tools with the files and the output of the system.
 fn run_here(rt: &HostRuntime) -> Result<Status, NoMemory> {
-    let mut shelf = FileShelf::open(rt.clone()?)?;
-    let mut out = StdSink::open(rt.clone()?)?;
+    let mut shelf = FileShelf::open(rt.alloc(), SystemDisk::new(rt.clone()?))?;
+    let mut out = StdSink::open(rt.alloc(), Console::new(rt.clone()?))?;
     Ok(run_tools(rt.alloc(), &command_line(rt), &mut shelf, &mut out))
 }
 

@@ -4,16 +4,15 @@ use crate::checks::{holds, same};
 use cloak_base::Failed;
 use io_traits::Shelf;
 use std::fs;
-use std::rt::Files;
 use std::test::Fail;
-use system_io::FileShelf;
+use system_io::{Disk, FileShelf, SystemDisk};
 
 /// Two files by turns, the first of which had more bytes before it was begun.
 #[test]
 fn appended_pieces_stand_in_their_files(rt: HostRuntime) -> Result<(), Fail> {
     let (a, b) = ("file_shelf_test_a.bytes", "file_shelf_test_b.bytes");
     fs::write(&rt, a, "what stood there before")?;
-    let mut shelf = FileShelf::open(rt.clone()?)?;
+    let mut shelf = FileShelf::open(rt.alloc(), SystemDisk::new(rt.clone()?))?;
     shelf.begin(a)?;
     for (name, piece) in [(a, "hello"), (b, "two"), (a, ", "), (a, "world")] {
         shelf.append(name, piece.as_bytes())?;
@@ -27,8 +26,8 @@ fn appended_pieces_stand_in_their_files(rt: HostRuntime) -> Result<(), Fail> {
 }
 
 /// Adds all bytes of a file, read in pieces, and says whether no call failed.
-fn read_in_pieces<R: Files + Drop>(
-    shelf: &mut FileShelf<R>,
+fn read_in_pieces<D: Disk + Drop>(
+    shelf: &mut FileShelf<D>,
     name: &str,
     piece: &mut [u8],
     seen: &mut Vec<u8>,
@@ -52,7 +51,7 @@ fn pieces_that_are_read_follow_one_another(rt: HostRuntime) -> Result<(), Fail> 
         .map(|i| (i % 251) as u8)
         .collect(rt.alloc())?;
     fs::write(&rt, name, bytes.as_slice())?;
-    let mut shelf = FileShelf::open(rt.clone()?)?;
+    let mut shelf = FileShelf::open(rt.alloc(), SystemDisk::new(rt.clone()?))?;
     for length in [999, 65_536, 70_000] {
         let mut piece = vec![in rt.alloc(); 0u8; length]?;
         let mut seen = Vec::new(rt.alloc());
@@ -68,12 +67,12 @@ fn pieces_that_are_read_follow_one_another(rt: HostRuntime) -> Result<(), Fail> 
 }
 
 /// Begins a file with this text, and says whether that was done.
-fn is_put<R: Files + Drop>(shelf: &mut FileShelf<R>, name: &str, text: &str) -> bool {
+fn is_put<D: Disk + Drop>(shelf: &mut FileShelf<D>, name: &str, text: &str) -> bool {
     shelf.begin(name).is_ok() && shelf.append(name, text.as_bytes()).is_ok()
 }
 
 /// Whether a file is read as this text.
-fn is_read<R: Files + Drop>(shelf: &mut FileShelf<R>, name: &str, text: &str) -> bool {
+fn is_read<D: Disk + Drop>(shelf: &mut FileShelf<D>, name: &str, text: &str) -> bool {
     let mut into = [0u8; 8];
     match shelf.read_at(name, 0, &mut into) {
         Ok(n) => &into[..n] == text.as_bytes(),
@@ -85,7 +84,7 @@ fn is_read<R: Files + Drop>(shelf: &mut FileShelf<R>, name: &str, text: &str) ->
 #[test]
 fn what_was_read_ahead_is_forgotten(rt: HostRuntime) -> Result<(), Fail> {
     let name = "file_shelf_test_ahead.bytes";
-    let mut shelf = FileShelf::open(rt.clone()?)?;
+    let mut shelf = FileShelf::open(rt.alloc(), SystemDisk::new(rt.clone()?))?;
     for (other, text) in [(name, "old"), ("./file_shelf_test_ahead.bytes", "new!")] {
         holds(&rt, is_put(&mut shelf, other, text), text);
         holds(&rt, is_read(&mut shelf, name, text), text);
@@ -113,7 +112,7 @@ fn done(answer: Result<(), Failed>) -> Option<u64> {
 }
 
 /// What a call returns, if it does not fail.
-fn answer<R: Files + Drop>(shelf: &mut FileShelf<R>, call: Call, name: &str) -> Option<u64> {
+fn answer<D: Disk + Drop>(shelf: &mut FileShelf<D>, call: Call, name: &str) -> Option<u64> {
     match call {
         Call::Begin => done(shelf.begin(name)),
         Call::Append => done(shelf.append(name, b"a")),
@@ -158,7 +157,7 @@ static CALLS: [(Call, &str, Option<u64>); 17] = [
 
 #[test]
 fn faults_are_answered(rt: HostRuntime) -> Result<(), Fail> {
-    let mut shelf = FileShelf::open(rt.clone()?)?;
+    let mut shelf = FileShelf::open(rt.alloc(), SystemDisk::new(rt.clone()?))?;
     for &(call, name, answered) in &CALLS {
         same(&rt, &answer(&mut shelf, call, name), &answered, name);
     }

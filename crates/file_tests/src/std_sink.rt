@@ -7,7 +7,7 @@ use std::fmt::Display;
 use std::io;
 use std::io::{Error, ErrorKind};
 use std::test::Fail;
-use system_io::StdSink;
+use system_io::{Console, Output, StdSink};
 
 /// Shows two bytes a call, and fails at the second call.
 #[derive(Drop)]
@@ -52,7 +52,7 @@ fn a_line_shows_at_its_end(rt: HostRuntime) -> Result<(), Fail> {
         calls: &calls,
         shown: &shown,
     };
-    let mut sink = StdSink::open((screen, rt.alloc()))?;
+    let mut sink = StdSink::open(rt.alloc(), Console::new(screen))?;
     for (piece, is_ok, on_screen) in [
         ("hell", true, 0),
         ("o\n", false, 0x6865),
@@ -73,7 +73,7 @@ fn a_line_shows_at_its_end(rt: HostRuntime) -> Result<(), Fail> {
 }
 
 /// Puts a piece, or writes out what is gathered if the piece is empty, and says whether that was done.
-fn is_done<P: Print + Drop>(sink: &mut StdSink<P>, piece: &str) -> bool {
+fn is_done<O: Output + Drop>(sink: &mut StdSink<O>, piece: &str) -> bool {
     if piece.is_empty() {
         sink.flush().is_ok()
     } else {
@@ -91,7 +91,7 @@ fn a_piece_is_taken_up_to_a_fault(rt: HostRuntime) -> Result<(), Fail> {
             calls: &calls,
             shown: &shown,
         };
-        let mut sink = StdSink::open((screen, rt.alloc()))?;
+        let mut sink = StdSink::open(rt.alloc(), Console::new(screen))?;
         same(&rt, &sink.put(b"abc\n"), &Ok(2), "a piece");
         for (piece, done) in [(next, false), ("c\n", true), ("d", true)] {
             same(&rt, &is_done(&mut sink, piece), &done, piece);
@@ -115,7 +115,7 @@ fn a_long_piece_stands_behind_what_is_gathered(rt: HostRuntime) -> Result<(), Fa
         calls: &calls,
         shown: &shown,
     };
-    let mut sink = StdSink::open((screen, rt.alloc()))?;
+    let mut sink = StdSink::open(rt.alloc(), Console::new(screen))?;
     let long = vec![in rt.alloc(); b'x'; 70_000]?;
     sink.put(b"ab")?;
     // This many calls were made before, and the second one fails.

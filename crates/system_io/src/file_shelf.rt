@@ -1,69 +1,70 @@
-ghost use Rattle.std.specs.Prelude.{◌≡◌, ◌⊎◌, ◌↔◌, [], None, length, IfOk, IsErr, OnOk, IsTrue, false};
-ghost use Rattle.io_traits.specs.Told.{Counts};
-ghost use Rattle.system_io.specs.Files.{IsOpen, SameCounts, SameFile, TakesPiece};
-ghost use Rattle.system_io.specs.Pieces.{MovesFront, Takes, TakesFront};
+ghost use Rattle.std.specs.Prelude.{◌≡◌, ◌≤◌, ◌⊎◌, ◌↔◌, ℕ, [], length, take, IfOk, IsErr, IsTrue, false};
+ghost use Rattle.std.specs.Io.KnownBytes.{append_known};
+ghost use Rattle.io_traits.specs.Told.{Counts, SameFiles, Tells, OtherFiles};
+ghost use Rattle.system_io.specs.Disks.{Extends};
+ghost use Rattle.system_io.specs.Files.{IsOpen, SameCounts, SameFile, held_in};
 
+use crate::disk::{Disk, write_front};
 use crate::gathered::Gathered;
 use crate::named_file::NamedFile;
 use crate::reader::Reader;
 use cloak_base::{Failed, NoMemory};
 use io_traits::Shelf;
-use std::fs;
-use std::fs::{File, OpenOptions};
-use std::io::ErrorKind;
+use std::alloc::Global;
 use std::marker::Model;
-use std::rt::Files;
 
-/// The files of the system, whose names are paths of at most 4095 bytes. It tells no content. All memory is taken
-/// at `open`.
+/// The files of a disk, whose names are paths of at most 4095 bytes. All memory is taken at `open`.
 ///
-/// Appended pieces are gathered for the one file that is being written, and written out where there is no room for
+/// Appended pieces are gathered for the one file that is being written, and written out when there is no room for
 /// the next, before another file is written, before any is read, and at `flush`. What could not be written out
 /// stays gathered, so the file's bytes and the gathered bytes are always what was appended. A call that reads and meets
 /// such a fault fails by a fault of writing.
 ///
 /// The one file that is being read stays open, and is read up to 64 KiB ahead. What was read ahead is forgotten
-/// where another file is read, and at each `begin` and `append`.
+/// when another file is read, and at each `begin` and `append`.
 #[derive(Drop)]
-pub struct FileShelf<R: Files + Drop> {
-    files: R,
-    writing: NamedFile<R::File>,
+pub struct FileShelf<D: Disk + Drop> {
+    disk: D,
+    writing: NamedFile<D::File>,
     gathered: Gathered,
-    reader: Reader<R::File>,
+    reader: Reader<D::File>,
     reading_faults: u64,
     writing_faults: u64,
 }
 
-impl<R: Files + Drop> Model for FileShelf<R> {
+impl<D: Disk + Drop> Model for FileShelf<D> {
     ghost use Rattle.std.specs.Prelude.{is_some, string_bytes};
-    ghost use Rattle.system_io.specs.Files.{FileState, written_of};
+    ghost use Rattle.system_io.specs.Files.{ShelfState, IsSound};
 
-    ghost Value = { FileState };
+    ghost Value = { ShelfState D };
 
     ghost view = { λ s. record {
       reading = s.reading_faults;
       writing = s.writing_faults;
+      disk = s.disk;
       is_open = is_some s.writing.file;
       name = string_bytes s.writing.name;
-      written = written_of R.File.contents s.writing.file;
       gathered = s.gathered;
+      is_reading = is_some s.reader.source;
     } };
+
+    ghost invariant = { λ s. IsSound (D.told s.disk) D.is_of D.is_at s.writing.file (string_bytes s.writing.name)
+        s.gathered s.reader };
 }
 
-impl<R: Files + Drop> FileShelf<R> {
+impl<D: Disk + Drop> FileShelf<D> {
     /// A shelf with no fault yet.
-    pub fn open(files: R) -> Result<FileShelf<R>, NoMemory>
-    where
-        R: AllocGlobal,
+    pub fn open(alloc: Global, disk: D) -> Result<FileShelf<D>, NoMemory>
         ensures reading { IfOk result (λ shelf. shelf.reading ≡ 0) }
         ensures writing { IfOk result (λ shelf. shelf.writing ≡ 0) }
         ensures gathered { IfOk result (λ shelf. shelf.gathered ≡ []) }
+        ensures disk { IfOk result (λ shelf. shelf.disk ≡ disk) }
     {
-        let writing = NamedFile::none(files.alloc())?;
-        let gathered = Gathered::open(files.alloc())?;
-        let reader = Reader::none(files.alloc())?;
+        let writing = NamedFile::none(alloc)?;
+        let gathered = Gathered::open(alloc)?;
+        let reader = Reader::none(alloc)?;
         Ok(FileShelf {
-            files,
+            disk,
             writing,
             gathered,
             reader,
@@ -75,52 +76,82 @@ impl<R: Files + Drop> FileShelf<R> {
     /// Says whether all that is gathered was written out.
     fn write_out(&mut self) -> bool
         ensures all { IsTrue result ↔ (self.new.gathered ≡ []) }
-        ensures moved { MovesFront self.old.gathered self.new.gathered self.old.written self.new.written }
+        ensures files { SameFiles (held_in D.told self.old) (held_in D.told self.new) }
+        ensures idle { self.old.gathered ≡ [] → self.new.gathered ≡ [] }
         ensures file { SameFile self.old self.new }
+        ensures reading { self.new.is_reading ≡ self.old.is_reading }
         ensures counts { SameCounts self.old self.new }
     {
-        match &mut self.writing.file {
-            Some(file) => self.gathered.write_out(file),
-            None => self.gathered.is_empty(),
+        if let Some(file) = &mut self.writing.file {
+            let n = write_front(&mut self.disk, file, self.gathered.rest());
+            self.gathered.forget(n);
         }
+        self.gathered.is_empty()
+    }
+
+    /// Writes out what is gathered for another file than that of this name, and says whether that was done.
+    fn write_out_other(&mut self, name: &str) -> bool
+        ensures other { IsTrue result → self.new.name ≡ name.now ⊎ (self.new.gathered ≡ []) }
+        ensures files { SameFiles (held_in D.told self.old) (held_in D.told self.new) }
+        ensures reading { self.new.is_reading ≡ self.old.is_reading }
+        ensures counts { SameCounts self.old self.new }
+    {
+        if self.writing.is_open(name) {
+            return true;
+        }
+        self.write_out()
     }
 
     /// Takes a piece for the file that is being written, and says whether it was taken whole.
     #[inline(always)]
     fn write(&mut self, bytes: &[u8]) -> bool
+        requires open { IsTrue self.old.is_open }
+        requires idle { self.old.is_reading ≡ false }
         ensures whole { IsTrue result →
-            Takes (length bytes.now) bytes.now self.old.gathered self.new.gathered self.old.written self.new.written }
-        ensures front { TakesFront bytes.now self.old.gathered self.new.gathered self.old.written self.new.written }
+            Extends (held_in D.told self.old) (held_in D.told self.new) self.old.name bytes.now }
+        ensures front { (n : ℕ) × (n ≤ length bytes.now) ×
+            Extends (held_in D.told self.old) (held_in D.told self.new) self.old.name (take n bytes.now) }
         ensures file { SameFile self.old self.new }
         ensures counts { SameCounts self.old self.new }
     {
-        match &mut self.writing.file {
-            Some(file) => self.gathered.append(file, bytes),
-            None => false,
+        if self.gathered.gather(bytes) {
+            return true;
         }
+        let n = self.write_after(bytes);
+        n == bytes.len()
     }
 
-    /// Opens a file, and says whether it is now the one that is being written. What is gathered is for the same file,
-    /// which is emptied, or there is nothing.
-    fn start(&mut self, name: &str, how: &OpenOptions) -> bool
-        requires { IsOpen name.now self.old ⊎ (self.old.gathered ≡ []) }
-        ensures open { IsTrue result → IsOpen name.now self.new }
-        ensures gathered { IsTrue result → self.new.gathered ≡ [] }
+    /// Takes a front of a piece once what was gathered is written out, and returns how many bytes. If these are not all, a
+    /// write failed.
+    #[cold]
+    #[inline(never)]
+    fn write_after(&mut self, bytes: &[u8]) -> usize
+        requires open { IsTrue self.old.is_open }
+        requires idle { self.old.is_reading ≡ false }
+        ensures count { result ≤ length bytes.now }
+        ensures taken { Extends (held_in D.told self.old) (held_in D.told self.new) self.old.name
+            (take result bytes.now) }
+        ensures file { SameFile self.old self.new }
         ensures counts { SameCounts self.old self.new }
     {
-        let Ok(file) = how.open(&self.files, name) else {
-            return false;
-        };
-        self.gathered.clear();
-        self.writing.keep(name, file)
+        if !self.write_out() {
+            return 0;
+        }
+        if self.gathered.gather(bytes) {
+            return bytes.len();
+        }
+        match &mut self.writing.file {
+            Some(file) => write_front(&mut self.disk, file, bytes),
+            None => 0,
+        }
     }
 
     /// Says whether the file of this name is now the one that is being written.
     #[inline(always)]
     fn turn_to(&mut self, name: &str) -> bool
         ensures open { IsTrue result → IsOpen name.now self.new }
-        ensures same { IsOpen name.now self.old → self.new ≡ self.old }
-        ensures start { IsTrue result → (self.new ≡ self.old) ⊎ (self.new.gathered ≡ []) }
+        ensures files { SameFiles (held_in D.told self.old) (held_in D.told self.new) }
+        ensures reading { self.new.is_reading ≡ self.old.is_reading }
         ensures counts { SameCounts self.old self.new }
     {
         if self.writing.is_open(name) {
@@ -135,13 +166,45 @@ impl<R: Files + Drop> FileShelf<R> {
     #[inline(never)]
     fn turn_away(&mut self, name: &str) -> bool
         ensures open { IsTrue result → IsOpen name.now self.new }
-        ensures start { IsTrue result → self.new.gathered ≡ [] }
+        ensures files { SameFiles (held_in D.told self.old) (held_in D.told self.new) }
+        ensures reading { self.new.is_reading ≡ self.old.is_reading }
         ensures counts { SameCounts self.old self.new }
     {
         if !self.write_out() {
             return false;
         }
-        self.start(name, OpenOptions::new().append(true).create(true))
+        match self.disk.open_end(name) {
+            Ok(file) => self.writing.keep(name, file),
+            Err(_) => false,
+        }
+    }
+
+    /// Empties a file, and says whether it is now the one that is being written. What is gathered is for the same file, or
+    /// there is nothing.
+    fn start(&mut self, name: &str) -> bool
+        requires idle { self.old.is_reading ≡ false }
+        requires gathered { self.old.name ≡ name.now ⊎ (self.old.gathered ≡ []) }
+        ensures open { IsTrue result → IsOpen name.now self.new }
+        ensures emptied { IsTrue result → Tells (held_in D.told self.new name.now) [] }
+        ensures failed { (held_in D.told self.new name.now ≡ held_in D.told self.old name.now)
+            ⊎ Tells (held_in D.told self.new name.now) [] }
+        ensures others { OtherFiles name.now (held_in D.told self.old) (held_in D.told self.new) }
+        ensures counts { SameCounts self.old self.new }
+    {
+        let Ok(file) = self.disk.open_empty(name) else {
+            return false;
+        };
+        self.gathered.clear();
+        self.writing.keep(name, file)
+    }
+
+    /// Forgets what was read ahead.
+    #[inline(always)]
+    fn stop_reading(&mut self)
+        ensures idle { self.new.is_reading ≡ false }
+        ensures kept { self.new ≡ record self.old { is_reading = false } }
+    {
+        self.reader.close();
     }
 
     fn fail_writing<T>(&mut self) -> Result<T, Failed>
@@ -163,8 +226,8 @@ impl<R: Files + Drop> FileShelf<R> {
     }
 }
 
-impl<R: Files + Drop> Shelf for FileShelf<R> {
-    ghost held = { λ _ _. None };
+impl<D: Disk + Drop> Shelf for FileShelf<D> {
+    ghost held = { held_in D.told };
 
     ghost reading_faults = { λ s. s.reading };
 
@@ -174,15 +237,13 @@ impl<R: Files + Drop> Shelf for FileShelf<R> {
 
     ghost is_last = { λ s name. IsOpen name s };
 
-    /// A folder is no file, and has no size.
     fn size(&mut self, name: &str) -> Result<u64, Failed> {
         if !self.write_out() {
             return self.fail_writing();
         }
-        match fs::metadata(&self.files, name) {
-            Ok(metadata) if !metadata.is_dir() => Ok(metadata.len()),
-            Err(error) if error.kind() == ErrorKind::NotFound => Ok(0),
-            _ => self.fail_reading(),
+        match self.disk.size(name) {
+            Ok(n) => Ok(n),
+            Err(_) => self.fail_reading(),
         }
     }
 
@@ -190,86 +251,50 @@ impl<R: Files + Drop> Shelf for FileShelf<R> {
         if !self.write_out() {
             return self.fail_writing();
         }
-        if at > i64::MAX as u64 {
+        if self.disk.is_past_all(at) {
             return Ok(0);
         }
-        if !self.reader.is_open(name) {
-            let is_kept = match File::open(&self.files, name) {
-                Ok(file) => self.reader.keep(name, file),
-                Err(error) if error.kind() == ErrorKind::NotFound => return Ok(0),
-                Err(_) => false,
-            };
-            if !is_kept {
-                return self.fail_reading();
-            }
-        }
-        match self.reader.read_at(at, into) {
+        match self.reader.read(&self.disk, name, at, into) {
             Ok(n) => Ok(n),
             Err(_) => self.fail_reading(),
         }
     }
 
-    fn begin(&mut self, name: &str) -> Result<(), Failed>
-        ensures emptied { OnOk result (IsOpen name.now self.new × (self.new.gathered ≡ [])) }
-        ensures writing { Counts self.old.writing self.new.writing result }
-        ensures reading { self.new.reading ≡ self.old.reading }
-    {
-        self.reader.close();
-        // Where the same file is emptied, what is gathered for it is not written any more.
-        if !self.writing.is_open(name) && !self.write_out() {
+    fn begin(&mut self, name: &str) -> Result<(), Failed> {
+        self.stop_reading();
+        // If the same file is emptied, what is gathered for it is not written any more.
+        if !self.write_out_other(name) {
             return self.fail_writing();
         }
-        if self.start(
-            name,
-            OpenOptions::new().write(true).create(true).truncate(true),
-        ) {
-            Ok(())
-        } else {
-            self.fail_writing()
+        if self.start(name) {
+            return Ok(());
         }
+        self.fail_writing()
     }
 
     #[inline(always)]
-    fn append(&mut self, name: &str, bytes: &[u8]) -> Result<(), Failed>
-        ensures taken { OnOk result (TakesPiece name.now bytes.now self.old self.new) }
-        ensures kept { IsOpen name.now self.old →
-            TakesFront bytes.now self.old.gathered self.new.gathered self.old.written self.new.written }
-        ensures writing { Counts self.old.writing self.new.writing result }
-        ensures reading { self.new.reading ≡ self.old.reading }
-    {
-        self.reader.close();
-        if self.turn_to(name) && self.write(bytes) {
-            Ok(())
-        } else {
-            self.fail_writing()
+    fn append(&mut self, name: &str, bytes: &[u8]) -> Result<(), Failed> {
+        self.stop_reading();
+        if !self.turn_to(name) {
+            return self.fail_writing();
         }
-    }
-
-    #[inline(always)]
-    fn append_last(&mut self, name: &str, bytes: &[u8]) -> Result<(), Failed>
-        ensures taken { OnOk result (Takes (length bytes.now) bytes.now self.old.gathered self.new.gathered
-            self.old.written self.new.written) }
-        ensures kept { TakesFront bytes.now self.old.gathered self.new.gathered self.old.written self.new.written }
-        ensures file { SameFile self.old self.new }
-        ensures writing { Counts self.old.writing self.new.writing result }
-        ensures reading { self.new.reading ≡ self.old.reading }
-    {
-        let _ = name;
-        self.reader.close();
         if self.write(bytes) {
-            Ok(())
-        } else {
-            self.fail_writing()
+            return Ok(());
         }
+        self.fail_writing()
     }
 
-    fn flush(&mut self) -> Result<(), Failed>
-        ensures all { OnOk result (self.new.gathered ≡ []) }
-        ensures moved { MovesFront self.old.gathered self.new.gathered self.old.written self.new.written }
-        ensures file { SameFile self.old self.new }
-        ensures writing { Counts self.old.writing self.new.writing result }
-        ensures reading { self.new.reading ≡ self.old.reading }
-    {
+    #[inline(always)]
+    fn append_last(&mut self, name: &str, bytes: &[u8]) -> Result<(), Failed> {
+        let _ = name;
+        self.stop_reading();
+        if self.write(bytes) {
+            return Ok(());
+        }
+        self.fail_writing()
+    }
+
+    fn flush(&mut self) -> Result<(), Failed> {
         if self.write_out() {
             Ok(())
         } else {

@@ -1,11 +1,8 @@
 //! Small pieces are gathered before they are written out.
-ghost use Rattle.std.specs.Prelude.{◌≡◌, ◌≤◌, ◌+◌, ◌-◌, ◌++◌, ◌↔◌, [], length, take, IsTrue, IfOk, false};
-ghost use Rattle.std.specs.Io.KnownBytes.{Appends};
-ghost use Rattle.system_io.specs.Pieces.{MovesFront, Takes, TakesFront};
+ghost use Rattle.std.specs.Prelude.{◌≡◌, ◌≤◌, ◌+◌, ◌-◌, ◌++◌, ◌↔◌, [], length, take, drop, IsTrue, IfOk, false};
 
 use cloak_base::NoMemory;
 use std::alloc::Global;
-use std::io::Write;
 use std::marker::Model;
 
 /// How many bytes are gathered at the most.
@@ -45,7 +42,7 @@ impl Gathered {
         })
     }
 
-    /// Takes the whole piece where there is room for it, and else nothing of it.
+    /// Takes the whole piece if there is room for it, and else nothing of it.
     #[inline(always)]
     pub fn gather(&mut self, piece: &[u8]) -> bool
         ensures taken { IsTrue result → self.new ≡ self.old ++ piece.now }
@@ -54,64 +51,32 @@ impl Gathered {
         if piece.len() > self.room.len() - self.filled {
             return false;
         }
-        self.filled = put_behind(&mut self.room, self.filled, piece);
+        self.filled = put_after(&mut self.room, self.filled, piece);
         true
     }
 
-    /// Takes a whole piece: it is gathered, or written behind what was gathered where there is no room. Says whether
-    /// that was done; where it was not, a front of the piece was taken.
-    #[inline(always)]
-    pub fn append<W: Write>(&mut self, out: &mut W, piece: &[u8]) -> bool
-        ensures whole { IsTrue result →
-            Takes (length piece.now) piece.now self.old self.new (W.contents out.old) (W.contents out.new) }
-        ensures front { TakesFront piece.now self.old self.new (W.contents out.old) (W.contents out.new) }
+    /// The bytes that are gathered.
+    pub fn rest(&self) -> &[u8]
+        ensures { result.now ≡ self.now }
     {
-        if self.gather(piece) {
-            return true;
-        }
-        self.append_behind(out, piece)
+        let taken = &self.room[..self.filled];
+        &taken[self.written..]
     }
 
-    /// Takes a whole piece once what was gathered is written out. Says whether that was done; where it was not, a front
-    /// of the piece was taken.
-    #[cold]
-    #[inline(never)]
-    fn append_behind<W: Write>(&mut self, out: &mut W, piece: &[u8]) -> bool
-        ensures whole { IsTrue result →
-            Takes (length piece.now) piece.now self.old self.new (W.contents out.old) (W.contents out.new) }
-        ensures front { TakesFront piece.now self.old self.new (W.contents out.old) (W.contents out.new) }
+    /// Forgets the first n of the bytes, which were written.
+    pub fn forget(&mut self, n: usize)
+        requires { n ≤ length self.old }
+        ensures { self.new ≡ drop n self.old }
     {
-        let is_written = self.write_out(out);
-        if !is_written {
-            return false;
+        self.written += n;
+        if self.written == self.filled {
+            self.clear();
         }
-        if self.gather(piece) {
-            return true;
-        }
-        write_front(out, piece) == piece.len()
     }
 
-    /// Writes out what is gathered and a piece behind it, and answers how many bytes of the piece were taken. Where
-    /// these are not all, a write failed.
-    pub fn show<W: Write>(&mut self, out: &mut W, piece: &[u8]) -> usize
-        ensures count { result ≤ length piece.now }
-        ensures taken { Takes result piece.now self.old self.new (W.contents out.old) (W.contents out.new) }
-    {
-        if self.gather(piece) {
-            if self.write_out(out) {
-                return piece.len();
-            }
-            return self.take_back(piece.len());
-        }
-        if !self.write_out(out) {
-            return 0;
-        }
-        write_front(out, piece)
-    }
-
-    /// Takes back up to `count` of the bytes that were gathered last, and answers how many of them were written out
+    /// Takes back up to `count` of the bytes that were gathered last, and returns how many of `count` were written
     /// before.
-    fn take_back(&mut self, count: usize) -> usize
+    pub fn take_back(&mut self, count: usize) -> usize
         ensures left { self.new ≡ take (length self.old - count) self.old }
         ensures written { result ≡ count - length self.old }
     {
@@ -137,26 +102,11 @@ impl Gathered {
         self.filled = 0;
         self.written = 0;
     }
-
-    /// Writes out what is gathered, and says whether all of it was written. What was not stays gathered.
-    pub fn write_out<W: Write>(&mut self, out: &mut W) -> bool
-        ensures all { IsTrue result ↔ (self.new ≡ []) }
-        ensures moved { MovesFront self.old self.new (W.contents out.old) (W.contents out.new) }
-    {
-        let taken = &self.room[..self.filled];
-        let n = write_front(out, &taken[self.written..]);
-        self.written += n;
-        if self.written < self.filled {
-            return false;
-        }
-        self.clear();
-        true
-    }
 }
 
-/// Puts these bytes behind the first `at`, and answers where they end.
+/// Puts these bytes after the first `at`, and returns where they end.
 #[inline(always)]
-fn put_behind(room: &mut [u8], at: usize, bytes: &[u8]) -> usize
+fn put_after(room: &mut [u8], at: usize, bytes: &[u8]) -> usize
     requires { at + length bytes.now ≤ length room.old }
     ensures end { result ≡ at + length bytes.now }
     ensures put { take result room.new ≡ take at room.old ++ bytes.now }
@@ -165,20 +115,4 @@ fn put_behind(room: &mut [u8], at: usize, bytes: &[u8]) -> usize
     let end = at + bytes.len();
     room[at..end].copy_from_slice(bytes);
     end
-}
-
-/// Writes until the whole piece is written, a write fails, or one takes no bytes. Answers how many bytes
-/// were written.
-pub fn write_front<W: Write>(out: &mut W, piece: &[u8]) -> usize
-    ensures count { result ≤ length piece.now }
-    ensures told { Appends (W.contents out.old) (W.contents out.new) (take result piece.now) }
-{
-    let mut n = 0;
-    while n < piece.len() {
-        match out.write(&piece[n..]) {
-            Ok(more) if more > 0 => n += more,
-            _ => break,
-        }
-    }
-    n
 }

@@ -1,44 +1,48 @@
-ghost use Rattle.std.specs.Prelude.{◌≡◌, ◌<◌, ◌≤◌, [], None, length, IfOk, OnOk, OnErr, IsErr, IsTrue};
+ghost use Rattle.std.specs.Prelude.{◌≡◌, ◌≤◌, [], length, take, IfOk, IsErr, IsTrue};
+ghost use Rattle.std.specs.Io.KnownBytes.{append_known};
 ghost use Rattle.io_traits.specs.Told.{Counts};
-ghost use Rattle.system_io.specs.Pieces.{MovesFront, Takes};
 
 use crate::gathered::Gathered;
+use crate::output::{Output, write_front};
 use cloak_base::{Failed, NoMemory};
 use io_traits::Sink;
-use std::io;
+use std::alloc::Global;
 use std::marker::Model;
 
-/// Standard output. Small pieces are gathered, and written out in one go at each line feed at the latest, and at
-/// `flush`. It tells no content.
+/// An output as a sink: standard output is one. Small pieces are gathered, and written out in one go at each line feed
+/// at the latest, and at `flush`. What was taken is what the output has and, after it, what is gathered.
 ///
-/// A piece of which only a front could be written counts as taken up to there, and the next call answers for the
+/// A piece of which only a front could be written counts as taken up to there, and the next call tells of the
 /// fault. So nothing is lost or shown twice, and no fault is passed over.
 #[derive(Drop)]
-pub struct StdSink<P: Print + Drop> {
-    print: P,
+pub struct StdSink<O: Output + Drop> {
+    out: O,
     gathered: Gathered,
     is_fault_owed: bool,
     faults: u64,
 }
 
-impl<P: Print + Drop> Model for StdSink<P> {
+impl<O: Output + Drop> Model for StdSink<O> {
+    ghost use Rattle.std.specs.Io.KnownBytes.{append_known};
     ghost use Rattle.system_io.specs.Files.{OutputState};
 
     ghost Value = { OutputState };
 
-    ghost view = { λ s. record { faults = s.faults; gathered = s.gathered } };
+    ghost view = { λ s. record {
+      faults = s.faults;
+      taken = append_known (O.shown s.out) s.gathered;
+      gathered = s.gathered;
+    } };
 }
 
-impl<P: Print + Drop> StdSink<P> {
+impl<O: Output + Drop> StdSink<O> {
     /// A sink with no fault yet. All memory that it needs is taken here.
-    pub fn open(print: P) -> Result<StdSink<P>, NoMemory>
-    where
-        P: AllocGlobal,
-        ensures { IfOk result (λ sink. sink ≡ record { faults = 0; gathered = [] }) }
+    pub fn open(alloc: Global, out: O) -> Result<StdSink<O>, NoMemory>
+        ensures { IfOk result (λ sink. sink ≡ record { faults = 0; taken = O.shown out; gathered = [] }) }
     {
-        let gathered = Gathered::open(print.alloc())?;
+        let gathered = Gathered::open(alloc)?;
         Ok(StdSink {
-            print,
+            out,
             gathered,
             is_fault_owed: false,
             faults: 0,
@@ -48,15 +52,37 @@ impl<P: Print + Drop> StdSink<P> {
     /// Says whether all that is gathered was written out.
     fn write_out(&mut self) -> bool
         ensures all { IsTrue result → self.new.gathered ≡ [] }
-        ensures moved { MovesFront self.old.gathered self.new.gathered None None }
+        ensures taken { self.new.taken ≡ self.old.taken }
         ensures faults { self.new.faults ≡ self.old.faults }
     {
-        self.gathered.write_out(&mut io::writer(&self.print))
+        let n = write_front(&mut self.out, self.gathered.rest());
+        self.gathered.forget(n);
+        self.gathered.is_empty()
+    }
+
+    /// Takes a piece after what is gathered and writes out both, and returns how many bytes of the piece were taken. If
+    /// these are not all, a write failed.
+    fn show(&mut self, piece: &[u8]) -> usize
+        ensures count { result ≤ length piece.now }
+        ensures taken { self.new.taken ≡ append_known self.old.taken (take result piece.now) }
+        ensures faults { self.new.faults ≡ self.old.faults }
+    {
+        if self.gathered.gather(piece) {
+            if self.write_out() {
+                return piece.len();
+            }
+            return self.gathered.take_back(piece.len());
+        }
+        if !self.write_out() {
+            return 0;
+        }
+        write_front(&mut self.out, piece)
     }
 
     fn fail<T>(&mut self) -> Result<T, Failed>
         ensures counted { Counts self.old.faults self.new.faults result }
         ensures err { IsErr result }
+        ensures taken { self.new.taken ≡ self.old.taken }
         ensures gathered { self.new.gathered ≡ self.old.gathered }
     {
         self.is_fault_owed = false;
@@ -65,28 +91,22 @@ impl<P: Print + Drop> StdSink<P> {
     }
 }
 
-impl<P: Print + Drop> Sink for StdSink<P> {
-    ghost taken = { λ _. None };
+impl<O: Output + Drop> Sink for StdSink<O> {
+    ghost taken = { λ s. s.taken };
 
     ghost faults = { λ s. s.faults };
 
     ghost is_settled = { λ s. s.gathered ≡ [] };
 
     /// A piece with a line feed is written out with what is gathered, and so is one that there is no room for.
-    fn put(&mut self, bytes: &[u8]) -> Result<usize, Failed>
-        ensures count { IfOk result (λ n. n ≤ length bytes.now) }
-        ensures progress { IfOk result (λ n. 0 < length bytes.now → 0 < n) }
-        ensures taken { IfOk result (λ n. Takes n bytes.now self.old.gathered self.new.gathered None None) }
-        ensures err { OnErr result (MovesFront self.old.gathered self.new.gathered None None) }
-        ensures faults { Counts self.old.faults self.new.faults result }
-    {
+    fn put(&mut self, bytes: &[u8]) -> Result<usize, Failed> {
         if self.is_fault_owed {
             return self.fail();
         }
         if !bytes.contains(&b'\n') && self.gathered.gather(bytes) {
             return Ok(bytes.len());
         }
-        let taken = self.gathered.show(&mut io::writer(&self.print), bytes);
+        let taken = self.show(bytes);
         if taken == bytes.len() {
             return Ok(taken);
         }
@@ -97,11 +117,7 @@ impl<P: Print + Drop> Sink for StdSink<P> {
         Ok(taken)
     }
 
-    fn flush(&mut self) -> Result<(), Failed>
-        ensures all { OnOk result (self.new.gathered ≡ []) }
-        ensures moved { MovesFront self.old.gathered self.new.gathered None None }
-        ensures faults { Counts self.old.faults self.new.faults result }
-    {
+    fn flush(&mut self) -> Result<(), Failed> {
         if self.write_out() && !self.is_fault_owed {
             return Ok(());
         }

@@ -1,14 +1,19 @@
-use Rattle.system_io.proofs.Writes.{MovesFront-written}
+use Rattle.std.proofs.Common.{◌≡◌, refl, length}
+use Rattle.system_io.proofs.Held.{held-after, told_by_held}
 use Rattle.system_io.proofs.file_shelf.FileShelfShelf.size.Goals as goal
 
-pub returns-then-not-write_out-clause-reading : goal.returns-then-not-write_out-clause-reading
-returns-then-not-write_out-clause-reading g c = λ none. absurd
-    (MovesFront-written _ _ _ _ _ c.write_out.ensures.all c.write_out.ensures.moved none c.if-not-write_out.true)
+pub returns-then-not-write_out-clause-files : goal.returns-then-not-write_out-clause-files
+returns-then-not-write_out-clause-files g c =
+    held-after g.D.Disk.told c.args.self.now c.write_out.new.self _ _ c.fail_writing.ensures.kept refl refl refl
+    c.write_out.ensures.files
 
-pub returns-then-not-write_out-clause-writing : goal.returns-then-not-write_out-clause-writing
-returns-then-not-write_out-clause-writing g c = λ none. absurd
-    (MovesFront-written _ _ _ _ _ c.write_out.ensures.all c.write_out.ensures.moved none c.if-not-write_out.true)
+pub returns-in-Ok-clause-size : goal.returns-in-Ok-clause-size
+returns-in-Ok-clause-size g c =
+    told_by_held g.D.Disk.told c.args.self.now _ c.args.name.now (λ all. c.in-Ok.n ≡ length all)
+    (rw (← c.self.view_is) at c.write_out.ensures.files)
+    (rw (← c.self.view_is) at (c.write_out.ensures.all.0 c.if-not-write_out.false)) c.in-Ok.ensures
 
-pub returns-then-not-write_out-clause-settled : goal.returns-then-not-write_out-clause-settled
-returns-then-not-write_out-clause-settled g c = λ none. absurd
-    (MovesFront-written _ _ _ _ _ c.write_out.ensures.all c.write_out.ensures.moved none c.if-not-write_out.true)
+pub returns-in-Err-clause-files : goal.returns-in-Err-clause-files
+returns-in-Err-clause-files g c =
+    held-after g.D.Disk.told c.args.self.now c.write_out.new.self _ _ c.fail_reading.ensures.kept refl refl refl
+    c.write_out.ensures.files

@@ -1,6 +1,6 @@
 use Rattle.std.proofs.Common.{◌≡◌, ◌<◌, ◌≤◌, length, take, arith, false, true, ◌∙◌}
 use Rattle.std.proofs.lemmas.List.{length-take-le}
-use Rattle.system_io.proofs.Writes.{left_behind}
+use Rattle.system_io.proofs.Writes.{left_after}
 use Rattle.system_io.proofs.gathered.Gathered.is_empty.Goals as goal
 
 pub returns-then-self : goal.returns-then-self
@@ -12,5 +12,5 @@ returns-then-self c =
     let len = length-take-le c.self.inside.filled c.self.inside.room.items inside in
     let more : c.self.inside.written < length all = omega (arith, len, c.if-self.true) in (
       λ (no : false ≡ true). cc,
-      λ none. absurd (left_behind all c.self.inside.written more (c.self.view_is ∙ none)),
+      λ none. absurd (left_after all c.self.inside.written more (c.self.view_is ∙ none)),
     )
