@@ -6,7 +6,7 @@ use Rattle.asm_text.specs.Making.{FailsToRead}
 use Rattle.manifest.specs.Reading.{ReadsParts}
 use Rattle.manifest.specs.declared.fault.PackFault.{PackFault}
 use Rattle.manifest.specs.declared.fault.PackError.{PackError}
-use Rattle.manifest.specs.declared.fault.PackError.TheVariants.{ReadFault, Faulty}
+use Rattle.manifest.specs.declared.fault.PackError.TheVariants.{ReadFault, NoMemory, Faulty}
 
 pub same_held : (old new : List ℕ → Option (List ℕ)) → SameFiles old new → new ≡ old
 same_held old new same = λ i name. same name i
@@ -35,12 +35,20 @@ pub handed_on : {S B : Type 0} (A : Type 0) (first mid last : FilesOutside S) (e
 handed_on A first mid last e (Ok x) one two is = absurd is
 handed_on {S} {B} A first mid last ReadFault (Err f) one two is =
     subst (λ (x : PackError). ReadsParts {A = B} first last (Err x)) (sym is) (fails_later first mid last one two)
+handed_on {S} {B} A first mid last NoMemory (Err f) one two is =
+    subst (λ (x : PackError). ReadsParts {A = B} first last (Err x)) (sym is) (read_more first mid last one two)
 handed_on {S} {B} A first mid last (Faulty fault) (Err f) one two is =
     subst (λ (x : PackError). ReadsParts {A = B} first last (Err x)) (sym is) (read_more first mid last one two)
 
--- a fault that is none of reading
+-- a fault of a manifest, or want of memory
 pub only_read : {S B : Type 0} (first last : FilesOutside S) (fault : PackFault) (r : Result B PackError) →
     OnlyRead first last → IsErrAnd r (λ f. f ≡ Faulty fault) → ReadsParts first last r
 only_read first last fault (Ok x) one is = absurd is
 only_read {S} {B} first last fault (Err f) one is =
+    subst (λ (x : PackError). ReadsParts {A = B} first last (Err x)) (sym is) one
+
+pub only_lacks : {S B : Type 0} (first last : FilesOutside S) (r : Result B PackError) →
+    OnlyRead first last → IsErrAnd r (λ f. f ≡ NoMemory) → ReadsParts first last r
+only_lacks first last (Ok x) one is = absurd is
+only_lacks {S} {B} first last (Err f) one is =
     subst (λ (x : PackError). ReadsParts {A = B} first last (Err x)) (sym is) one

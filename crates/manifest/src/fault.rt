@@ -44,10 +44,17 @@ pub enum Wrong {
     TooLarge,
 }
 
-/// Why a manifest means no bundle, or there is no memory to see what it means.
+/// What is wrong at a key of a table.
+#[derive(Clone, Copy, Debug, PartialEq, Eq)]
+pub struct KeyFault {
+    pub part: Part,
+    pub key: Key,
+    pub wrong: Wrong,
+}
+
+/// Why a manifest means no bundle.
 #[derive(Debug, Drop)]
 pub enum PackFault {
-    NoMemory,
     /// The manifest has more than 1,048,576 bytes.
     TooLong,
     /// The manifest is no UTF-8.
@@ -55,11 +62,7 @@ pub enum PackFault {
     /// The manifest is no TOML document; what its reader says.
     NotToml(String),
     /// What stands at a key is wrong.
-    AtKey {
-        part: Part,
-        key: Key,
-        wrong: Wrong,
-    },
+    AtKey(KeyFault),
     /// There is no key of this name in this table.
     UnknownKey {
         part: Part,
@@ -74,42 +77,35 @@ pub enum PackFault {
     },
 }
 
-impl From<AllocError> for PackFault {
-    ghost from_gives = { λ _ fault. fault ≡ faults.NoMemory };
-
-    fn from(_: AllocError) -> PackFault {
-        PackFault::NoMemory
-    }
-}
-
-impl<T: Drop> From<AllocFailed<T>> for PackFault {
-    ghost from_gives = { λ _ fault. fault ≡ faults.NoMemory };
-
-    fn from(_: AllocFailed<T>) -> PackFault {
-        PackFault::NoMemory
-    }
-}
-
 /// Why there is no bundle.
 #[derive(Debug, Drop)]
 pub enum PackError {
     /// A file could not be read.
     ReadFault,
+    NoMemory,
     Faulty(PackFault),
 }
 
-impl From<PackFault> for PackError {
-    ghost from_gives = { λ fault error. error ≡ errors.Faulty fault };
+impl From<KeyFault> for PackError {
+    ghost from_gives = { λ fault error. error ≡ errors.Faulty (faults.AtKey fault) };
 
-    fn from(fault: PackFault) -> PackError {
-        PackError::Faulty(fault)
+    fn from(fault: KeyFault) -> PackError {
+        PackError::Faulty(PackFault::AtKey(fault))
+    }
+}
+
+impl From<AllocError> for PackError {
+    ghost from_gives = { λ _ error. error ≡ errors.NoMemory };
+
+    fn from(_: AllocError) -> PackError {
+        PackError::NoMemory
     }
 }
 
 impl<T: Drop> From<AllocFailed<T>> for PackError {
-    ghost from_gives = { λ _ error. error ≡ errors.Faulty faults.NoMemory };
+    ghost from_gives = { λ _ error. error ≡ errors.NoMemory };
 
     fn from(_: AllocFailed<T>) -> PackError {
-        PackError::Faulty(PackFault::NoMemory)
+        PackError::NoMemory
     }
 }

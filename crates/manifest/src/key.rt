@@ -59,9 +59,9 @@ impl Key {
 pub enum Part {
     /// The top of the document.
     Image,
-    Segment(u32),
+    Segment(usize),
     Disk,
     /// A file of the disk.
-    File(u32),
-    Program(u32),
+    File(usize),
+    Program(usize),
 }

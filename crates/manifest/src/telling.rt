@@ -2,8 +2,9 @@
 ghost use Rattle.std.specs.Prelude.{◌≡◌, Some};
 ghost use Rattle.std.specs.Fmt.{DisplaysOnOk};
 ghost use Rattle.manifest.specs.Telling as spec;
+ghost use Rattle.manifest.specs.Faults.{fault_of};
 
-use crate::fault::{PackFault, Wrong};
+use crate::fault::{KeyFault, PackFault, Wrong};
 use crate::key::Part;
 use asm_text::{FaultyText, TextFault};
 use std::fmt;
@@ -76,19 +77,24 @@ fn write_faulty_text<W: fmt::Write>(
     write!(f, "{part}text: the file is no assembler text\n{faulty}")
 }
 
+impl fmt::Display for KeyFault {
+    ghost output = { λ fault. Some (spec.key_fault_line fault) };
+
+    fn fmt<W: fmt::Write>(&self, f: &mut fmt::Formatter<W>) -> fmt::Result {
+        let key = self.key.name();
+        write!(f, "{}{key}: {}\n", self.part, self.wrong)
+    }
+}
+
 impl fmt::Display for PackFault {
-    ghost output = { λ fault. Some (spec.pack_fault_line fault) };
+    ghost output = { λ fault. Some (spec.fault_line (fault_of fault)) };
 
     fn fmt<W: fmt::Write>(&self, f: &mut fmt::Formatter<W>) -> fmt::Result {
         match self {
-            PackFault::NoMemory => f.write_str("there is not enough memory\n"),
             PackFault::TooLong => f.write_str("the file has more than 1048576 bytes\n"),
             PackFault::NotText => f.write_str("the file is no text in UTF-8\n"),
             PackFault::NotToml(words) => write!(f, "no TOML document: {words}\n"),
-            PackFault::AtKey { part, key, wrong } => {
-                let key = key.name();
-                write!(f, "{part}{key}: {wrong}\n")
-            }
+            PackFault::AtKey(fault) => write!(f, "{fault}"),
             PackFault::UnknownKey { part, name } => {
                 write!(f, "{part}{name}: there is no key of this name here\n")
             }
@@ -103,7 +109,7 @@ impl fmt::Display for PackFault {
 }
 
 impl fmt::Display for FaultyManifest<'_> {
-    ghost output = { λ m. Some (spec.pack_text m.name.now m.fault.now) };
+    ghost output = { λ m. Some (spec.pack_text m.name.now (fault_of m.fault.now)) };
 
     fn fmt<W: fmt::Write>(&self, f: &mut fmt::Formatter<W>) -> fmt::Result {
         write!(f, "{}: {}", self.name, self.fault)

@@ -1,0 +1,33 @@
+-- A program by the keys of its table.
+use Rattle.std.proofs.Common.{◌≡◌, ℕ, List, length, Result, Ok, Err, refl}
+use Rattle.cloak_base.specs.declared.names.Start.{Start}
+use Rattle.toml.specs.Data.{Data}
+use Rattle.manifest.specs.declared.key.Part.{Part}
+use Rattle.manifest.specs.declared.key.Key.TheVariants.{KeyNumber}
+use Rattle.manifest.specs.declared.fault.KeyFault.{KeyFault}
+use Rattle.manifest.specs.Fields.{number_or_at}
+use Rattle.manifest.specs.Parts.{pages_at, frame_at, start_at, program_at}
+
+pub wrong_pages : (at : Part) (table : Data) (frames : ℕ) (bytes : List ℕ) (e : KeyFault) →
+    Err e ≡ pages_at at table (length bytes) → Err e ≡ program_at at table frames bytes
+unfolding program_at
+wrong_pages at table frames bytes e h = rw (← h) refl
+
+pub wrong_frame : (at : Part) (table : Data) (frames : ℕ) (bytes : List ℕ) (e : KeyFault) (pages : ℕ) →
+    Ok pages ≡ pages_at at table (length bytes) → Err e ≡ frame_at at table frames pages →
+    Err e ≡ program_at at table frames bytes
+unfolding program_at
+wrong_frame at table frames bytes e pages h1 h = rw (← h1, ← h) refl
+
+pub wrong_start : (at : Part) (table : Data) (frames : ℕ) (bytes : List ℕ) (e : KeyFault) (pages frame : ℕ) →
+    Ok pages ≡ pages_at at table (length bytes) → Ok frame ≡ frame_at at table frames pages →
+    Err e ≡ start_at at table pages → Err e ≡ program_at at table frames bytes
+unfolding program_at
+wrong_start at table frames bytes e pages frame h1 h2 h = rw (← h1, ← h2, ← h) refl
+
+pub wrong_key : (at : Part) (table : Data) (frames : ℕ) (bytes : List ℕ) (e : KeyFault) (pages frame : ℕ) (start : Start) →
+    Ok pages ≡ pages_at at table (length bytes) → Ok frame ≡ frame_at at table frames pages →
+    Ok start ≡ start_at at table pages → Err e ≡ number_or_at at table KeyNumber 0 3 0 →
+    Err e ≡ program_at at table frames bytes
+unfolding program_at
+wrong_key at table frames bytes e pages frame start h1 h2 h3 h = rw (← h1, ← h2, ← h3, ← h) refl
