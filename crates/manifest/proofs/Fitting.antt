@@ -27,9 +27,9 @@ fits None size most false room told some = absurd cc
 -- nothing is left
 pub fits_not : (room : Option ℕ) (size most : ℕ) (none : Bool) → MatchOption room (most < size) (λ left. size + left ≡ most) →
     is_some room ≡ not none → none ≡ true → most < size
-fits_not None size most none room told no = room
-fits_not (Some left) size most true room told no = absurd cc
-fits_not (Some left) size most false room told no = absurd cc
+fits_not None size most none room told gone = room
+fits_not (Some left) size most true room told gone = absurd cc
+fits_not (Some left) size most false room told gone = absurd cc
 
 pub is_fitting : (b : Bundle) → length (bundle_bytes 2 b) ≤ largest_bundle → fitting b ≡ Ok b
 unfolding fitting

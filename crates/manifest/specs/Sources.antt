@@ -59,19 +59,19 @@ pub record IsFile (at : Part) (key : Key) (told : Option (List ℕ)) (r : Result
   pub tells : Tells told bytes
   pub is : r ≡ by_keys (file_bytes at key bytes)
 
+-- what is read at the path of a name
+pub record AtPath (manifest name : List ℕ) (Reads : List ℕ → Result (List ℕ) Fault → Type 0) (r : Result (List ℕ) Fault)
+    : Type 0 where
+  pub path : List ℕ
+  pub is_path : IsPath manifest name path
+  pub reads : Reads path r
+
 -- `held` are the files, as far as they are told, and `manifest` is the manifest's name.
 module _ (held : List ℕ → Option (List ℕ)) (manifest : List ℕ) where
-  -- what is read at the path of a name
-  pub record AtPath (name : List ℕ) (Reads : List ℕ → Result (List ℕ) Fault → Type 0) (r : Result (List ℕ) Fault)
-      : Type 0 where
-    pub path : List ℕ
-    pub is_path : IsPath manifest name path
-    pub reads : Reads path r
-
   -- a file of bytes, or an assembler text; one of both
   unfoldable pub NamedReads : Part → (flat written : Option (List ℕ)) → Result (List ℕ) Fault → Type 0
-  NamedReads at (Some name) None r = AtPath name (λ path. IsFile at Bytes (held path)) r
-  NamedReads at None (Some name) r = AtPath name (λ path. Then (IsFile at Text (held path)) (TextReads at path)) r
+  NamedReads at (Some name) None r = AtPath manifest name (λ path. IsFile at Bytes (held path)) r
+  NamedReads at None (Some name) r = AtPath manifest name (λ path. Then (IsFile at Text (held path)) (TextReads at path)) r
   NamedReads at None None r = r ≡ Err (at_key (wrong_at at Bytes NoSource))
   NamedReads at (Some flat) (Some written) r = r ≡ Err (at_key (wrong_at at Bytes TwoSources))
 

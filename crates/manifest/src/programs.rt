@@ -119,7 +119,7 @@ fn placed_program(place: Place<'_>, bytes: Vec<u8>, frames: u32) -> Result<Progr
         (λ r. r ≡ by_keys (program_at place.entry.part (view place.entry.table.now) frames bytes.items)) result }
     ensures in_image { IfOk result (IsProgramIn frames) }
 {
-    let pages = page_count(place, bytes.len())?;
+    let pages = page_count(place, bytes.as_slice().len())?;
     let frame = first_frame(place, frames, pages)?;
     let start = start(place, pages)?;
     let key = place.number_or(Key::KeyNumber, 0, 3, 0)?;

@@ -73,7 +73,7 @@ fn named_file<S: Shelf>(
 {
     match read_whole(alloc, shelf, path, LARGEST_BUNDLE) {
         Ok(Some(bytes)) => {
-            if bytes.is_empty() {
+            if bytes.as_slice().is_empty() {
                 return Err(PackError::from(place.fault(key, Wrong::NoFile)));
             }
             Ok(bytes)

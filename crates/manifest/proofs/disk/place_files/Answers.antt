@@ -16,14 +16,14 @@ loop-index-preserved g c =
     let first = c.args.shelf.now in
     let manifest = c.args.manifest.now in
     let i = c.loop-index.index in
-    let from = c.loop-index-item.result in
+    let from = c.index-tables-index.result in
     let so_far = c.loop-index.invariant in
     let next = c.disk_file.new.disk in
     let here = subst (λ (h : List ℕ → Option (List ℕ)). FileReads h manifest (i + 1) (view from) c.loop-index.disk (Ok next))
     (same_held (held first) (held c.loop-index.shelf) so_far.only.held) c.in_ok-disk_file.ensures.read in
     record {
       read = λ r rest. so_far.read r (goes_on (FileReads (held first) manifest) c.args.tables.now i from c.loop-index.disk next r
-          c.loop-index-test.true c.loop-index-item.is here rest);
+          c.loop-index-test.true c.index-tables-index.is here rest);
       small = omega (arith, so_far.small);
       only = read_more (state first) (state c.loop-index.shelf) (state c.disk_file.new.shelf) so_far.only
           c.in_ok-disk_file.ensures.reads;
@@ -37,7 +37,7 @@ returns-in_err-disk_file-clause-read g c =
     let manifest = c.args.manifest.now in
     let tables = c.args.tables.now in
     let i = c.loop-index.index in
-    let from = c.loop-index-item.result in
+    let from = c.index-tables-index.result in
     let so_far = c.loop-index.invariant in
     let next = c.disk_file.new.disk in
     let here = subst (λ (h : List ℕ → Option (List ℕ)). Answers {X = Unit {0}} (λ u. next) (FileReads h manifest (i + 1) (view from) c.loop-index.disk)
@@ -47,7 +47,7 @@ returns-in_err-disk_file-clause-read g c =
     (InTurn (FileReads (held first) manifest) 1 (items_view tables) c.args.disk.now) c.in_err-disk_file.field-0.0
     c.from_residual.result
     (λ fault wrong. so_far.read (Err fault) (ends_wrong (FileReads (held first) manifest) tables i from c.loop-index.disk fault
-    c.loop-index-test.true c.loop-index-item.is wrong))
+    c.loop-index-test.true c.index-tables-index.is wrong))
     here c.from_residual.ensures.1
 
 pub returns-clause-read : goal.returns-clause-read

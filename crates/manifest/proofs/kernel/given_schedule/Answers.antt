@@ -26,8 +26,8 @@ returns-in-None-clause-read c =
     let at = c.args.place.part in
     let turns = c.args.turns.now in
     key_wrong (λ (v : Vec ℕ Global). v.items)
-    (λ (r : Result (List ℕ) Fault). r ≡ by_keys (turns_of at c.args.harts [] (items_view turns))) c.fault.result c.from.result
-    (ap by_keys (ap (λ (f : KeyFault). Err f) c.fault.ensures
+    (λ (r : Result (List ℕ) Fault). r ≡ by_keys (turns_of at c.args.harts [] (items_view turns))) c.fault-fault.result c.from.result
+    (ap by_keys (ap (λ (f : KeyFault). Err f) c.fault-fault.ensures
     ∙ sym (turn_wrong at c.args.harts turns c.loop-turn.turn-index c.turn-item.result c.loop-turn.schedule.items
     c.loop-turn-test.true c.turn-item.is (sym c.in-None.ensures.read))
     ∙ c.loop-turn.invariant.read))

@@ -16,9 +16,9 @@ returns-in_err-text-clause-means g c =
     hands_no_fault (λ (b : Bundle). b) (Means (g.S.Shelf.held c.args.shelf.now) c.args.manifest.now) c.in_err-text.field-0.0
     c.from_residual.result c.in_err-text.ensures.no_fault c.from_residual.ensures.1
 
-pub returns-in-None-clause-means : goal.returns-in-None-clause-means
-returns-in-None-clause-means g c =
-    let whole = rw c.in-None.is at c.in_ok-text.ensures.whole in
+pub returns-in_default-clause-means : goal.returns-in_default-clause-means
+returns-in_default-clause-means g c =
+    let whole = rw c.in_default.is at c.in_ok-text.ensures.whole in
     record { text = whole.0; told = whole.1; reads = (Err too_long, long_text whole.0 whole.2, refl) }
 
 pub returns-in_err-document-clause-means : goal.returns-in_err-document-clause-means

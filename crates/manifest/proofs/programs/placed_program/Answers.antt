@@ -15,7 +15,7 @@ returns-in_err-pages-clause-read c =
     let e = c.in_err-pages.field-0.0 in
     key_fails (λ (p : Program). p) (λ (r : Result Program Fault). r ≡ by_keys (program_at at table c.args.frames c.args.bytes.items)) e
     c.from_residual.result
-    (ap by_keys (wrong_pages at table c.args.frames c.args.bytes.items e (rw c.len.ensures at c.in_err-pages.ensures.read)))
+    (ap by_keys (wrong_pages at table c.args.frames c.args.bytes.items e (rw c.as_slice.ensures.value at c.in_err-pages.ensures.read)))
     c.from_residual.ensures.1
 
 pub returns-in_err-frame-clause-read : goal.returns-in_err-frame-clause-read
@@ -26,7 +26,7 @@ returns-in_err-frame-clause-read c =
     key_fails (λ (p : Program). p) (λ (r : Result Program Fault). r ≡ by_keys (program_at at table c.args.frames c.args.bytes.items)) e
     c.from_residual-in_err-frame.result
     (ap by_keys (wrong_frame at table c.args.frames c.args.bytes.items e c.in_ok-pages.pages
-    (rw c.len.ensures at c.in_ok-pages.ensures.read) c.in_err-frame.ensures.read))
+    (rw c.as_slice.ensures.value at c.in_ok-pages.ensures.read) c.in_err-frame.ensures.read))
     c.from_residual-in_err-frame.ensures.1
 
 pub returns-in_err-start-clause-read : goal.returns-in_err-start-clause-read
@@ -37,7 +37,7 @@ returns-in_err-start-clause-read c =
     key_fails (λ (p : Program). p) (λ (r : Result Program Fault). r ≡ by_keys (program_at at table c.args.frames c.args.bytes.items)) e
     c.from_residual-in_err-start.result
     (ap by_keys (wrong_start at table c.args.frames c.args.bytes.items e c.in_ok-pages.pages c.in_ok-frame.frame
-    (rw c.len.ensures at c.in_ok-pages.ensures.read) c.in_ok-frame.ensures.read c.in_err-start.ensures.read))
+    (rw c.as_slice.ensures.value at c.in_ok-pages.ensures.read) c.in_ok-frame.ensures.read c.in_err-start.ensures.read))
     c.from_residual-in_err-start.ensures.1
 
 pub returns-in_err-key-clause-read : goal.returns-in_err-key-clause-read
@@ -48,12 +48,12 @@ returns-in_err-key-clause-read c =
     key_fails (λ (p : Program). p) (λ (r : Result Program Fault). r ≡ by_keys (program_at at table c.args.frames c.args.bytes.items)) e
     c.from_residual-in_err-key.result
     (ap by_keys (wrong_key at table c.args.frames c.args.bytes.items e c.in_ok-pages.pages c.in_ok-frame.frame c.in_ok-start.start
-    (rw c.len.ensures at c.in_ok-pages.ensures.read) c.in_ok-frame.ensures.read c.in_ok-start.ensures.read
+    (rw c.as_slice.ensures.value at c.in_ok-pages.ensures.read) c.in_ok-frame.ensures.read c.in_ok-start.ensures.read
     c.in_err-key.ensures.read))
     c.from_residual-in_err-key.ensures.1
 
 pub returns-clause-read : goal.returns-clause-read
 unfolding program_at
 returns-clause-read c =
-    let pages = rw c.len.ensures at c.in_ok-pages.ensures.read in
+    let pages = rw c.as_slice.ensures.value at c.in_ok-pages.ensures.read in
     rw (← pages, ← c.in_ok-frame.ensures.read, ← c.in_ok-start.ensures.read, ← c.in_ok-key.ensures.read, c.new.ensures) ?

@@ -22,7 +22,7 @@ loop-index-preserved g c =
     let frames = c.args.frames in
     let tables = c.args.tables.now in
     let i = c.loop-index.index in
-    let from = c.loop-index-item.result in
+    let from = c.index-tables-index.result in
     let so_far = c.loop-index.invariant in
     let items = c.loop-index.programs.items in
     let last = c.in_ok-program.program in
@@ -31,7 +31,7 @@ loop-index-preserved g c =
     let pushed = c.in_ok-push.ensures.items in
     record {
       read = λ r rest. so_far.read r (goes_on (Listing (ProgramReads (held first) manifest frames)) tables i from items (items ++ last ∷ []) r
-          c.loop-index-test.true c.loop-index-item.is (Ok last, here, refl) (rw pushed at rest));
+          c.loop-index-test.true c.index-tables-index.is (Ok last, here, refl) (rw pushed at rest));
       count = rw pushed (simp length-append (omega (arith, so_far.count)));
       in_image = rw pushed (All-push (IsProgramIn frames) items last so_far.in_image c.in_ok-program.ensures.in_image);
       only = read_more (state first) (state c.loop-index.shelf) (state c.program.new.shelf) so_far.only c.in_ok-program.ensures.reads;
@@ -47,7 +47,7 @@ returns-in_err-program-clause-read g c =
     let frames = c.args.frames in
     let tables = c.args.tables.now in
     let i = c.loop-index.index in
-    let from = c.loop-index-item.result in
+    let from = c.index-tables-index.result in
     let so_far = c.loop-index.invariant in
     let here = subst (λ (h : List ℕ → Option (List ℕ)). Answers {X = Program} (λ x. x) (ProgramReads h manifest frames (i + 1) (view from))
     (Err c.in_err-program.field-0.0))
@@ -55,7 +55,7 @@ returns-in_err-program-clause-read g c =
     hands_on (λ (x : Program). x) (λ (v : Vec Program Global). v.items) (ProgramReads (held first) manifest frames (i + 1) (view from))
     (ProgramsRead (held first) manifest frames (items_view tables)) c.in_err-program.field-0.0 c.from_residual.result
     (λ fault wrong. so_far.read (Err fault) (ends_wrong (Listing (ProgramReads (held first) manifest frames)) tables i from
-    c.loop-index.programs.items fault c.loop-index-test.true c.loop-index-item.is (Err fault, wrong, refl)))
+    c.loop-index.programs.items fault c.loop-index-test.true c.index-tables-index.is (Err fault, wrong, refl)))
     here c.from_residual.ensures.1
 
 pub returns-clause-read : goal.returns-clause-read

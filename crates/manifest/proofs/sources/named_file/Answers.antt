@@ -15,7 +15,7 @@ returns-then-is_empty-clause-read g c =
     let bytes = c.in-Ok-Some.bytes.items in
     key_wrong (λ (v : Vec ℕ Global). v.items) (IsFile part key told) c.fault.result c.from.result
     (is_wrong_file part key told bytes c.fault.result NoFile whole.0
-    (file_empty part key bytes whole.1 (sym c.is_empty.ensures ∙ c.if-is_empty.true)) c.fault.ensures)
+    (file_empty part key bytes whole.1 (rw c.as_slice.ensures.value at (sym c.is_empty.ensures ∙ c.if-is_empty.true))) c.fault.ensures)
     c.from.ensures
 
 pub returns-else-is_empty-clause-read : goal.returns-else-is_empty-clause-read
@@ -24,7 +24,7 @@ returns-else-is_empty-clause-read g c =
     let part = c.args.place.part in
     let bytes = c.in-Ok-Some.bytes.items in
     is_file part c.args.key (g.S.Shelf.held c.args.shelf.now c.args.path.now) bytes whole.0
-    (file_whole part c.args.key bytes whole.1 (sym c.is_empty.ensures ∙ c.if-is_empty.false))
+    (file_whole part c.args.key bytes whole.1 (rw c.as_slice.ensures.value at (sym c.is_empty.ensures ∙ c.if-is_empty.false)))
 
 pub returns-in-Ok-None-clause-read : goal.returns-in-Ok-None-clause-read
 returns-in-Ok-None-clause-read g c =
