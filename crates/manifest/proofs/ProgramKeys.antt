@@ -1,5 +1,6 @@
 -- A program by the keys of its table.
-use Rattle.std.proofs.Common.{◌≡◌, ℕ, List, length, Result, Ok, Err, refl}
+use Rattle.std.proofs.Common.{◌≡◌, ◌*◌, ◌-◌, ◌++◌, ℕ, List, length, replicate, Result, Ok, Err, refl}
+use Rattle.cloak_model.specs.declared.image.Program.{Program}
 use Rattle.cloak_base.specs.declared.names.Start.{Start}
 use Rattle.toml.specs.Data.{Data}
 use Rattle.manifest.specs.declared.key.Part.{Part}
@@ -31,3 +32,15 @@ pub wrong_key : (at : Part) (table : Data) (frames : ℕ) (bytes : List ℕ) (e 
     Err e ≡ program_at at table frames bytes
 unfolding program_at
 wrong_key at table frames bytes e pages frame start h1 h2 h3 h = rw (← h1, ← h2, ← h3, ← h) refl
+
+pub whole_program : (at : Part) (table : Data) (frames : ℕ) (bytes : List ℕ) (pages frame : ℕ) (start : Start) (key : ℕ) →
+    Ok pages ≡ pages_at at table (length bytes) → Ok frame ≡ frame_at at table frames pages →
+    Ok start ≡ start_at at table pages → Ok key ≡ number_or_at at table KeyNumber 0 3 0 →
+    Ok (record {
+      place = frame;
+      start = start;
+      key = key;
+      bytes = bytes ++ replicate (4096 * pages - length bytes) 0;
+    }) ≡ program_at at table frames bytes
+unfolding program_at
+whole_program at table frames bytes pages frame start key h1 h2 h3 h4 = rw (← h1, ← h2, ← h3, ← h4) refl

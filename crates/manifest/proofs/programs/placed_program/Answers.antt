@@ -4,7 +4,7 @@ use Rattle.toml.specs.View.{view}
 use Rattle.manifest.specs.declared.fault.KeyFault.{KeyFault}
 use Rattle.manifest.specs.Faults.{Fault, by_keys}
 use Rattle.manifest.specs.Parts.{pages_at, program_at}
-use Rattle.manifest.proofs.ProgramKeys.{wrong_pages, wrong_frame, wrong_start, wrong_key}
+use Rattle.manifest.proofs.ProgramKeys.{wrong_pages, wrong_frame, wrong_start, wrong_key, whole_program}
 use Rattle.manifest.proofs.Steps.{key_fails}
 use Rattle.manifest.proofs.programs.placed_program.Goals as goal
 
@@ -53,7 +53,8 @@ returns-in_err-key-clause-read c =
     c.from_residual-in_err-key.ensures.1
 
 pub returns-clause-read : goal.returns-clause-read
-unfolding program_at
 returns-clause-read c =
-    let pages = rw c.as_slice.ensures.value at c.in_ok-pages.ensures.read in
-    rw (← pages, ← c.in_ok-frame.ensures.read, ← c.in_ok-start.ensures.read, ← c.in_ok-key.ensures.read, c.new.ensures) ?
+    rw (c.new.ensures, c.in_ok-padded.ensures.padded)
+    (ap by_keys (whole_program c.args.place.part (view c.args.place.table.now) c.args.frames c.args.bytes.items c.in_ok-pages.pages
+    c.in_ok-frame.frame c.in_ok-start.start c.in_ok-key.key (rw c.as_slice.ensures.value at c.in_ok-pages.ensures.read)
+    c.in_ok-frame.ensures.read c.in_ok-start.ensures.read c.in_ok-key.ensures.read))
