@@ -14,6 +14,7 @@ use Rattle.kernel_isolation.proofs.Isolated.{kernel_ends_alone}
 use Rattle.domain_isolation.proofs.Isolated.{domain_ends_alone}
 use Rattle.latest_store.proofs.Histories.{runs_give_latest}
 use Rattle.latest_store.proofs.Sums.{runs_add_up}
+use Rattle.load_law.proofs.Runs.{due_loads_end}
 use Rattle.reservation_law.proofs.Runs.{conditionals_store_reserved}
 use Rattle.context_law.proofs.Runs.{contexts_store_reserved}
 use Rattle.page_law.proofs.Ciphers.{ciphers_show_pages, pages_keep_their_keys}
@@ -83,6 +84,7 @@ is_lawful b from budget r grammar bytes all few runs =
     record {
       reads_back = reads_back b from budget r grammar bytes all few runs;
       latest = runs_give_latest b from budget r grammar begins runs;
+      loads = due_loads_end b from budget r grammar begins runs;
       sums = runs_add_up b from budget r grammar runs;
       conditionals = conditionals_store_reserved b from budget r runs;
       inside = contexts_store_reserved b from budget r grammar begins runs;

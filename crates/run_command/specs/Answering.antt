@@ -9,6 +9,7 @@ use Rattle.cloak_model.specs.Run.{Run, joint_run}
 use Rattle.cause_law.specs.Closing.{closed_memory}
 use Rattle.latest_store.specs.LatestStore.{GivesLatest}
 use Rattle.latest_store.specs.Sums.{AddsUp}
+use Rattle.load_law.specs.Outcomes.{EndsDueLoads}
 use Rattle.reservation_law.specs.Reservations.{StoresOnlyReserved}
 use Rattle.context_law.specs.Inside.{StoresOnlyReservedInside}
 use Rattle.page_law.specs.Ciphers.{HaveOwnDraws, ShowsPages}
@@ -36,14 +37,16 @@ pub record AsksRun (asked : spec.Asked) (held : List ℕ → Option (List ℕ)) 
 -- The run.
 
 -- What is true of a run, however it begins and whatever its kernel does: its record reads back; its programs' loads
--- give what was stored last; additions to a word of a program by atomic instructions add up; SC stores only a word
--- that was not written since its LR; the kernel is shown pages as ciphertexts alone, each under its program's key and
--- a draw of its own, and at no moment is a page to be sealed under another key; a domain ended only if the kernel's
--- side presented something other than what is recorded, and all that it presented in this way was refused; and as the
--- run was closed, no frame was owed a page any more.
+-- return what was stored last; a load that is due is completed, or faults to the kernel, or ends its domain, or stops
+-- the run; additions to a word of a program by atomic instructions add up; SC stores only a word that was not written
+-- since its LR; the kernel is shown pages as ciphertexts alone, each under its program's key and a draw of its own, and
+-- at no moment is a page to be sealed under another key; a domain ended only if the kernel's side presented something
+-- other than what is recorded, and all that it presented in this way was refused; and as the run was closed, no frame
+-- was owed a page any more.
 pub record IsLawful (b : Bundle) (from : Beginning) (r : Run) : Type 0 where
   pub reads_back : ReadsBack b from r
   pub latest : GivesLatest b from r
+  pub loads : EndsDueLoads b from r
   pub sums : AddsUp b from r
   pub conditionals : StoresOnlyReserved b r
   pub inside : StoresOnlyReservedInside b from r
