@@ -67,7 +67,7 @@ kernel_opens {E} gave e k machine told reader stands front = record {
 }
 
 -- one more item
-taken_more : (turns : List ℕ) (s : model.KernelAlone) (items : List Item) (i : Item) →
+pub taken_more : (turns : List ℕ) (s : model.KernelAlone) (items : List Item) (i : Item) →
     kernel_taken turns s (items ++ i ∷ []) ≡ take_kernel_item turns (kernel_taken turns s items) i
 unfolding kernel_taken started_kernel
 taken_more turns s [] i = refl
@@ -121,7 +121,7 @@ kernel_takes_next {E} {gave} {e} {f} {h} {k} {old} {new} {told} {was} {now} give
     }
 
 -- if it fits, reading goes on
-answer_fits : (u : Option ℕ) → Ok tt ≡ answer_for u → u ≡ None
+pub answer_fits : (u : Option ℕ) → Ok tt ≡ answer_for u → u ≡ None
 answer_fits None is = refl
 answer_fits (Some step) is = absurd (let clash : Ok tt ≡ Err (record { step = step }) = is in cc)
 
@@ -138,7 +138,7 @@ kernel_goes_on {E} {gave} {e} {e'} {k} {machine} {told} {reader} given took ok =
 }
 
 -- if it does not, reading ends there
-answer_unfits : (u : Option ℕ) (f : Unfit) → Err f ≡ answer_for u → u ≡ Some f.step
+pub answer_unfits : (u : Option ℕ) (f : Unfit) → Err f ≡ answer_for u → u ≡ Some f.step
 answer_unfits None f is = absurd (let clash : Err f ≡ Ok tt = is in cc)
 answer_unfits (Some step) f is = ap (λ (s : ℕ). Some s) (sym (ap (λ (r : Result Unit Unfit). step_told r) is))
   where

@@ -48,7 +48,7 @@ program_opens d k p machine told reader stands front = record {
 }
 
 -- one more item
-taken_more : (d : ℕ) (turns : List ℕ) (s : model.DomainAlone) (items : List Item) (i : Item) →
+pub taken_more : (d : ℕ) (turns : List ℕ) (s : model.DomainAlone) (items : List Item) (i : Item) →
     domain_taken d turns s (items ++ i ∷ []) ≡ take_domain_item d turns (domain_taken d turns s items) i
 unfolding domain_taken
 taken_more d turns s [] i = refl
@@ -88,7 +88,7 @@ program_takes_next {d} {k} {p} {old} {new} {told} {was} {now} given i reads take
           let few = reads.few in omega (arith, long, one, few, moved);
     }
 
-answer_fits : (u : Option ℕ) → Ok tt ≡ answer_by u → u ≡ None
+pub answer_fits : (u : Option ℕ) → Ok tt ≡ answer_by u → u ≡ None
 answer_fits None is = refl
 answer_fits (Some step) is = absurd (let clash : Ok tt ≡ Err (record { step = step }) = is in cc)
 
@@ -105,7 +105,7 @@ program_goes_on {d} {k} {p} {machine} {told} {reader} given took ok = record {
 }
 
 -- if it does not, reading ends there
-answer_unfits : (u : Option ℕ) (f : Unfit) → Err f ≡ answer_by u → u ≡ Some f.step
+pub answer_unfits : (u : Option ℕ) (f : Unfit) → Err f ≡ answer_by u → u ≡ Some f.step
 answer_unfits None f is = absurd (let clash : Err f ≡ Ok tt = is in cc)
 answer_unfits (Some step) f is = ap (λ (s : ℕ). Some s) (sym (ap (λ (r : Result Unit Unfit). step_told r) is))
   where

@@ -1,9 +1,16 @@
 //! The command `explain`.
-ghost use Rattle.std.specs.Prelude.{◌≡◌, ℕ, List, Option, IfErr};
+ghost use Rattle.std.specs.Prelude.{◌≡◌, ◌++◌, [], ◌∷◌, List, IfSome};
 ghost use Rattle.io_traits.specs.Told.{SameFiles};
 ghost use Rattle.command_parts.specs.Outside.{outside, output};
 ghost use Rattle.cloak_model.specs.Bundle.{IsInGrammar};
-ghost use Rattle.run_story.specs.Answering.{ExplainAnswers, LacksItem, ReadingEnds, ShowsStory, ShowsUntold, TellsDeeds, TellsStory};
+ghost use Rattle.cloak_model.specs.Record.{IsItem};
+ghost use Rattle.cloak_model.specs.declared.image.Bundle.{Bundle};
+ghost use Rattle.cloak_model.specs.declared.item.Item.{Item};
+ghost use Rattle.read_back.specs.Reading.{BeginsWith};
+ghost use Rattle.record_reader.specs.Ahead.{readable};
+ghost use Rattle.run_story.specs.Answering.{ExplainAnswers, ShowsStory, ShowsUntold, TellsDeeds, TellsItem, TellsStory};
+ghost use Rattle.run_story.specs.Summary.{story_text};
+ghost use Rattle.run_story.specs.Watching.{DeedsTake, KeepsStory, Tells, Watches};
 
 use crate::deeds::Deeds;
 use crate::presented::Presented;
@@ -21,7 +28,8 @@ use std::alloc::Global;
 
 /// Takes an item, and notes what it shows of a page and what the kernel's step did that it ends.
 fn note_item(deeds: &mut Deeds, watch: &mut Watch, item: &Item) -> Result<(), Untold>
-    ensures { IfErr result LacksItem }
+    ensures { (b : Bundle) (items : List Item) → IsItem item.now → Watches b items watch.old →
+        DeedsTake b items item.now watch.new result }
 {
     let before = match item {
         Item::Step { .. } => deeds.before(watch),
@@ -42,17 +50,6 @@ fn note_item(deeds: &mut Deeds, watch: &mut Watch, item: &Item) -> Result<(), Un
     }
 }
 
-/// What was gathered, if there is no item more.
-fn ended<A: Drop>(gathered: A, ending: Ending) -> Result<A, Untold>
-    ensures { (told : Option (List ℕ)) (before now : ℕ) → ReadingEnds told before now ending →
-        TellsStory told before now result }
-{
-    match ending {
-        Ending::Whole => Ok(gathered),
-        ending => Err(Untold::Ended(ending)),
-    }
-}
-
 /// The item is the question that was stopped by this page.
 fn is_stopped(watch: &Watch, presented: &Presented, item: &Item) -> bool {
     matches!(item, Item::Stopped { .. }) && watch.step() == presented.step
@@ -67,7 +64,7 @@ fn deeds_of<S: Shelf>(
     shelf: &mut S,
 ) -> Result<Deeds, Untold>
     requires { S.is_settled shelf.old }
-    ensures tells { TellsDeeds (S.held shelf.old name.now)
+    ensures tells { (b : Bundle) → Watches b [] watch.old → TellsDeeds b (S.held shelf.old name.now)
         (S.reading_faults shelf.old) (S.reading_faults shelf.new) result }
     ensures files { SameFiles (S.held shelf.old) (S.held shelf.new) }
     ensures writing { S.writing_faults shelf.new ≡ S.writing_faults shelf.old }
@@ -79,7 +76,8 @@ fn deeds_of<S: Shelf>(
     loop {
         let item = match next_item(&mut reader, shelf, &mut kept) {
             Ok(tag) => kept.item(tag),
-            Err(ending) => return ended(deeds, ending),
+            Err(Ending::Whole) => return Ok(deeds),
+            Err(ending) => return Err(Untold::Ended(ending)),
         };
         if is_stopped(watch, presented, item) {
             return Ok(deeds);
@@ -101,8 +99,9 @@ fn tell_page<S: Shelf>(
 ) -> Result<(), Untold>
     requires settled { S.is_settled shelf.old }
     requires bundle { IsInGrammar bundle.now }
-    ensures tells { TellsDeeds (S.held shelf.old name.now)
+    ensures tells { TellsDeeds bundle.now (S.held shelf.old name.now)
         (S.reading_faults shelf.old) (S.reading_faults shelf.new) result }
+    ensures same { KeepsStory story.old story.new }
     ensures files { SameFiles (S.held shelf.old) (S.held shelf.new) }
     ensures writing { S.writing_faults shelf.new ≡ S.writing_faults shelf.old }
     ensures settled { S.is_settled shelf.new }
@@ -127,8 +126,10 @@ fn tell_item<S: Shelf>(
 ) -> Result<(), Untold>
     requires settled { S.is_settled shelf.old }
     requires bundle { IsInGrammar bundle.now }
-    ensures tells { TellsDeeds (S.held shelf.old name.now)
-        (S.reading_faults shelf.old) (S.reading_faults shelf.new) result }
+    ensures tells { (items : List Item) → IsItem item.now → Tells bundle.now items story.old →
+        IfSome (S.held shelf.old name.now) (λ bytes. BeginsWith (readable bytes) (items ++ item.now ∷ [])) →
+        TellsItem bundle.now (S.held shelf.old name.now) (items ++ item.now ∷ [])
+        (S.reading_faults shelf.old) (S.reading_faults shelf.new) story.new result }
     ensures files { SameFiles (S.held shelf.old) (S.held shelf.new) }
     ensures writing { S.writing_faults shelf.new ≡ S.writing_faults shelf.old }
     ensures settled { S.is_settled shelf.new }
@@ -149,7 +150,7 @@ fn tell<S: Shelf>(
 ) -> Result<Story, Untold>
     requires settled { S.is_settled shelf.old }
     requires bundle { IsInGrammar bundle.now }
-    ensures tells { TellsStory (S.held shelf.old name.now)
+    ensures tells { TellsStory bundle.now (S.held shelf.old name.now)
         (S.reading_faults shelf.old) (S.reading_faults shelf.new) result }
     ensures files { SameFiles (S.held shelf.old) (S.held shelf.new) }
     ensures writing { S.writing_faults shelf.new ≡ S.writing_faults shelf.old }
@@ -162,7 +163,8 @@ fn tell<S: Shelf>(
     loop {
         let item = match next_item(&mut reader, shelf, &mut kept) {
             Ok(tag) => kept.item(tag),
-            Err(ending) => return ended(story, ending),
+            Err(Ending::Whole) => return Ok(story),
+            Err(ending) => return Err(Untold::Ended(ending)),
         };
         match tell_item(alloc, bundle, &mut story, item, name, shelf) {
             Ok(()) => {}
@@ -173,7 +175,7 @@ fn tell<S: Shelf>(
 
 /// Shows a story.
 fn show_story<O: Sink>(alloc: Global, story: &Story, out: &mut O) -> Status
-    ensures { ShowsStory (O.faults out.old) (O.faults out.new) result }
+    ensures { ShowsStory (story_text story.now) (output O.Sink out.old) (output O.Sink out.new) result }
 {
     let Ok(text) = format!(in alloc; "{story}") else {
         return refuse(out, &Refusal::NoMemory);

@@ -13,6 +13,7 @@ mod command;
 mod contexts;
 mod deeds;
 mod frames;
+mod machines;
 mod pages;
 mod presented;
 mod silent;

@@ -1,7 +1,14 @@
 //! The story of a run, as far as its items were taken.
-ghost use Rattle.std.specs.Prelude.{IfErr};
+ghost use Rattle.std.specs.Prelude.{◌≡◌, ◌≤◌, ◌++◌, [], ◌∷◌, List, Some, IfOk, is_some, slice_set, take};
+ghost use Rattle.std.specs.List.{count_by};
 ghost use Rattle.cloak_model.specs.Bundle.{IsInGrammar};
-ghost use Rattle.run_story.specs.Answering.{LacksItem};
+ghost use Rattle.cloak_model.specs.Record.{IsItem};
+ghost use Rattle.cloak_model.specs.declared.image.Bundle.{Bundle};
+ghost use Rattle.cloak_model.specs.declared.item.Item.{Item};
+ghost use Rattle.std.specs.Fmt.{DisplaysOnOk};
+ghost use Rattle.run_story.specs.Summary.{no_violation, story_text, summary, violations};
+ghost use Rattle.run_story.specs.Alone.{ended_after};
+ghost use Rattle.run_story.specs.Watching.{KeepsStory, NotesItem, StepTold, StoryTakes, Tells, TellsOn};
 
 use crate::presented::{Asking, Presented, Target, context_met, question_target, resume_target};
 use crate::telling::Passage;
@@ -28,15 +35,38 @@ pub struct Story {
 
 /// An item does not fit at this step.
 fn unfit(step: u32) -> Untold
-    ensures { LacksItem result }
+    ensures { result ≡ Untold.Ended (Ending.Unfit step) }
 {
     Untold::Ended(Ending::Unfit(step))
+}
+
+/// Notes that a program ended in a step.
+fn set_ended(ended: &mut [Option<u32>; 4], domain: usize, step: u32)
+    ensures { ended.new ≡ slice_set ended.old domain (Some step) }
+{
+    if domain < ended.len() {
+        ended[domain] = Some(step);
+    }
+}
+
+/// How many programs ended.
+fn programs_ended(ended: &[Option<u32>; 4]) -> usize
+    ensures { result ≡ count_by is_some ended.now }
+{
+    let mut count = 0;
+    for number in 0..4 {
+        if ended[number].is_some() {
+            count += 1;
+        }
+    }
+    count
 }
 
 impl Story {
     /// The story of the run of a bundle before its first item.
     pub fn open(alloc: Global, bundle: &Bundle) -> Result<Story, NoMemory>
         requires { IsInGrammar bundle.now }
+        ensures { IfOk result (Tells bundle.now []) }
     {
         Ok(Story {
             watch: Watch::open(alloc, bundle)?,
@@ -49,7 +79,8 @@ impl Story {
 
     /// Tells more.
     pub fn tell(&mut self, passage: &Passage) -> Result<(), Untold>
-        ensures { IfErr result LacksItem }
+        ensures told { TellsOn result }
+        ensures same { KeepsStory self.old self.new }
     {
         match write!(self.text, "{passage}") {
             Ok(()) => Ok(()),
@@ -64,7 +95,8 @@ impl Story {
 
     /// A resume found no program. It was refused, if there is none or it ended before.
     fn tell_refused(&mut self, step: u32, hart: u32, ctx: u32) -> Result<(), Untold>
-        ensures { IfErr result LacksItem }
+        ensures told { StepTold step result }
+        ensures same { KeepsStory self.old self.new }
     {
         let ended = self.ended_at(ctx / 8);
         if ended.is_none() && self.watch.has_program(ctx / 8) {
@@ -81,7 +113,8 @@ impl Story {
 
     /// A step ended, in which a hart may have asked for a context that it did not get.
     fn note_made(&mut self, step: u32, hart: u32) -> Result<(), Untold>
-        ensures { IfErr result LacksItem }
+        ensures told { StepTold step result }
+        ensures same { KeepsStory self.old self.new }
     {
         let target = self.target;
         self.target = Target::Nothing;
@@ -100,11 +133,11 @@ impl Story {
 
     /// A program ended. If it was by a resume, that is told as the step ends: then the kernel alone has asked for the context.
     fn note_ended(&mut self, step: u32, domain: u32) -> Result<Option<Presented>, Untold>
-        ensures { IfErr result LacksItem }
+        ensures told { StepTold step result }
+        ensures watch { self.new.watch ≡ self.old.watch }
+        ensures ended { self.new.ended ≡ slice_set self.old.ended domain (Some step) }
     {
-        if let Some(ended) = self.ended.get_mut(domain as usize) {
-            *ended = Some(step);
-        }
+        set_ended(&mut self.ended, domain as usize, step);
         match self.target {
             Target::Nothing => Err(unfit(step)),
             Target::Context(_, _) => Ok(None),
@@ -117,7 +150,9 @@ impl Story {
     }
 
     /// Notes what is presented as a program is about to end in a step of a hart outside.
-    fn note_ending(&mut self, domain: u32) {
+    fn note_ending(&mut self, domain: u32)
+        ensures { KeepsStory self.old self.new }
+    {
         match context_met(&self.watch) {
             Some(ctx) if ctx / 8 == domain => {}
             _ => {
@@ -130,18 +165,12 @@ impl Story {
         }
     }
 
-    /// Takes the next item, and tells the violation that it ends with. A page that was presented is returned: it is told with
-    /// what was done to it before.
-    pub fn take(&mut self, item: &Item) -> Result<Option<Presented>, Untold>
-        ensures { IfErr result LacksItem }
+    /// Notes an item that the watch took in this step, on this hart.
+    fn note(&mut self, item: &Item, step: u32, hart: u32) -> Result<Option<Presented>, Untold>
+        ensures told { NotesItem step item.now result }
+        ensures watch { self.new.watch ≡ self.old.watch }
+        ensures ended { self.new.ended ≡ ended_after (record { step = step; ended = self.old.ended }) item.now }
     {
-        let (step, hart) = (self.watch.step(), self.watch.turn());
-        if let Item::Ended { domain } = item {
-            self.note_ending(u32::from(*domain));
-        }
-        if let Err(at) = self.watch.take(item) {
-            return Err(unfit(at.step));
-        }
         match item {
             Item::Stopped { domain } => self.target = question_target(&self.watch, *domain),
             Item::Ended { domain } => return self.note_ended(step, u32::from(*domain)),
@@ -154,24 +183,68 @@ impl Story {
         }
         Ok(None)
     }
+
+    /// Takes the next item, and tells the violation that it ends with. A page that was presented is returned: it is told with
+    /// what was done to it before.
+    pub fn take(&mut self, item: &Item) -> Result<Option<Presented>, Untold>
+        ensures { (b : Bundle) (items : List Item) → IsItem item.now → Tells b items self.old →
+            StoryTakes b items item.now self.new result }
+    {
+        let (step, hart) = (self.watch.step(), self.watch.turn());
+        if let Item::Ended { domain } = item {
+            self.note_ending(u32::from(*domain));
+        }
+        if let Err(at) = self.watch.take(item) {
+            return Err(unfit(at.step));
+        }
+        self.note(item, step, hart)
+    }
+}
+
+/// The last sentence of a story without a violation.
+fn write_none<W: fmt::Write>(steps: u32, f: &mut fmt::Formatter<W>) -> fmt::Result
+    ensures { DisplaysOnOk W.write_str_gives f.old result (Some (no_violation steps)) f.new }
+{
+    write!(f, "There was no violation: the run has {steps} steps, ")?;
+    f.write_str("and ended by a halt, by its number of steps, or for want of randomness.\n")
+}
+
+/// The last sentence of a story with violations.
+fn write_some<W: fmt::Write>(
+    steps: u32,
+    ended: usize,
+    refused: u32,
+    f: &mut fmt::Formatter<W>,
+) -> fmt::Result
+    ensures { DisplaysOnOk W.write_str_gives f.old result (Some (violations steps ended refused)) f.new }
+{
+    write!(f, "The run has {steps} steps; programs that ended: {ended}; ")?;
+    write!(f, "resumes that were refused: {refused}.\n")
+}
+
+/// The last sentence of a story.
+fn write_summary<W: fmt::Write>(
+    steps: u32,
+    ended: usize,
+    refused: u32,
+    f: &mut fmt::Formatter<W>,
+) -> fmt::Result
+    ensures { DisplaysOnOk W.write_str_gives f.old result (Some (summary steps ended refused)) f.new }
+{
+    if ended != 0 {
+        return write_some(steps, ended, refused, f);
+    }
+    if refused != 0 {
+        return write_some(steps, ended, refused, f);
+    }
+    write_none(steps, f)
 }
 
 impl fmt::Display for Story {
+    ghost output = { λ s. Some (story_text s) };
+
     fn fmt<W: fmt::Write>(&self, f: &mut fmt::Formatter<W>) -> fmt::Result {
-        let steps = self.watch.step();
-        let ended = self.ended.iter().filter(|ended| ended.is_some()).count();
-        let refused = self.refused;
         f.write_str(&self.text)?;
-        if ended == 0 && refused == 0 {
-            write!(f, "There was no violation: the run has {steps} steps, ")?;
-            return f.write_str(
-                "and ended by a halt, by its number of steps, or for want of randomness.\n",
-            );
-        }
-        write!(
-            f,
-            "The run has {steps} steps; programs that ended: {ended}; "
-        )?;
-        write!(f, "resumes that were refused: {refused}.\n")
+        write_summary(self.watch.step(), programs_ended(&self.ended), self.refused, f)
     }
 }

@@ -1,11 +1,17 @@
 //! A run as it is made again from the items of its record: the kernel, the programs, and which page each frame shows.
+ghost use Rattle.std.specs.Prelude.{◌≡◌, ◌++◌, [], ◌∷◌, List, IfOk};
 ghost use Rattle.cloak_model.specs.Bundle.{IsInGrammar};
+ghost use Rattle.cloak_model.specs.Record.{IsItem};
+ghost use Rattle.cloak_model.specs.declared.image.Bundle.{Bundle};
+ghost use Rattle.cloak_model.specs.declared.item.Item.{Item};
+ghost use Rattle.run_story.specs.Alone.{step_after};
+ghost use Rattle.run_story.specs.Watching.{KeepsRun, WatchTakes, Watches};
 
 use crate::contexts::{Contexts, FirstTable, Told};
 use crate::frames::{Tables, frame_at, tables_of};
 use crate::pages::{Pages, Showing};
-use crate::silent::Silent;
-use alone_views::{AskedAccess, DomainAlone, KernelAlone, Unfit};
+use crate::machines::Machines;
+use alone_views::{AskedAccess, Unfit};
 use cloak_base::{HartId, Kind, Mode, NoMemory, PageId, Shown};
 use cloak_model::{Bundle, Item};
 use host_calls::Hart;
@@ -15,8 +21,7 @@ use std::alloc::Global;
 /// A run as far as its items were taken.
 #[derive(Drop)]
 pub struct Watch {
-    kernel: KernelAlone,
-    programs: Vec<DomainAlone>,
+    machines: Machines,
     schedule: Vec<u8>,
     pages: Pages,
     contexts: Contexts,
@@ -30,19 +35,6 @@ pub struct Watch {
     asked: Option<u32>,
 }
 
-/// The programs of a bundle, each alone.
-fn open_programs(alloc: Global, bundle: &Bundle) -> Result<Vec<DomainAlone>, NoMemory>
-    requires { IsInGrammar bundle.now }
-{
-    let programs = bundle.programs.as_slice();
-    let mut opened = Vec::new(alloc);
-    for number in 0..programs.len().min(4) {
-        let program = DomainAlone::open(alloc, &bundle.kernel, number as u32, &programs[number])?;
-        opened.push(program)?;
-    }
-    Ok(opened)
-}
-
 /// Every byte is zero.
 fn is_wiped(bytes: &[u8; 4096]) -> bool {
     bytes.iter().all(|byte| *byte == 0)
@@ -52,10 +44,10 @@ impl Watch {
     /// The run of a bundle before its first item.
     pub fn open(alloc: Global, bundle: &Bundle) -> Result<Watch, NoMemory>
         requires { IsInGrammar bundle.now }
+        ensures { IfOk result (Watches bundle.now []) }
     {
         Ok(Watch {
-            kernel: KernelAlone::open(alloc, &bundle.kernel)?,
-            programs: open_programs(alloc, bundle)?,
+            machines: Machines::open(alloc, bundle)?,
             schedule: Vec::from_slice(alloc, bundle.kernel.schedule.as_slice())?,
             pages: Pages::open(alloc, bundle.kernel.frames, bundle.programs.as_slice())?,
             contexts: Contexts::new(),
@@ -67,7 +59,9 @@ impl Watch {
     }
 
     /// The number of the last step, 0 before the first.
-    pub fn step(&self) -> u32 {
+    pub fn step(&self) -> u32
+        ensures { result ≡ self.now.step }
+    {
         self.step
     }
 
@@ -82,7 +76,7 @@ impl Watch {
 
     /// The hart of a number.
     pub fn hart_at(&self, number: u32) -> Option<&Hart> {
-        self.kernel.harts().get(number as usize)
+        self.machines.kernel.harts().get(number as usize)
     }
 
     /// The hart whose turn the step is.
@@ -102,7 +96,7 @@ impl Watch {
 
     /// The frames as the kernel sees them.
     pub fn frames(&self) -> &[[u8; 4096]] {
-        self.kernel.frames()
+        self.machines.kernel.frames()
     }
 
     /// The frame that an address of a program leads to.
@@ -122,7 +116,7 @@ impl Watch {
 
     /// There is a program of this number.
     pub fn has_program(&self, domain: u32) -> bool {
-        (domain as usize) < self.programs.len()
+        (domain as usize) < self.machines.programs.len()
     }
 
     /// What the record tells of a context.
@@ -138,13 +132,13 @@ impl Watch {
     /// The space of a context, counted so, and the hart on which it runs, if there is such a context.
     pub fn context(&self, ctx: u32) -> Option<(u32, Option<HartId>)> {
         let domain = ctx / 8;
-        let (space, on) = self.programs.get(domain as usize)?.context(ctx % 8)?;
+        let (space, on) = self.machines.programs.get(domain as usize)?.context(ctx % 8)?;
         Some((domain * 8 + space % 8, on))
     }
 
     /// The question that the last answer in this step, which a program got, is for.
     pub fn last_asked(&self, domain: u8) -> AskedAccess {
-        let Some(program) = self.programs.get(domain as usize) else {
+        let Some(program) = self.machines.programs.get(domain as usize) else {
             return AskedAccess::Nothing;
         };
         let [first, second] = program.asked();
@@ -156,7 +150,9 @@ impl Watch {
     }
 
     /// A frame is shown. Returns the page to which the bytes belong.
-    fn note_cipher(&mut self, frame: u32, bytes: &[u8; 4096]) -> Option<Showing> {
+    fn note_cipher(&mut self, frame: u32, bytes: &[u8; 4096]) -> Option<Showing>
+        ensures { KeepsRun self.old self.new }
+    {
         if is_wiped(bytes) {
             self.pages.wipe(frame);
             return None;
@@ -180,14 +176,18 @@ impl Watch {
     }
 
     /// A program was granted its last question.
-    fn note_grant(&mut self, domain: u8) {
+    fn note_grant(&mut self, domain: u8)
+        ensures { KeepsRun self.old self.new }
+    {
         if let Some((page, frame)) = self.presented(domain) {
             self.pages.reach(page, frame);
         }
     }
 
     /// A context was resumed.
-    fn note_resume(&mut self, ctx: u32) {
+    fn note_resume(&mut self, ctx: u32)
+        ensures { KeepsRun self.old self.new }
+    {
         self.has_resumed = true;
         self.contexts.resume(ctx, self.step);
         let (Some((space, _)), Some(tables)) = (self.context(ctx), self.tables()) else {
@@ -210,7 +210,9 @@ impl Watch {
     }
 
     /// A context left. If it ended, a space may have ended with it.
-    fn note_leave(&mut self, shown: &Shown) {
+    fn note_leave(&mut self, shown: &Shown)
+        ensures { KeepsRun self.old self.new }
+    {
         if self.context(shown.ctx).is_some() {
             return;
         }
@@ -224,7 +226,9 @@ impl Watch {
     }
 
     /// A step ended. The kernel alone goes inside when it asks to, and a resume that was granted is in the record.
-    fn note_made(&mut self, was_inside: bool) {
+    fn note_made(&mut self, was_inside: bool)
+        ensures { KeepsRun self.old self.new }
+    {
         self.asked = if was_inside || self.has_resumed {
             None
         } else {
@@ -233,7 +237,9 @@ impl Watch {
     }
 
     /// What an item says, once the machines took it.
-    fn note(&mut self, item: &Item) {
+    fn note(&mut self, item: &Item)
+        ensures { KeepsRun self.old self.new }
+    {
         match item {
             Item::Ok { domain } => {
                 self.answers = self.answers.saturating_add(1);
@@ -248,36 +254,40 @@ impl Watch {
         }
     }
 
-    /// Gives an item to the kernel and to the programs.
-    fn give(&mut self, item: &Item) -> Result<(), Unfit> {
-        self.kernel.take(item, &mut Silent {})?;
-        for program in self.programs.iter_mut() {
-            program.take(item)?;
+    /// A step begins.
+    fn begin_step(&mut self, number: u32)
+        ensures machines { self.new.machines ≡ self.old.machines }
+        ensures step { self.new.step ≡ number }
+    {
+        self.step = number;
+        self.answers = 0;
+        self.has_resumed = false;
+    }
+
+    /// Notes an item that the machines took. Returns what it shows of a page, if it does.
+    fn note_taken(&mut self, item: &Item, was_inside: bool) -> Option<Showing>
+        ensures machines { self.new.machines ≡ self.old.machines }
+        ensures step { self.new.step ≡ step_after self.old.step item.now }
+    {
+        match item {
+            Item::Close { .. } => self.note_made(was_inside),
+            Item::Step { number } => {
+                self.note_made(was_inside);
+                self.begin_step(*number);
+            }
+            Item::Cipher { frame, bytes } => return self.note_cipher(*frame, bytes),
+            _ => self.note(item),
         }
-        Ok(())
+        None
     }
 
     /// Takes the next item. Returns what it shows of a page, if it does.
-    pub fn take(&mut self, item: &Item) -> Result<Option<Showing>, Unfit> {
+    pub fn take(&mut self, item: &Item) -> Result<Option<Showing>, Unfit>
+        ensures { (b : Bundle) (items : List Item) → IsItem item.now → Watches b items self.old →
+            WatchTakes b (items ++ item.now ∷ []) self.new result }
+    {
         let was_inside = self.inside().is_some();
-        self.give(item)?;
-        match item {
-            Item::Close { .. } => {
-                self.note_made(was_inside);
-                Ok(None)
-            }
-            Item::Step { number } => {
-                self.note_made(was_inside);
-                self.step = *number;
-                self.answers = 0;
-                self.has_resumed = false;
-                Ok(None)
-            }
-            Item::Cipher { frame, bytes } => Ok(self.note_cipher(*frame, bytes)),
-            _ => {
-                self.note(item);
-                Ok(None)
-            }
-        }
+        self.machines.take(item)?;
+        Ok(self.note_taken(item, was_inside))
     }
 }

@@ -1,0 +1,40 @@
+-- What the machines that run alone stand for after the items of a record.
+use Rattle.std.specs.Prelude.{ℕ, ◌≡◌, List, length, slice_get, slice_index_or, Option, Some, None, Result, Ok, Err}
+use Rattle.cloak_model.specs.declared.image.Bundle.{Bundle}
+use Rattle.cloak_model.specs.declared.image.Program.{Program}
+use Rattle.cloak_model.specs.declared.item.Item.{Item}
+use Rattle.cloak_model.specs.DomainAlone.{domain_alone}
+use Rattle.cloak_model.specs.KernelAlone.{kernel_alone}
+use Rattle.alone_views.specs.declared.domain.DomainAlone.{DomainAlone}
+use Rattle.alone_views.specs.declared.unfit.Unfit.{Unfit}
+use Rattle.alone_views.specs.DomainStanding.{StandsForDomain}
+use Rattle.alone_views.specs.KernelStanding.{StandsForKernel}
+use Rattle.run_story.specs.Alone.{FitsAlone, IsUnfitAlone, IsUnfitForProgram}
+use Rattle.run_story.specs.declared.machines.Machines.{Machines}
+
+-- A machine stands for a program alone after these items, which fit it.
+pub record ProgramStands (b : Bundle) (items : List Item) (d : ℕ) (p : Program) (machine : DomainAlone) : Type 0 where
+  pub stands : StandsForDomain d b.kernel.schedule machine (domain_alone d b.kernel.schedule p items)
+  pub fits : (domain_alone d b.kernel.schedule p items).unfit ≡ None
+
+-- There is a machine for each program of the image.
+pub record ProgramsStand (b : Bundle) (items : List Item) (machines : List DomainAlone) : Type 0 where
+  pub count : length machines ≡ length b.programs
+  pub each : (d : ℕ) (p : Program) (other : DomainAlone) → slice_get b.programs d ≡ Some p →
+      ProgramStands b items d p (slice_index_or machines d other)
+
+-- Each program took the last of these items, or one did not.
+abbrev pub ProgramsTake : Bundle → List Item → List DomainAlone → Result (Unit {0}) Unfit → Type 0
+ProgramsTake b items machines (Ok done) = ProgramsStand b items machines
+ProgramsTake b items machines (Err unfit) = IsUnfitForProgram b items unfit.step
+
+-- The kernel alone and each program alone took these items, which fit them.
+pub record StandAlone (b : Bundle) (items : List Item) (machines : Machines) : Type 0 where
+  pub kernel : StandsForKernel machines.kernel b.kernel.schedule (kernel_alone b.kernel items)
+  pub programs : ProgramsStand b items machines.programs.items
+  pub fits : FitsAlone b items
+
+-- Each machine took the last of these items, or one did not.
+abbrev pub TakeAlone : Bundle → List Item → Machines → Result (Unit {0}) Unfit → Type 0
+TakeAlone b items machines (Ok done) = StandAlone b items machines
+TakeAlone b items machines (Err unfit) = IsUnfitAlone b items unfit.step
