@@ -122,7 +122,7 @@ impl<'m, 'e, E: Emit> Side<'m, 'e, E> {
     ghost use Rattle.cloak_model.specs.World.{World, is_clashed, noted};
     ghost use Rattle.cloak_pager.specs.State.{held_in};
     ghost use Rattle.cloaked_side.specs.Holding.{frames_of};
-    ghost use Rattle.cloaked_side.specs.Leading.{place_in, found_to, IsFoundSo, IsPlaced, IsLedSo, IsEntryOf};
+    ghost use Rattle.cloaked_side.specs.Leading.{place_in, found_to, IsFoundSo, IsRightFound, IsLedSo, IsEntryOf};
     ghost use Rattle.cloaked_side.specs.Leading.{IsReachedSo, IsUnknownIfMissed, IsRegimeIn, LearnsWalk, asked_led};
     ghost use Rattle.cloaked_side.specs.Seeing.{Sees, SeesWalking, StaysWithin};
     ghost use Rattle.shadow_fold.specs.Fold.{entry_in, is_own_table};
@@ -137,9 +137,18 @@ impl<'m, 'e, E: Emit> Side<'m, 'e, E> {
         !self.memory.counting && !has_bit(satp_of(regime), 31)
     }
 
+    /// The same under this word of satp.
+    #[inline(always)]
+    pub(crate) fn is_bare_at(&self, satp: u32) -> bool
+        ensures bare { IsTrue result → has_paging satp ≡ false }
+        ensures uncounted { IsTrue result → self.now.memory.now.counting ≡ false }
+    {
+        !self.memory.counting && !has_bit(satp, 31)
+    }
+
     /// What is found for an access without paging, if accesses are not counted.
     #[inline(always)]
-    fn look_bare(&mut self, regime: &Regime, va: u32, kind: Kind) -> Found
+    pub(crate) fn look_bare(&mut self, regime: &Regime, va: u32, kind: Kind) -> Found
         requires bare { has_paging (satp_in regime.now) ≡ false }
         requires uncounted { self.old.memory.now.counting ≡ false }
         ensures found { (first : _) (w : World) (cloaked : Option AnyPage) → Sees E.gave first self.old w →
@@ -147,7 +156,7 @@ impl<'m, 'e, E: Emit> Side<'m, 'e, E> {
             IsFoundSo E.gave first self.new w regime.now va kind cloaked (found_to kind result) }
         ensures same { self.new ≡ self.old }
         ensures known { result ≢ Found.Missed }
-        ensures placed { IsPlaced result }
+        ensures placed { IsRightFound result }
         ensures inside { IfSome (found_to kind result) (λ to. IfOk to (λ led.
             IsTrue (is_in_frames (frames_of self.new.memory.now) led.pa))) }
         ensures offset { IfSome (found_to kind result) (λ to. IfOk to (λ led. led.pa % 4096 ≡ va % 4096)) }
@@ -169,7 +178,7 @@ impl<'m, 'e, E: Emit> Side<'m, 'e, E> {
             IsFoundSo E.gave first self.new w regime.now va kind cloaked (found_to kind result) }
         ensures unknown { result ≡ Found.Missed →
             is_known regime.now (va / 4096) kind self.new.memory.now.shadows ≡ false }
-        ensures placed { IsPlaced result }
+        ensures placed { IsRightFound result }
         ensures keeps { Keeps (StaysWithin E.gave) self.old self.new }
         ensures inside { IfSome (found_to kind result) (λ to. IfOk to (λ led.
             IsTrue (is_in_frames (frames_of self.new.memory.now) led.pa))) }
@@ -209,7 +218,7 @@ impl<'m, 'e, E: Emit> Side<'m, 'e, E> {
             IsFoundSo E.gave first self.new w regime.now va kind cloaked (found_to kind result) }
         ensures unknown { result ≡ Found.Missed →
             is_known regime.now (va / 4096) kind self.new.memory.now.shadows ≡ false }
-        ensures placed { IsPlaced result }
+        ensures placed { IsRightFound result }
         ensures keeps { Keeps (StaysWithin E.gave) self.old self.new }
         ensures inside { IfSome (found_to kind result) (λ to. IfOk to (λ led.
             IsTrue (is_in_frames (frames_of self.new.memory.now) led.pa))) }
@@ -256,10 +265,16 @@ impl<'m, 'e, E: Emit> Side<'m, 'e, E> {
 
     /// Where an access leads for which this was found, or the cause of its fault.
     #[inline(always)]
-    fn led_from(&mut self, regime: &Regime, va: u32, kind: Kind, found: Found) -> Result<Led, u32>
+    pub(crate) fn led_from(
+        &mut self,
+        regime: &Regime,
+        va: u32,
+        kind: Kind,
+        found: Found,
+    ) -> Result<Led, u32>
         requires unknown { found ≡ Found.Missed →
             is_known regime.now (va / 4096) kind self.old.memory.now.shadows ≡ false }
-        requires placed { IsPlaced found }
+        requires placed { IsRightFound found }
         requires inside { IfSome (found_to kind found) (λ to. IfOk to (λ led.
             IsTrue (is_in_frames (frames_of self.old.memory.now) led.pa))) }
         requires offset { IfSome (found_to kind found) (λ to. IfOk to (λ led. led.pa % 4096 ≡ va % 4096)) }

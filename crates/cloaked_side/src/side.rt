@@ -1,7 +1,7 @@
 ghost use Rattle.std.specs.Prelude.{◌≡◌, ◌<◌, ◌≤◌, ◌%◌, IsTrue, length, is_some};
 
 use crate::atomic::is_reserved;
-use crate::kept_items::KeptItems;
+use crate::kept_put::KeptPut;
 use crate::memory::Memory;
 use cloak_base::{Frame, SpaceId, Violation, frame_of, place_of};
 use cloak_model::{Access, Emit, InsideRegime, value_in};
@@ -16,7 +16,7 @@ pub struct Side<'m, 'e, E: Emit> {
     pub memory: &'m mut Memory,
     pub emitter: &'e mut E,
     /// What an answer is written as.
-    pub items: &'m mut KeptItems,
+    pub items: &'m mut KeptPut,
     /// What the kernel presented in place of what is recorded.
     pub violation: Option<Violation>,
     /// For the questions of a cloaked program.
@@ -102,6 +102,69 @@ impl<'m, 'e, E: Emit> Side<'m, 'e, E> {
     }
 }
 
+impl<'m, 'e, E: Emit> Side<'m, 'e, E> {
+    ghost use Rattle.cloak_model.specs.Ask.{ask_load};
+    ghost use Rattle.cloak_model.specs.Asking.{Follows, Keeps};
+    ghost use Rattle.cloak_model.specs.Effect.{IsWidth};
+    ghost use Rattle.cloak_model.specs.Walk.{has_paging};
+    ghost use Rattle.cloaked_side.specs.Holding.{frames_of};
+    ghost use Rattle.cloaked_side.specs.Seeing.{SeesOutside, StaysWithin};
+
+    /// The value where an access of a hart outside leads without paging, if accesses are not counted, or the cause of its
+    /// fault. It has a way of its own, so that nothing is made ready for a look.
+    #[inline(always)]
+    fn load_bare(&mut self, satp: u32, access: Access, width: u32) -> Result<u32, u32>
+        requires width { IsWidth width }
+        requires aligned { access.va % width ≡ 0 }
+        requires bare { has_paging satp ≡ false }
+        requires uncounted { self.old.memory.now.counting ≡ false }
+        ensures follows { Follows (λ first side w. SeesOutside E.gave first side w) self.old self.new result
+            (ask_load satp access width) }
+        ensures keeps { Keeps (StaysWithin E.gave) self.old self.new }
+        ensures same_count { frames_of self.new.memory.now ≡ frames_of self.old.memory.now }
+    {
+        let regime = Regime::Outside {
+            satp,
+            mode: access.mode,
+            sum: access.sum,
+            mxr: access.mxr,
+        };
+        let found = self.look_bare(&regime, access.va, access.kind);
+        match self.led_from(&regime, access.va, access.kind, found) {
+            Err(cause) => Err(cause),
+            Ok(led) => {
+                self.settle_led(&regime, access.va, access.kind, &led);
+                Ok(self.read_settled(led.pa, width))
+            }
+        }
+    }
+
+    /// The same of any access. Kept out of line, so that a fetch without paging stays short.
+    #[inline(never)]
+    fn load_looking(&mut self, satp: u32, access: Access, width: u32) -> Result<u32, u32>
+        requires width { IsWidth width }
+        requires aligned { access.va % width ≡ 0 }
+        ensures follows { Follows (λ first side w. SeesOutside E.gave first side w) self.old self.new result
+            (ask_load satp access width) }
+        ensures keeps { Keeps (StaysWithin E.gave) self.old self.new }
+        ensures same_count { frames_of self.new.memory.now ≡ frames_of self.old.memory.now }
+    {
+        let regime = Regime::Outside {
+            satp,
+            mode: access.mode,
+            sum: access.sum,
+            mxr: access.mxr,
+        };
+        match self.led(&regime, access.va, access.kind, None) {
+            Err(cause) => Err(cause),
+            Ok(led) => {
+                self.settle_led(&regime, access.va, access.kind, &led);
+                Ok(self.read_settled(led.pa, width))
+            }
+        }
+    }
+}
+
 impl<'m, 'e, E: Emit> WordMemory for Side<'m, 'e, E> {
     ghost use Rattle.cloaked_side.specs.Seeing.{SeesWalking, StaysWalking};
 
@@ -132,19 +195,10 @@ impl<'m, 'e, E: Emit> Ram for Side<'m, 'e, E> {
     ghost count = { λ side. frames_of side.memory.now };
 
     fn load(&mut self, satp: u32, access: Access, width: u32) -> Result<u32, u32> {
-        let regime = Regime::Outside {
-            satp,
-            mode: access.mode,
-            sum: access.sum,
-            mxr: access.mxr,
-        };
-        match self.led(&regime, access.va, access.kind, None) {
-            Err(cause) => Err(cause),
-            Ok(led) => {
-                self.settle_led(&regime, access.va, access.kind, &led);
-                Ok(self.read_settled(led.pa, width))
-            }
+        if self.is_bare_at(satp) {
+            return self.load_bare(satp, access, width);
         }
+        self.load_looking(satp, access, width)
     }
 
     fn store(&mut self, satp: u32, access: Access, width: u32, v: u32) -> Result<(), u32> {

@@ -128,7 +128,7 @@ module _ (held : List ℕ → Option (List ℕ)) (manifest : List ℕ) where
 
   -- What the file does not fill is zeros. The stack begins at the end of the pages, and the key has number 0, if the table
   -- does not say otherwise.
-  pub record IsProgramOf (table : Data) (p : CloakedProgram) : Type 0 where
+  pub record MeansProgram (table : Data) (p : CloakedProgram) : Type 0 where
     pub source : List ℕ
     pub named : IsSource table source
     pub pages : IsNumberOr (stands_at Pages table) (pages_needed (length source)) p.start.pages
@@ -146,4 +146,4 @@ module _ (held : List ℕ → Option (List ℕ)) (manifest : List ℕ) where
     pub kernel : IsKernelOf document b.kernel
     pub tables : Items
     pub list : IsList (stands_at Program document) tables
-    pub programs : EachMeans IsProgramOf tables b.programs
+    pub programs : EachMeans MeansProgram tables b.programs

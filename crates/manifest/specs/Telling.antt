@@ -2,16 +2,16 @@
 use Rattle.std.specs.Prelude.{ℕ, List, [], ◌++◌, codes, decimal, string_bytes}
 use Rattle.asm_text.specs.Telling.{fault_text}
 use Rattle.asm_text.specs.declared.fault.TextFault.{TextFault}
-use Rattle.manifest.specs.declared.key.Part.{Part}
-use Rattle.manifest.specs.declared.key.Part.TheVariants as part
-use Rattle.manifest.specs.declared.fault.Wrong.{Wrong}
-use Rattle.manifest.specs.declared.fault.Wrong.TheVariants.{Missing, NoSource, NoNumber, NoTurn, NoMultiple, NoName, NoList, NoTable, TooFew, TooMany, TwoSources, NoFile, NoRoom, PastRam, PastAddresses, TooLarge}
+use Rattle.manifest.specs.declared.key.ManifestTable.{ManifestTable}
+use Rattle.manifest.specs.declared.key.ManifestTable.TheVariants as part
+use Rattle.manifest.specs.declared.fault.KeyFault.{KeyFault}
+use Rattle.manifest.specs.declared.fault.KeyFault.TheVariants.{Missing, NoSource, NoNumber, NoTurn, NoMultiple, NoName, NoList, NoTable, TooFew, TooMany, TwoSources, NoFile, NoRoom, PastRam, PastAddresses, TooLarge}
 use Rattle.manifest.specs.declared.fault.PackFault.{PackFault}
 use Rattle.manifest.specs.declared.fault.PackFault.TheVariants as fault
 use Rattle.manifest.specs.Keys.{key_name}
 
 -- a table, and a colon; nothing for the top of the document
-abbrev pub part_text : Part → List ℕ
+abbrev pub part_text : ManifestTable → List ℕ
 part_text part.Image = []
 part_text (part.Segment number) = codes "segment " ++ decimal number ++ codes ": "
 part_text part.Disk = codes "disk: "
@@ -19,7 +19,7 @@ part_text (part.File number) = codes "disk: file " ++ decimal number ++ codes ":
 part_text (part.Program number) = codes "program " ++ decimal number ++ codes ": "
 
 -- what is wrong
-abbrev pub wrong_words : Wrong → List ℕ
+abbrev pub wrong_words : KeyFault → List ℕ
 wrong_words Missing = codes "it is missing"
 wrong_words NoSource = codes "it is missing, and so is `text`"
 wrong_words (NoNumber least most) = codes "it is to be a whole number from " ++ decimal least ++ codes " to " ++ decimal most
@@ -38,7 +38,7 @@ wrong_words PastAddresses = codes "the pages that begin here go past the last ad
 wrong_words TooLarge = codes "the bundle would have more than 67108864 bytes"
 
 -- an assembler text that a table names is faulty
-abbrev pub faulty_text_line : Part → (name text : List ℕ) → TextFault → List ℕ
+abbrev pub faulty_text_line : ManifestTable → (name text : List ℕ) → TextFault → List ℕ
 faulty_text_line at name text fault =
     part_text at ++ (codes "text: the file is no assembler text\n" ++ fault_text name text fault)
 

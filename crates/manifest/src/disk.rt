@@ -7,9 +7,9 @@ ghost use Rattle.manifest.specs.Keys.{stands_at};
 ghost use Rattle.manifest.specs.Manifest.{IsDisk, IsDiskOf, IsSource, StoresFile, StoresFiles};
 ghost use Rattle.manifest.specs.Reading.{ReadsParts};
 
-use crate::fault::{PackError, PackFault, Wrong};
-use crate::fields::Place;
-use crate::key::{Key, Part};
+use crate::fault::{KeyFault, PackError, PackFault};
+use crate::fields::NamedTable;
+use crate::key::{Key, ManifestTable};
 use crate::sources::source;
 use io_traits::Shelf;
 use std::alloc::Global;
@@ -24,7 +24,7 @@ fn store(disk: &mut [u8], at: usize, bytes: &[u8])
 }
 
 /// Stores the bytes of the file that a table means at its block.
-fn place_file(place: Place<'_>, bytes: &[u8], disk: &mut [u8]) -> Result<(), PackFault>
+fn place_file(place: NamedTable<'_>, bytes: &[u8], disk: &mut [u8]) -> Result<(), PackFault>
     ensures stored { (held : List ℕ → Option (List ℕ)) → (manifest : List ℕ) →
         IsSource held manifest (view place.entry.table.now) bytes.now →
         OnOk result (StoresFile held manifest (view place.entry.table.now) disk.old disk.new) }
@@ -34,7 +34,7 @@ fn place_file(place: Place<'_>, bytes: &[u8], disk: &mut [u8]) -> Result<(), Pac
     let at = 4096 * block as usize;
     if at > disk.len() || bytes.len() > disk.len() - at {
         let room = disk.len().saturating_sub(at).min(u32::MAX as usize);
-        return Err(place.fault(Key::Block, Wrong::NoRoom(room as u32)));
+        return Err(place.fault(Key::Block, KeyFault::NoRoom(room as u32)));
     }
     store(disk, at, bytes);
     Ok(())
@@ -57,8 +57,8 @@ fn place_files<S: Shelf>(
     let mut count = 0;
     for table in tables {
         count = u32::saturating_add(count, 1);
-        let part = Part::File(count);
-        let place = Place { part, table };
+        let part = ManifestTable::File(count);
+        let place = NamedTable { part, table };
         place.has_only(alloc, &[Key::Block, Key::Text, Key::Bytes])?;
         let bytes = source(alloc, shelf, manifest, place)?;
         place_file(place, bytes.as_slice(), disk)?;
@@ -79,7 +79,7 @@ fn disk_of<S: Shelf>(
     alloc: Global,
     shelf: &mut S,
     manifest: &str,
-    place: Place<'_>,
+    place: NamedTable<'_>,
 ) -> Result<Vec<u8>, PackError>
     requires { S.is_settled shelf.old }
     ensures means { IfOk result (λ v. IsDiskOf (S.held shelf.old) manifest.now (view place.entry.table.now) v.items) }
@@ -101,7 +101,7 @@ pub fn disk<S: Shelf>(
     alloc: Global,
     shelf: &mut S,
     manifest: &str,
-    place: Place<'_>,
+    place: NamedTable<'_>,
 ) -> Result<Vec<u8>, PackError>
     requires { S.is_settled shelf.old }
     ensures means { IfOk result (λ v.
@@ -115,8 +115,8 @@ pub fn disk<S: Shelf>(
         return Ok(Vec::new(alloc));
     };
     if !table.is_table() {
-        return Err(PackError::Faulty(place.fault(Key::Disk, Wrong::NoTable)));
+        return Err(PackError::Faulty(place.fault(Key::Disk, KeyFault::NoTable)));
     }
-    let part = Part::Disk;
-    disk_of(alloc, shelf, manifest, Place { part, table })
+    let part = ManifestTable::Disk;
+    disk_of(alloc, shelf, manifest, NamedTable { part, table })
 }

@@ -3,13 +3,13 @@ ghost use Rattle.std.specs.Prelude.{◌≡◌};
 ghost use Rattle.manifest.specs.declared.fault.PackFault.TheVariants as faults;
 ghost use Rattle.manifest.specs.declared.fault.PackError.TheVariants as errors;
 
-use crate::key::{Key, Part};
+use crate::key::{Key, ManifestTable};
 use asm_text::TextFault;
 use std::alloc::{AllocError, AllocFailed};
 
 /// What is wrong at a key.
 #[derive(Clone, Copy, Debug, PartialEq, Eq)]
-pub enum Wrong {
+pub enum KeyFault {
     /// The key is needed, and is not there.
     Missing,
     /// Neither this key, which names a file of bytes, nor the one that names a text is there.
@@ -56,18 +56,18 @@ pub enum PackFault {
     NotToml(String),
     /// What stands at a key is wrong.
     AtKey {
-        part: Part,
+        part: ManifestTable,
         key: Key,
-        wrong: Wrong,
+        wrong: KeyFault,
     },
     /// There is no key of this name in this table.
     UnknownKey {
-        part: Part,
+        part: ManifestTable,
         name: String,
     },
     /// The assembler text of this file is faulty.
     FaultyText {
-        part: Part,
+        part: ManifestTable,
         name: String,
         text: String,
         fault: TextFault,

@@ -5,21 +5,21 @@ ghost use Rattle.toml.specs.View.{view, items_view};
 ghost use Rattle.manifest.specs.Keys.{stands_at};
 ghost use Rattle.manifest.specs.Manifest.{IsList, IsNumberOr};
 
-use crate::fault::{PackFault, Wrong};
-use crate::key::{Key, Part};
+use crate::fault::{KeyFault, PackFault};
+use crate::key::{Key, ManifestTable};
 use std::alloc::Global;
 use toml::Value;
 
 /// A table of a manifest, with its place there.
 #[derive(Clone, Copy)]
-pub struct Place<'a> {
-    pub part: Part,
+pub struct NamedTable<'a> {
+    pub part: ManifestTable,
     pub table: &'a Value,
 }
 
-impl<'a> Place<'a> {
+impl<'a> NamedTable<'a> {
     /// What is wrong at a key.
-    pub fn fault(self, key: Key, wrong: Wrong) -> PackFault {
+    pub fn fault(self, key: Key, wrong: KeyFault) -> PackFault {
         PackFault::AtKey {
             part: self.part,
             key,
@@ -45,7 +45,7 @@ impl<'a> Place<'a> {
         };
         match in_range(value, least, most) {
             Some(number) => Ok(Some(number)),
-            None => Err(self.fault(key, Wrong::NoNumber(least, most))),
+            None => Err(self.fault(key, KeyFault::NoNumber(least, most))),
         }
     }
 
@@ -56,7 +56,7 @@ impl<'a> Place<'a> {
     {
         match self.number(key, least, most)? {
             Some(number) => Ok(number),
-            None => Err(self.fault(key, Wrong::Missing)),
+            None => Err(self.fault(key, KeyFault::Missing)),
         }
     }
 
@@ -88,7 +88,7 @@ impl<'a> Place<'a> {
         };
         match value.as_str() {
             Some(name) => Ok(Some(name)),
-            None => Err(self.fault(key, Wrong::NoName)),
+            None => Err(self.fault(key, KeyFault::NoName)),
         }
     }
 
@@ -101,7 +101,7 @@ impl<'a> Place<'a> {
         };
         match value.as_array() {
             Some(array) => Ok(array.as_slice()),
-            None => Err(self.fault(key, Wrong::NoList)),
+            None => Err(self.fault(key, KeyFault::NoList)),
         }
     }
 
@@ -112,7 +112,7 @@ impl<'a> Place<'a> {
     {
         let values = self.list(key)?;
         if values.len() > most as usize {
-            return Err(self.fault(key, Wrong::TooMany(most)));
+            return Err(self.fault(key, KeyFault::TooMany(most)));
         }
         Ok(values)
     }

@@ -7,10 +7,10 @@ ghost use Rattle.cloak_model.specs.Bundle.{IsInGrammar, bundle_bytes};
 ghost use Rattle.manifest.specs.Manifest.{IsImageOf};
 ghost use Rattle.manifest.specs.Reading.{ReadsParts};
 
-use crate::fault::{PackError, Wrong};
-use crate::fields::Place;
+use crate::fault::{KeyFault, PackError};
+use crate::fields::NamedTable;
 use crate::kernel::kernel;
-use crate::key::{Key, Part};
+use crate::key::{Key, ManifestTable};
 use crate::programs::programs;
 use crate::room::room_behind;
 use cloak_model::{Bundle, Sequence};
@@ -43,8 +43,8 @@ pub fn bundle_of<S: Shelf>(
     ensures reads { ReadsParts (files S.Shelf shelf.old) (files S.Shelf shelf.new) result }
     ensures settled { S.is_settled shelf.new }
 {
-    let place = Place {
-        part: Part::Image,
+    let place = NamedTable {
+        part: ManifestTable::Image,
         table: document,
     };
     place.has_only(alloc, &KEYS)?;
@@ -56,7 +56,7 @@ pub fn bundle_of<S: Shelf>(
         programs: Sequence::new(programs),
     };
     if room_behind(&bundle).is_none() {
-        return Err(PackError::Faulty(place.fault(Key::Segment, Wrong::TooLarge)));
+        return Err(PackError::Faulty(place.fault(Key::Segment, KeyFault::TooLarge)));
     }
     Ok(bundle)
 }

@@ -11,8 +11,8 @@ ghost use Rattle.manifest.specs.Manifest.{EachMeans, IsKernelOf, IsNumberOr, IsS
 ghost use Rattle.manifest.specs.Reading.{ReadsParts};
 
 use crate::disk::disk;
-use crate::fault::{PackError, PackFault, Wrong};
-use crate::fields::{Place, in_range};
+use crate::fault::{KeyFault, PackError, PackFault};
+use crate::fields::{NamedTable, in_range};
 use crate::key::Key;
 use crate::segments::segments;
 use cloak_base::RAM_START;
@@ -38,7 +38,7 @@ fn plain_schedule(alloc: Global, harts: u32) -> Result<Vec<u8>, PackFault>
 /// The turns that values mean.
 fn given_schedule(
     alloc: Global,
-    place: Place<'_>,
+    place: NamedTable<'_>,
     turns: &[Value],
     harts: u32,
 ) -> Result<Vec<u8>, PackFault>
@@ -53,14 +53,14 @@ fn given_schedule(
     for turn in turns {
         match in_range(turn, 0, last) {
             Some(hart) => schedule.push(hart as u8)?,
-            None => return Err(place.fault(Key::Schedule, Wrong::NoTurn(last))),
+            None => return Err(place.fault(Key::Schedule, KeyFault::NoTurn(last))),
         }
     }
     Ok(schedule)
 }
 
 /// The schedule of a document for this many harts: 1 to 64 turns, or the harts in order if none is given.
-fn schedule(alloc: Global, place: Place<'_>, harts: u32) -> Result<Vec<u8>, PackFault>
+fn schedule(alloc: Global, place: NamedTable<'_>, harts: u32) -> Result<Vec<u8>, PackFault>
     requires some { 1 ≤ harts }
     requires few { harts ≤ 4 }
     ensures means { IfOk result (λ v. IsSchedule (stands_at keys.Schedule (view place.entry.table.now)) harts v.items) }
@@ -72,25 +72,25 @@ fn schedule(alloc: Global, place: Place<'_>, harts: u32) -> Result<Vec<u8>, Pack
         return plain_schedule(alloc, harts);
     };
     let Some(turns) = value.as_array() else {
-        return Err(place.fault(Key::Schedule, Wrong::NoList));
+        return Err(place.fault(Key::Schedule, KeyFault::NoList));
     };
     if turns.is_empty() {
-        return Err(place.fault(Key::Schedule, Wrong::TooFew));
+        return Err(place.fault(Key::Schedule, KeyFault::TooFew));
     }
     if turns.len() > 64 {
-        return Err(place.fault(Key::Schedule, Wrong::TooMany(64)));
+        return Err(place.fault(Key::Schedule, KeyFault::TooMany(64)));
     }
     given_schedule(alloc, place, turns.as_slice(), harts)
 }
 
 /// The program counter at which the harts begin.
-fn entry(place: Place<'_>) -> Result<u32, PackFault>
+fn entry(place: NamedTable<'_>) -> Result<u32, PackFault>
     ensures value { IfOk result (IsNumberOr (stands_at keys.Entry (view place.entry.table.now)) ram_start) }
     ensures multiple { IfOk result (λ n. n % 4 ≡ 0) }
 {
     let entry = place.number_or(Key::Entry, 0, u32::MAX, RAM_START)?;
     if entry % 4 != 0 {
-        return Err(place.fault(Key::Entry, Wrong::NoMultiple(4)));
+        return Err(place.fault(Key::Entry, KeyFault::NoMultiple(4)));
     }
     Ok(entry)
 }
@@ -100,7 +100,7 @@ pub fn kernel<S: Shelf>(
     alloc: Global,
     shelf: &mut S,
     manifest: &str,
-    place: Place<'_>,
+    place: NamedTable<'_>,
 ) -> Result<KernelImage, PackError>
     requires { S.is_settled shelf.old }
     ensures means { IfOk result (IsKernelOf (S.held shelf.old) manifest.now (view place.entry.table.now)) }

@@ -56,7 +56,7 @@ impl Key {
 
 /// A table of a manifest; those of a list are counted from 1.
 #[derive(Clone, Copy, Debug, PartialEq, Eq)]
-pub enum Part {
+pub enum ManifestTable {
     /// The top of the document.
     Image,
     Segment(u32),

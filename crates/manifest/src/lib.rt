@@ -17,6 +17,6 @@ mod segments;
 mod sources;
 mod telling;
 
-pub use fault::{PackError, PackFault, Wrong};
-pub use key::{Key, Part};
+pub use fault::{KeyFault, PackError, PackFault};
+pub use key::{Key, ManifestTable};
 pub use pack::pack_command;

@@ -6,12 +6,12 @@ ghost use Rattle.command_parts.specs.Outside.{files};
 ghost use Rattle.cloak_model.specs.Bundle.{IsProgramIn};
 ghost use Rattle.manifest.specs.declared.key.Key.TheVariants as keys;
 ghost use Rattle.manifest.specs.Keys.{stands_at};
-ghost use Rattle.manifest.specs.Manifest.{EachMeans, IsNumberOr, IsProgramOf, IsSource, pages_needed};
+ghost use Rattle.manifest.specs.Manifest.{EachMeans, IsNumberOr, MeansProgram, IsSource, pages_needed};
 ghost use Rattle.manifest.specs.Reading.{ReadsParts};
 
-use crate::fault::{PackError, PackFault, Wrong};
-use crate::fields::Place;
-use crate::key::{Key, Part};
+use crate::fault::{KeyFault, PackError, PackFault};
+use crate::fields::NamedTable;
+use crate::key::{Key, ManifestTable};
 use crate::sources::source;
 use cloak_base::Start;
 use cloak_model::{Program, Sequence};
@@ -32,14 +32,14 @@ const KEYS: [Key; 8] = [
 ];
 
 /// The number is a multiple of another one.
-fn expect_multiple(place: Place<'_>, key: Key, of: u32, number: u32) -> Result<(), PackFault>
+fn expect_multiple(place: NamedTable<'_>, key: Key, of: u32, number: u32) -> Result<(), PackFault>
     requires { 0 < of }
     ensures { OnOk result (number % of ≡ 0) }
 {
     if number % of == 0 {
         Ok(())
     } else {
-        Err(place.fault(key, Wrong::NoMultiple(of)))
+        Err(place.fault(key, KeyFault::NoMultiple(of)))
     }
 }
 
@@ -55,7 +55,7 @@ fn padded(bytes: Vec<u8>, pages: u32) -> Result<Vec<u8>, PackFault>
 }
 
 /// Where a program of this many pages begins.
-fn start(place: Place<'_>, pages: u32) -> Result<Start, PackFault>
+fn start(place: NamedTable<'_>, pages: u32) -> Result<Start, PackFault>
     requires { pages ≤ 1024 }
     ensures pages { IfOk result (λ s. s.pages ≡ pages) }
     ensures base { IfOk result (λ s. stands_at keys.Base (view place.entry.table.now) ≡ Some (integer (pos s.base))) }
@@ -71,7 +71,7 @@ fn start(place: Place<'_>, pages: u32) -> Result<Start, PackFault>
     expect_multiple(place, Key::Base, 4096, base)?;
     let top = u64::from(base) + 4096 * u64::from(pages);
     if top > 1 << 32 {
-        return Err(place.fault(Key::Base, Wrong::PastAddresses));
+        return Err(place.fault(Key::Base, KeyFault::PastAddresses));
     }
     let entry = place.number_or(Key::Entry, 0, u32::MAX, base)?;
     expect_multiple(place, Key::Entry, 4, entry)?;
@@ -85,39 +85,39 @@ fn start(place: Place<'_>, pages: u32) -> Result<Start, PackFault>
 }
 
 /// How many pages a program has, which its bytes fit in.
-fn page_count(place: Place<'_>, length: usize) -> Result<u32, PackFault>
+fn page_count(place: NamedTable<'_>, length: usize) -> Result<u32, PackFault>
     ensures pages { IfOk result (IsNumberOr (stands_at keys.Pages (view place.entry.table.now)) (pages_needed length)) }
     ensures range { IfOk result (λ n. (1 ≤ n) × (n ≤ 1024)) }
     ensures inside { IfOk result (λ n. length ≤ 4096 * n) }
 {
     let needed = length.div_ceil(4096).max(1);
     if needed > 1024 {
-        return Err(place.fault(Key::Bytes, Wrong::NoRoom(4096 * 1024)));
+        return Err(place.fault(Key::Bytes, KeyFault::NoRoom(4096 * 1024)));
     }
     let pages = place.number_or(Key::Pages, 1, 1024, needed as u32)?;
     if length > 4096 * pages as usize {
-        return Err(place.fault(Key::Pages, Wrong::NoRoom(4096 * pages)));
+        return Err(place.fault(Key::Pages, KeyFault::NoRoom(4096 * pages)));
     }
     Ok(pages)
 }
 
 /// The frame of the first of some pages.
-fn first_frame(place: Place<'_>, frames: u32, pages: u32) -> Result<u32, PackFault>
+fn first_frame(place: NamedTable<'_>, frames: u32, pages: u32) -> Result<u32, PackFault>
     ensures value { IfOk result (λ n. stands_at keys.Place (view place.entry.table.now) ≡ Some (integer (pos n))) }
     ensures inside { IfOk result (λ n. n + pages ≤ frames) }
 {
     let frame = place.needed_number(Key::Place, 0, 4095)?;
     if u64::from(frame) + u64::from(pages) > u64::from(frames) {
-        return Err(place.fault(Key::Place, Wrong::PastRam));
+        return Err(place.fault(Key::Place, KeyFault::PastRam));
     }
     Ok(frame)
 }
 
 /// The program of these bytes that a table means.
-fn placed_program(place: Place<'_>, bytes: Vec<u8>, frames: u32) -> Result<Program, PackFault>
+fn placed_program(place: NamedTable<'_>, bytes: Vec<u8>, frames: u32) -> Result<Program, PackFault>
     ensures means { (held : List ℕ → Option (List ℕ)) → (manifest : List ℕ) →
         IsSource held manifest (view place.entry.table.now) bytes.items →
-        IfOk result (IsProgramOf held manifest (view place.entry.table.now)) }
+        IfOk result (MeansProgram held manifest (view place.entry.table.now)) }
     ensures in_image { IfOk result (IsProgramIn frames) }
 {
     let pages = page_count(place, bytes.len())?;
@@ -137,11 +137,11 @@ fn program<S: Shelf>(
     alloc: Global,
     shelf: &mut S,
     manifest: &str,
-    place: Place<'_>,
+    place: NamedTable<'_>,
     frames: u32,
 ) -> Result<Program, PackError>
     requires { S.is_settled shelf.old }
-    ensures means { IfOk result (IsProgramOf (S.held shelf.old) manifest.now (view place.entry.table.now)) }
+    ensures means { IfOk result (MeansProgram (S.held shelf.old) manifest.now (view place.entry.table.now)) }
     ensures in_image { IfOk result (IsProgramIn frames) }
     ensures reads { ReadsParts (files S.Shelf shelf.old) (files S.Shelf shelf.new) result }
     ensures settled { S.is_settled shelf.new }
@@ -160,7 +160,8 @@ pub fn programs<S: Shelf>(
     frames: u32,
 ) -> Result<Vec<Program>, PackError>
     requires { S.is_settled shelf.old }
-    ensures mean { IfOk result (λ v. EachMeans (IsProgramOf (S.held shelf.old) manifest.now) (items_view tables.now) v.items) }
+    ensures mean { IfOk result (λ v. EachMeans (MeansProgram (S.held shelf.old) manifest.now)
+        (items_view tables.now) v.items) }
     ensures count { IfOk result (λ v. length v.items ≡ length tables.now) }
     ensures in_image { IfOk result (λ v. All (IsProgramIn frames) v.items) }
     ensures reads { ReadsParts (files S.Shelf shelf.old) (files S.Shelf shelf.new) result }
@@ -170,8 +171,8 @@ pub fn programs<S: Shelf>(
     let mut count = 0;
     for table in tables {
         count = u32::saturating_add(count, 1);
-        let part = Part::Program(count);
-        let program = program(alloc, shelf, manifest, Place { part, table }, frames)?;
+        let part = ManifestTable::Program(count);
+        let program = program(alloc, shelf, manifest, NamedTable { part, table }, frames)?;
         programs.push(program)?;
     }
     Ok(programs)

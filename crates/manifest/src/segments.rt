@@ -7,9 +7,9 @@ ghost use Rattle.cloak_model.specs.Bundle.{IsSegmentIn};
 ghost use Rattle.manifest.specs.Manifest.{EachMeans, IsSegmentOf};
 ghost use Rattle.manifest.specs.Reading.{ReadsParts};
 
-use crate::fault::{PackError, Wrong};
-use crate::fields::Place;
-use crate::key::{Key, Part};
+use crate::fault::{KeyFault, PackError};
+use crate::fields::NamedTable;
+use crate::key::{Key, ManifestTable};
 use crate::sources::source;
 use cloak_base::{RAM_START, ram_end};
 use cloak_model::{Segment, Sequence};
@@ -32,7 +32,7 @@ fn segment<S: Shelf>(
     alloc: Global,
     shelf: &mut S,
     manifest: &str,
-    place: Place<'_>,
+    place: NamedTable<'_>,
     frames: u32,
 ) -> Result<Segment, PackError>
     requires settled { S.is_settled shelf.old }
@@ -46,7 +46,7 @@ fn segment<S: Shelf>(
     let address = place.needed_number(Key::Address, RAM_START, u32::MAX)?;
     let bytes = source(alloc, shelf, manifest, place)?;
     if !is_in_ram(address, bytes.len(), frames) {
-        return Err(PackError::Faulty(place.fault(Key::Address, Wrong::PastRam)));
+        return Err(PackError::Faulty(place.fault(Key::Address, KeyFault::PastRam)));
     }
     Ok(Segment {
         address,
@@ -74,8 +74,8 @@ pub fn segments<S: Shelf>(
     let mut count = 0;
     for table in tables {
         count = u32::saturating_add(count, 1);
-        let part = Part::Segment(count);
-        let segment = segment(alloc, shelf, manifest, Place { part, table }, frames)?;
+        let part = ManifestTable::Segment(count);
+        let segment = segment(alloc, shelf, manifest, NamedTable { part, table }, frames)?;
         segments.push(segment)?;
     }
     Ok(segments)

@@ -10,9 +10,9 @@ ghost use Rattle.manifest.specs.Keys.{stands_at};
 ghost use Rattle.manifest.specs.Manifest.{IsNamedFile, IsPath, IsSource};
 ghost use Rattle.manifest.specs.Reading.{ReadsParts};
 
-use crate::fault::{PackError, PackFault, Wrong};
-use crate::fields::Place;
-use crate::key::{Key, Part};
+use crate::fault::{KeyFault, PackError, PackFault};
+use crate::fields::NamedTable;
+use crate::key::{Key, ManifestTable};
 use asm_text::{TextFault, assembled, shown_text};
 use cloak_base::LARGEST_BUNDLE;
 use command_parts::{Refusal, read_front};
@@ -63,7 +63,7 @@ fn named_file<S: Shelf>(
     alloc: Global,
     shelf: &mut S,
     path: &str,
-    place: Place<'_>,
+    place: NamedTable<'_>,
     key: Key,
 ) -> Result<Vec<u8>, PackError>
     requires { S.is_settled shelf.old }
@@ -75,17 +75,22 @@ fn named_file<S: Shelf>(
     match read_whole(alloc, shelf, path, LARGEST_BUNDLE) {
         Ok(Some(bytes)) => {
             if bytes.is_empty() {
-                return Err(PackError::Faulty(place.fault(key, Wrong::NoFile)));
+                return Err(PackError::Faulty(place.fault(key, KeyFault::NoFile)));
             }
             Ok(bytes)
         }
-        Ok(None) => Err(PackError::Faulty(place.fault(key, Wrong::NoRoom(LARGEST_BUNDLE)))),
+        Ok(None) => Err(PackError::Faulty(place.fault(key, KeyFault::NoRoom(LARGEST_BUNDLE)))),
         Err(error) => Err(error),
     }
 }
 
 /// The bytes of the words of the assembler text in the file of this name.
-fn words_of(alloc: Global, part: Part, name: String, text: &[u8]) -> Result<Vec<u8>, PackFault>
+fn words_of(
+    alloc: Global,
+    part: ManifestTable,
+    name: String,
+    text: &[u8],
+) -> Result<Vec<u8>, PackFault>
     ensures { IfOk result (λ bytes. IsAssembled text.now bytes.items) }
 {
     let fault = match assembled(alloc, text) {
@@ -109,7 +114,7 @@ pub fn source<S: Shelf>(
     alloc: Global,
     shelf: &mut S,
     manifest: &str,
-    place: Place<'_>,
+    place: NamedTable<'_>,
 ) -> Result<Vec<u8>, PackError>
     requires { S.is_settled shelf.old }
     ensures source { IfOk result (λ v. IsSource (S.held shelf.old) manifest.now (view place.entry.table.now) v.items) }
@@ -128,7 +133,7 @@ pub fn source<S: Shelf>(
             let text = named_file(alloc, shelf, path.as_str(), place, Key::Text)?;
             Ok(words_of(alloc, place.part, path, text.as_slice())?)
         }
-        (None, None) => Err(PackError::Faulty(place.fault(Key::Bytes, Wrong::NoSource))),
-        (Some(_), Some(_)) => Err(PackError::Faulty(place.fault(Key::Bytes, Wrong::TwoSources))),
+        (None, None) => Err(PackError::Faulty(place.fault(Key::Bytes, KeyFault::NoSource))),
+        (Some(_), Some(_)) => Err(PackError::Faulty(place.fault(Key::Bytes, KeyFault::TwoSources))),
     }
 }

@@ -15,12 +15,14 @@ use Rattle.shadow_fold.specs.declared.entry.Entry.{Entry}
 use Rattle.shadow_fold.specs.declared.entry.ShadowCounts.{ShadowCounts}
 use Rattle.shadow_fold.specs.Entries.{is_frame, IsWithin}
 use Rattle.shadow_fold.specs.Table.{Table, ending}
+use Rattle.multi_shadow.specs.Copies.{AreCopies}
 use Rattle.multi_shadow.specs.Kept.{AreKept}
 use Rattle.multi_shadow.specs.Placed.{ArePlaced, AreApart, EndsJust, live_in, number_of, is_head}
 use Rattle.multi_shadow.specs.Recent.{AreOfKind, AreWithin, live_of, left_of, no_recent}
 use Rattle.multi_shadow.specs.declared.recent.Recent.{Recent}
 use Rattle.multi_shadow.specs.declared.shadows.Shadows.TheInside.{Inside}
 use Rattle.multi_shadow.proofs.Apart.{fewer_apart}
+use Rattle.multi_shadow.proofs.Copied.{no_copies}
 use Rattle.multi_shadow.proofs.Recents.{still_in, live_left}
 use Rattle.multi_shadow.proofs.Slots.{ended_from}
 
@@ -63,11 +65,13 @@ unfolding ending
 after_ending frames ends r A B counts now =
     ap (λ l. table_of frames l counts) (live_left ends r A B (left_lying ends A B now))
 
-pub kept_ending : (s : Inside) (ends : Entry → Bool) (r : Recent) (B : Arena Entry) (hits pause : ℕ) → AreKept s
-    → r ≡ left_of ends s.recent → ArePlaced B → B.heads ≡ s.arena.heads → EndsJust ends s.arena B
-    → AreKept (let t : Inside = record s { arena = B; recent = r; hits = hits; pause = pause } in t)
-kept_ending s ends r B hits pause kept is placed heads now =
-    subst (λ (r : Recent). AreKept (let t : Inside = record s { arena = B; recent = r; hits = hits; pause = pause } in t)) (sym is) (record {
+pub kept_ending : (s : Inside) (ends : Entry → Bool) (r : Recent) (copies : List (Option Entry)) (B : Arena Entry)
+    (hits pause : ℕ) → AreKept s → r ≡ left_of ends s.recent → ArePlaced B → B.heads ≡ s.arena.heads
+    → EndsJust ends s.arena B → AreCopies copies B
+    → AreKept (let t : Inside = record s { arena = B; recent = r; copies = copies; hits = hits; pause = pause } in t)
+kept_ending s ends r copies B hits pause kept is placed heads now still =
+    subst (λ (r : Recent). AreKept
+    (let t : Inside = record s { arena = B; recent = r; copies = copies; hits = hits; pause = pause } in t)) (sym is) (record {
       slots = now.long ∙ kept.slots;
       heads = kept.heads ∙ sym heads;
       some = kept.some;
@@ -78,6 +82,7 @@ kept_ending s ends r B hits pause kept is placed heads now =
       recent = still_in (λ k e. IsWithin s.heads e) ends s.recent kept.recent;
       apart = subst AreApart (sym (live_left ends s.recent s.arena B (left_lying ends s.arena B now)))
           (fewer_apart (λ e. not (ends e)) (live_of s.recent s.arena) kept.apart);
+      copies = still;
     })
 
 pub filter_none : (xs : List Entry) → filter (λ e. false) xs ≡ []
@@ -109,10 +114,11 @@ pub none_live : (r : Recent) (A B : Arena Entry) → r ≡ no_recent → EndsJus
 none_live r A B is now =
     ap (λ r. live_of r B) is ∙ left_lying (λ e. true) A B now ∙ filter_none (live_in A.payloads)
 
-pub none_kept : (s : Inside) (r : Recent) (B : Arena Entry) (counts : ShadowCounts) → AreKept s → r ≡ no_recent
-    → ArePlaced B → B.heads ≡ s.arena.heads → EndsJust (λ e. true) s.arena B
-    → AreKept (let t : Inside = record s { arena = B; recent = r; counts = counts } in t)
-none_kept s r B counts kept is placed heads now = record {
+pub none_kept : (s : Inside) (r : Recent) (copies : List (Option Entry)) (B : Arena Entry) (counts : ShadowCounts)
+    → AreKept s → r ≡ no_recent → copies ≡ replicate 64 None → ArePlaced B → B.heads ≡ s.arena.heads
+    → EndsJust (λ e. true) s.arena B
+    → AreKept (let t : Inside = record s { arena = B; recent = r; copies = copies; counts = counts } in t)
+none_kept s r copies B counts kept is none placed heads now = record {
   slots = now.long ∙ kept.slots;
   heads = kept.heads ∙ sym heads;
   some = kept.some;
@@ -122,6 +128,7 @@ none_kept s r B counts kept is placed heads now = record {
   of_kind = subst AreOfKind (sym is) no_kind;
   recent = subst (AreWithin s.heads) (sym is) (no_within s.heads);
   apart = subst AreApart (sym (none_live r s.arena B is now)) none_apart;
+  copies = subst (λ c. AreCopies c B) (sym none) (no_copies 64 B);
 }
 
 -- An arena in which nothing lies.

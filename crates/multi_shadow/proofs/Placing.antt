@@ -179,6 +179,11 @@ lies_same : (ps : List (Option Entry)) (s : ℕ) (e x : Entry) → slice_get ps 
     → slice_get (slice_set ps s (Some e)) s ≡ Some (Some x) → x ≡ e
 lies_same ps s e x free is = same_Some _ _ (same_Some _ _ (sym is ∙ slice_get-set_same ps s (Some e) (slice_get_within ps s None free)))
 
+-- a slot in which an entry lies is not the free one
+pub not_free : (ps : List (Option Entry)) (s t : ℕ) (x : Entry) → slice_get ps s ≡ Some None
+    → slice_get ps t ≡ Some (Some x) → Not (t ≡ s)
+not_free ps s t x free lies f = none-some x (same_Some _ _ (sym free ∙ ap (slice_get ps) (sym f) ∙ lies))
+
 -- what lies in a slot is the new entry, or an old one elsewhere
 pub new_or_old : (ps : List (Option Entry)) (s t : ℕ) (e x : Entry) → slice_get ps s ≡ Some None
     → slice_get (slice_set ps s (Some e)) t ≡ Some (Some x) → ((t ≡ s) × (x ≡ e)) ⊎ (Not (t ≡ s) × (slice_get ps t ≡ Some (Some x)))

@@ -1,5 +1,6 @@
 -- What holds of the fields of a table of shadow entries.
 use Rattle.std.specs.Prelude.{◌≡◌, ◌<◌, ◌≤◌, length}
+use Rattle.multi_shadow.specs.Copies.{AreCopies}
 use Rattle.multi_shadow.specs.Placed.{ArePlaced, AreApart, IsPower}
 use Rattle.multi_shadow.specs.Recent.{AreOfKind, AreWithin, live_of}
 use Rattle.multi_shadow.specs.declared.shadows.Shadows.TheInside.{Inside}
@@ -16,3 +17,5 @@ pub record AreKept (s : Inside) : Type 0 where
   pub of_kind : AreOfKind s.recent
   pub recent : AreWithin s.heads s.recent
   pub apart : AreApart (live_of s.recent s.arena)
+  -- a copy is of an entry that is still there
+  pub copies : AreCopies s.copies s.arena

@@ -9,6 +9,7 @@
 //! no matter of this crate.
 #![tactic(auto)]
 
+mod copies;
 mod entry;
 mod places;
 mod recent;

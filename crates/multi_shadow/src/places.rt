@@ -50,7 +50,7 @@ fn low_part(number: u64, power: u32) -> u32
 /// The bucket of a regime, page and kind.
 #[inline(always)]
 #[tactic(auto, unfolding(crate::specs::Placed::bucket_of))]
-fn bucket_of(heads: u32, v: &Regime, page: u32, kind: Kind) -> u32
+pub(crate) fn bucket_of(heads: u32, v: &Regime, page: u32, kind: Kind) -> u32
     requires power { IsPower heads }
     ensures within { result < heads }
     ensures bucket { result ≡ spec.bucket_of heads v.now page kind }
@@ -199,32 +199,37 @@ fn prune(arena: &mut ChainArena<Entry>, c: Chain, head: u32, space: Option<Space
     }
 }
 
-/// The same, with little done if the chain is empty.
+/// The same, with little done if the chain is empty. Returns whether it was not.
 #[inline(always)]
-fn prune_head(arena: &mut ChainArena<Entry>, c: Chain, head: u32, space: Option<SpaceId>)
+fn prune_head(arena: &mut ChainArena<Entry>, c: Chain, head: u32, space: Option<SpaceId>) -> bool
     requires placed { ArePlaced arena.old }
     requires within { head < arena.old.heads }
     ensures placed { ArePlaced arena.new }
     ensures heads { arena.new.heads ≡ arena.old.heads }
     ensures ends { EndsJust (is_hit arena.old.heads c head space) arena.old arena.new }
+    ensures unchanged { result ≡ false → arena.new ≡ arena.old }
 {
     if arena.first(c, head).is_some() {
         prune(arena, c, head, space);
+        return true;
     }
+    false
 }
 
-/// Ends the entries that hang on a frame, by one kind of chains.
+/// Ends the entries that hang on a frame, by one kind of chains. Returns whether there may have been any.
 #[inline(always)]
-pub(crate) fn prune_frame(arena: &mut ChainArena<Entry>, heads: u32, c: Chain, f: Frame)
+pub(crate) fn prune_frame(arena: &mut ChainArena<Entry>, heads: u32, c: Chain, f: Frame) -> bool
     requires placed { ArePlaced arena.old }
     requires heads { heads ≡ arena.old.heads }
     ensures placed { ArePlaced arena.new }
     ensures heads { arena.new.heads ≡ arena.old.heads }
     ensures ends { EndsJust (hangs_on arena.old.heads c f.0) arena.old arena.new }
+    ensures unchanged { result ≡ false → arena.new ≡ arena.old }
 {
     if f.0 < heads {
-        prune_head(arena, c, f.0, None);
+        return prune_head(arena, c, f.0, None);
     }
+    false
 }
 
 /// Ends all entries, or all of a space.

@@ -1,12 +1,13 @@
 //! The entry that was learnt last, of each kind of access. It stands in a place of its own, and not in the arena. If
 //! most looks miss, it ends before the next one of its kind comes, so that no chain is changed for it.
-ghost use Rattle.std.specs.Prelude.{◌≡◌, ◌∷◌, ◌<◌, [], find, length, option_map};
+ghost use Rattle.std.specs.Prelude.{◌≡◌, ◌∷◌, ◌<◌, ℕ, [], find, length, option_map};
 ghost use Rattle.std.specs.List.Sorted.{IsPermutation};
-ghost use Rattle.multi_shadow.specs.Placed.{ArePlaced, IsPower, live_in};
+ghost use Rattle.multi_shadow.specs.Placed.{ArePlaced, IsPower, LiesAt, live_in};
 ghost use Rattle.multi_shadow.specs.Recent as spec;
 ghost use Rattle.multi_shadow.specs.Recent.{AreOfKind, AreWithin, recent_entries, live_of, left_in, left_of};
 ghost use Rattle.shadow_fold.specs.Entries as entries;
 ghost use Rattle.shadow_fold.specs.Entries.{IsWithin};
+ghost use Rattle.shadow_fold.specs.declared.entry.Entry.{Entry as AnyEntry};
 
 use crate::entry::{is_for, is_of_space, is_table, is_target};
 use crate::places::place;
@@ -176,6 +177,7 @@ fn displace(recent: &Recent, arena: &mut ChainArena<Entry>, heads: u32, kind: Ki
     ensures placed { ArePlaced arena.new }
     ensures heads { arena.new.heads ≡ arena.old.heads }
     ensures slots { length arena.new.payloads ≡ length arena.old.payloads }
+    ensures stays { (s : ℕ) (x : AnyEntry) → LiesAt arena.old s x → LiesAt arena.new s x }
 {
     if let Some(e) = recent.place_of(kind) {
         let _ = place(arena, heads, *e);
@@ -199,6 +201,7 @@ pub(crate) fn keep(recent: &mut Recent, arena: &mut ChainArena<Entry>, heads: u3
     ensures placed { ArePlaced arena.new }
     ensures heads { arena.new.heads ≡ arena.old.heads }
     ensures slots { length arena.new.payloads ≡ length arena.old.payloads }
+    ensures stays { (s : ℕ) (x : AnyEntry) → LiesAt arena.old s x → LiesAt arena.new s x }
 {
     displace(recent, arena, heads, e.kind);
     recent.put(e);

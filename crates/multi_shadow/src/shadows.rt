@@ -5,6 +5,7 @@ ghost use Rattle.multi_shadow.specs.Placed.{IsPower};
 ghost use Rattle.shadow_fold.specs.Following.{AreBirthCalls};
 ghost use Rattle.shadow_fold.specs.Table.{empty_table, is_known, looked, ending, emptied, with_room, with_live};
 
+use crate::copies::{Copies, find_live};
 use crate::entry::is_within;
 use crate::places::{prune_all, prune_frame, search};
 use crate::recent::{Recent, keep};
@@ -43,10 +44,12 @@ pub struct Shadows {
     heads: u32,
     arena: ChainArena<Entry>,
     recent: Recent,
+    copies: Copies,
     counts: ShadowCounts,
-    /// How many looks had found an entry when a recent one was last ended through its tables. The regime does not show it.
+    /// How many looks had found an entry when a recent one was last ended through its tables. The model does not show
+    /// it.
     hits: u64,
-    /// For how many misses more it is not worth it to learn. The regime does not show it.
+    /// For how many misses more it is not worth it to learn. The model does not show it.
     pause: u8,
 }
 
@@ -108,6 +111,7 @@ impl Shadows {
             heads,
             arena,
             recent: Recent::empty(),
+            copies: Copies::none(),
             counts,
             hits: 0,
             pause: 0,
@@ -121,8 +125,16 @@ impl Shadows {
         ensures counted { self.new ≡ looked v.now page kind self.old }
     {
         self.counts.accesses = self.counts.accesses.saturating_add(1);
-        match self.look(v, page, kind) {
-            Some(e) => Some(*e),
+        match find_live(
+            &self.recent,
+            &mut self.copies,
+            &self.arena,
+            self.heads,
+            v,
+            page,
+            kind,
+        ) {
+            Some(e) => Some(e),
             None => {
                 self.counts.misses = self.counts.misses.saturating_add(1);
                 None
@@ -130,7 +142,7 @@ impl Shadows {
         }
     }
 
-    /// The same, with nothing counted: the recent entry, or one in the arena.
+    /// The same, with nothing counted and nothing copied: the recent entry, or one in the arena.
     #[inline(always)]
     fn look<'a>(&'a self, v: &Regime, page: u32, kind: Kind) -> Option<&'a Entry>
         ensures { option_map (λ e. e.now) result ≡ find (is_for v.now page kind) self.now.live }
@@ -229,7 +241,8 @@ impl Shadows {
         ensures { self.new ≡ ending (is_target f) self.old }
     {
         self.recent.end_target(f);
-        prune_frame(&mut self.arena, self.heads, Chain::Target, f);
+        let ended = prune_frame(&mut self.arena, self.heads, Chain::Target, f);
+        self.copies.forget_if(ended);
     }
 
     /// Ends the entries of which this is a table frame.
@@ -239,8 +252,10 @@ impl Shadows {
     {
         let ended = self.recent.end_dependents(f);
         note_end(ended, &self.counts, &mut self.hits, &mut self.pause);
-        prune_frame(&mut self.arena, self.heads, Chain::First, f);
-        prune_frame(&mut self.arena, self.heads, Chain::Second, f);
+        let first = prune_frame(&mut self.arena, self.heads, Chain::First, f);
+        self.copies.forget_if(first);
+        let second = prune_frame(&mut self.arena, self.heads, Chain::Second, f);
+        self.copies.forget_if(second);
     }
 
     /// Ends the entries of the regimes of this space.
@@ -248,6 +263,7 @@ impl Shadows {
         ensures { self.new ≡ ending (is_of_space s) self.old }
     {
         self.recent.end_space(s);
+        self.copies = Copies::none();
         prune_all(&mut self.arena, self.heads, Some(s));
     }
 
@@ -258,6 +274,7 @@ impl Shadows {
         ensures { self.new ≡ emptied self.old }
     {
         self.recent = Recent::empty();
+        self.copies = Copies::none();
         prune_all(&mut self.arena, self.heads, None);
         self.counts.flushes = self.counts.flushes.saturating_add(1);
     }
@@ -267,6 +284,7 @@ impl Shadows {
         ensures { self.new ≡ empty_table self.old.frames }
     {
         self.recent = Recent::empty();
+        self.copies = Copies::none();
         prune_all(&mut self.arena, self.heads, None);
         self.counts = ShadowCounts {
             accesses: 0,

@@ -9,7 +9,7 @@ use tool_commands::{CommandLine, run_tools};
 
 /// What a line left.
 #[derive(Drop)]
-struct Left {
+struct CallResult {
     status: Status,
     shelf: MemoryShelf,
     sink: MemorySink,
@@ -19,7 +19,7 @@ struct Left {
 const RECORD: &[u8] = b"CLOAKREC\x10\x01\0\0\0\x10\x02\0\0\0\x11\x02\0\0\0\x12";
 
 /// Runs the tools with words that are separated by spaces.
-fn called(alloc: Global, line: &str) -> Result<Left, Fail> {
+fn called(alloc: Global, line: &str) -> Result<CallResult, Fail> {
     let mut shelf = MemoryShelf::open(alloc, Vec::new(alloc));
     let mut sink = MemorySink::open(alloc, Vec::new(alloc));
     let manifest = b"[[segment]]\naddress = 0x80000000\ntext = \"k.s\"\n";
@@ -34,7 +34,7 @@ fn called(alloc: Global, line: &str) -> Result<Left, Fail> {
         words.push(String::from_str(alloc, word)?)?;
     }
     let status = run_tools(alloc, &CommandLine::Taken(words), &mut shelf, &mut sink);
-    Ok(Left {
+    Ok(CallResult {
         status,
         shelf,
         sink,

@@ -7,7 +7,7 @@ use Rattle.command_parts.specs.Outside.{files}
 use Rattle.cloak_model.specs.declared.image.Program.{Program}
 use Rattle.cloak_model.specs.Bundle.{IsProgramIn}
 use Rattle.manifest.specs.declared.fault.PackFault.TheVariants.{NoMemory}
-use Rattle.manifest.specs.Manifest.{EachMeans, IsProgramOf}
+use Rattle.manifest.specs.Manifest.{EachMeans, MeansProgram}
 use Rattle.manifest.proofs.Kept.{same_held, read_more, handed_on, only_read}
 use Rattle.manifest.proofs.Listed.{items_view-more, means_more}
 use Rattle.manifest.proofs.programs.programs.Goals as goal
@@ -22,11 +22,11 @@ loop-table-preserved g c =
     let so_far = c.loop-table.invariant in
     let last = c.in_ok-program.program in
     let more = items_view-more c.args.tables.now c.loop-table.table-index table c.loop-table-test.true (sym c.table-item.is) in
-    let here = subst (λ (h : List ℕ → Option (List ℕ)). IsProgramOf h manifest (view table) last)
+    let here = subst (λ (h : List ℕ → Option (List ℕ)). MeansProgram h manifest (view table) last)
     (same_held (held first) (held c.loop-table.shelf) so_far.read.held) c.in_ok-program.ensures.means in
     let pushed = c.in_ok-push.ensures.items in
     record {
-      mean = rw (more, pushed) (means_more (IsProgramOf (held first) manifest) _ _ (view table) last so_far.mean here);
+      mean = rw (more, pushed) (means_more (MeansProgram (held first) manifest) _ _ (view table) last so_far.mean here);
       count = rw pushed (simp length-append (omega (arith, so_far.count)));
       in_image = rw pushed (All-push (IsProgramIn c.args.frames) c.loop-table.programs.items last so_far.in_image
           c.in_ok-program.ensures.in_image);
@@ -36,7 +36,7 @@ loop-table-preserved g c =
 
 pub returns-clause-mean : goal.returns-clause-mean
 returns-clause-mean g c =
-    subst (λ (tables : List Value). EachMeans (IsProgramOf (g.S.Shelf.held c.args.shelf.now) c.args.manifest.now) (items_view tables) c.loop-table.programs.items)
+    subst (λ (tables : List Value). EachMeans (MeansProgram (g.S.Shelf.held c.args.shelf.now) c.args.manifest.now) (items_view tables) c.loop-table.programs.items)
     (take_all c.loop-table.table-index c.args.tables.now c.loop-table-test.false) c.loop-table.invariant.mean
 
 pub returns-clause-count : goal.returns-clause-count

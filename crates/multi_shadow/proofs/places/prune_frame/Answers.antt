@@ -9,8 +9,8 @@ returns-then-f-heads-clause-ends c =
     let now = c.prune_head.ensures.ends in record { long = now.long; ended = now.ended; kept = now.kept }
 
 -- no entry hangs on a head that does not exist
-pub returns-else-f-heads-clause-ends : goal.returns-else-f-heads-clause-ends
-returns-else-f-heads-clause-ends c = record {
+pub returns-clause-ends : goal.returns-clause-ends
+returns-clause-ends c = record {
   long = refl;
   ended = λ s e l. (
     l,

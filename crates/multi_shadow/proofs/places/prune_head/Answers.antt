@@ -9,8 +9,8 @@ none_stands : (xs : List ℕ) (s : ℕ) → is_some (slice_get xs 0) ≡ false �
 none_stands [] s none p = p
 none_stands (x ∷ xs) s none p = true≢false none
 
-pub returns-else-is_some-clause-ends : goal.returns-else-is_some-clause-ends
-returns-else-is_some-clause-ends c =
+pub returns-clause-ends : goal.returns-clause-ends
+returns-clause-ends c =
     let A = c.args.arena.now in let h = c.args.head in
     let none = sym (c.is_some.ensures ∙ ap is_some c.first.ensures) ∙ c.if-is_some.false in
     record {

@@ -6,8 +6,8 @@ use Rattle.multi_shadow.proofs.shadows.Shadows.flush.Goals as goal
 pub invariant_of-self : goal.invariant_of-self
 invariant_of-self c =
     let now = c.prune_all.ensures in
-    none_kept c.self.inside c.empty-self-inside.result c.prune_all.new.arena _ c.self.invariant
-    c.empty-self-inside.ensures now.placed now.heads now.ends
+    none_kept c.self.inside c.empty-self-inside.result c.none-self-inside.result c.prune_all.new.arena _ c.self.invariant
+    c.empty-self-inside.ensures c.none-self-inside.ensures now.placed now.heads now.ends
 
 pub returns : goal.returns
 unfolding emptied

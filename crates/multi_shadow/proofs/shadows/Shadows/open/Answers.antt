@@ -1,6 +1,8 @@
 use Rattle.std.proofs.Common.{sym, ap, subst, ◌∙◌}
+use Rattle.multi_shadow.specs.Copies.{AreCopies}
 use Rattle.multi_shadow.specs.Placed.{AreApart}
 use Rattle.multi_shadow.specs.Recent.{AreOfKind, AreWithin, live_of}
+use Rattle.multi_shadow.proofs.Copied.{no_copies}
 use Rattle.multi_shadow.proofs.Ending.{empty_live, empty_long, empty_placed, no_kind, no_within, none_apart}
 use Rattle.multi_shadow.proofs.Powers.{power_some}
 use Rattle.multi_shadow.proofs.shadows.Shadows.open.Goals as goal
@@ -18,4 +20,5 @@ invariant_of-result c =
       of_kind = subst AreOfKind (sym c.empty.ensures) no_kind;
       recent = subst (AreWithin h) (sym c.empty.ensures) (no_within h);
       apart = subst AreApart (sym (ap (λ r. live_of r A) c.empty.ensures ∙ empty_live 1024 h A is)) none_apart;
+      copies = subst (λ copies. AreCopies copies A) (sym c.none.ensures) (no_copies 64 A);
     }

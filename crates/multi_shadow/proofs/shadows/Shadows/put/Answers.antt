@@ -5,6 +5,7 @@ use Rattle.shadow_fold.specs.Entries.{is_for, IsWithin}
 use Rattle.shadow_fold.specs.Table.{is_known, with_live}
 use Rattle.multi_shadow.specs.Recent.{live_of}
 use Rattle.multi_shadow.proofs.Apart.{more_apart, same_apart}
+use Rattle.multi_shadow.proofs.Copied.{copies_stay}
 use Rattle.multi_shadow.proofs.Ending.{within_more}
 use Rattle.multi_shadow.proofs.shadows.Shadows.put.Goals as goal
 
@@ -37,6 +38,7 @@ invariant_of-self c =
       of_kind = now.of_kind;
       recent = now.recent;
       apart = same_apart _ _ now.live (more_apart e (live_of s.recent s.arena) unknown inv.apart);
+      copies = copies_stay s.copies s.arena c.keep.new.arena now.stays inv.copies;
     }
 
 pub returns-clause-live : goal.returns-clause-live

@@ -1,0 +1,11 @@
+use Rattle.host_calls.proofs.WholeAccess.{decoded_steps, effect_steps}
+use Rattle.host_calls.proofs.plain_step.executed.Goals as goal
+
+pub returns-in-Some : goal.returns-in-Some
+returns-in-Some g c =
+    effect_steps g.M.Ram _ _ c.args.h.now c.args.d.now c.args.word c.in-Some.e _ c.in-Some.ensures.value
+    c.carry_out_plain.ensures
+
+pub returns-in-None : goal.returns-in-None
+returns-in-None g c =
+    decoded_steps g.M.Ram _ _ c.args.h.now c.args.d.now c.args.word _ _ c.decode.ensures.table c.decoded.ensures
