@@ -1,7 +1,9 @@
+pub mod DomainMoments
 pub mod DomainPages
 pub mod DomainStanding
 pub mod KernelChanges
 pub mod KernelConsole
+pub mod KernelEnding
 pub mod KernelPlaces
 pub mod KernelStanding
 pub mod KernelWorld

@@ -52,7 +52,7 @@ fn put_put<O: Sink>(out: &mut O, so_far: SoFar, address: u32, width: u8, value: 
 }
 
 /// Each word after a space.
-fn put_words<O: Sink>(out: &mut O, so_far: SoFar, words: &[u32]) -> SoFar
+pub fn put_words<O: Sink>(out: &mut O, so_far: SoFar, words: &[u32]) -> SoFar
     ensures { PutsMore (putting O.Sink out.old so_far) (putting O.Sink out.new result) (words_text words.now) }
 {
     let mut so_far = so_far;

@@ -14,3 +14,5 @@ mod manifests;
 mod records;
 #[cfg(test)]
 mod stories;
+#[cfg(test)]
+mod traces;

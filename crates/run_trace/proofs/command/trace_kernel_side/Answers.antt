@@ -1,0 +1,11 @@
+use Rattle.std.proofs.Common.{Option, None, ℕ, inl, inr, refl, sym, subst}
+use Rattle.run_trace.specs.Answering.{ShowsSide}
+use Rattle.run_trace.proofs.command.trace_kernel_side.Goals as goal
+
+pub returns-in-Ok-clause-shows : goal.returns-in-Ok-clause-shows
+returns-in-Ok-clause-shows g c =
+    inl (subst (λ (p : Option ℕ). ShowsSide p c.args.bundle.now c.args.choice.now c.args.name.now _ _ c.trace_kernel.result)
+    (sym c.requires.none) (c.trace_kernel.ensures.shows c.args.bundle.now.kernel c.in-Ok.ensures))
+
+pub returns-in-Err-clause-shows : goal.returns-in-Err-clause-shows
+returns-in-Err-clause-shows g c = inr (inl (record { reading = refl; line = c.refuse.ensures }))

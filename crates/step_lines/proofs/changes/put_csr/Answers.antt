@@ -1,0 +1,7 @@
+use Rattle.kernel_report.proofs.PutFacts.{then}
+use Rattle.step_lines.proofs.Joining.{no_effect, one_effect}
+use Rattle.step_lines.proofs.changes.put_csr.Goals as goal
+
+pub returns : goal.returns
+returns g c =
+    one_effect (then c.put_gap-so_far.ensures (then c.text-so_far.ensures (then c.text-so_far-2.ensures c.hexadecimal.ensures)))

@@ -1,0 +1,6 @@
+use Rattle.kernel_report.proofs.PutFacts.{then}
+use Rattle.step_lines.proofs.columns.put_word.Goals as goal
+
+pub returns-clause-text : goal.returns-clause-text
+returns-clause-text g c =
+    then c.text-so_far.ensures (then c.hexadecimal-so_far.ensures (then c.text-so_far-2.ensures c.text.ensures))
