@@ -1,5 +1,10 @@
 pub mod Keys
-pub mod Manifest
+pub mod Fields
+pub mod Parts
+pub mod Loading
+pub mod Faults
+pub mod Sources
+pub mod Images
 pub mod Telling
 pub mod Reading
 pub mod Packing

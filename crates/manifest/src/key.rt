@@ -15,6 +15,7 @@ pub enum Key {
     Address,
     Text,
     Bytes,
+    Elf,
     Blocks,
     File,
     Block,
@@ -42,6 +43,7 @@ impl Key {
             Key::Address => "address",
             Key::Text => "text",
             Key::Bytes => "bytes",
+            Key::Elf => "elf",
             Key::Blocks => "blocks",
             Key::File => "file",
             Key::Block => "block",
@@ -56,12 +58,12 @@ impl Key {
 
 /// A table of a manifest; those of a list are counted from 1.
 #[derive(Clone, Copy, Debug, PartialEq, Eq)]
-pub enum Part {
+pub enum ManifestTable {
     /// The top of the document.
     Image,
-    Segment(u32),
+    Segment(usize),
     Disk,
     /// A file of the disk.
-    File(u32),
-    Program(u32),
+    File(usize),
+    Program(usize),
 }
