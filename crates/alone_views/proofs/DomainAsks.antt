@@ -88,11 +88,11 @@ Took k h a now = Kept k h now
 abbrev pub IsStopped : Answer → Type 0
 IsStopped a = a ≡ told.Stopped
 
-abbrev pub Asked : ℕ → Handed → Told Answer → Type 0
-Asked k h t = Outcome h (Took k h) IsStopped t.answer t.world
+abbrev pub QuestionOutcome : ℕ → Handed → Told Answer → Type 0
+QuestionOutcome k h t = Outcome h (Took k h) IsStopped t.answer t.world
 
 asked_fit : (h now : Handed) (k : ℕ) (b : Bool) (a : Answer) (rest : List Answer) → now.answers ≡ a ∷ rest → Kept k h now →
-    Asked (k + 1) h (cond b (record { answer = a; world = Alone (record now { answers = rest }) }) (unfit now))
+    QuestionOutcome (k + 1) h (cond b (record { answer = a; world = Alone (record now { answers = rest }) }) (unfit now))
 asked_fit h now k true a rest is kept = inl (record {
   fit = kept.fit;
   plain = kept.plain;
@@ -101,21 +101,21 @@ asked_fit h now k true a rest is kept = inl (record {
 asked_fit h now k false a rest is kept = inr (record { unfit = refl; plain = kept.plain; few = λ none. cc }, refl)
 
 asked_next : (h now : Handed) (k : ℕ) (is_fit : Answer → Bool) (rest : List Answer) → k ≤ 1 → now.answers ≡ rest → Kept k h now →
-    Asked (k + 1) h (next_answer is_fit rest now)
+    QuestionOutcome (k + 1) h (next_answer is_fit rest now)
 unfolding next_answer
 asked_next h now k is_fit [] low is kept =
     inr (record { unfit = refl; plain = kept.plain; few = λ none. (let u = kept.used in let e = ap length none in omega (arith, u, e)) }, refl)
 asked_next h now k is_fit (a ∷ rest) low is kept = asked_fit h now k (is_fit a) a rest is kept
 
-asked_reach : (h now : Handed) (k : ℕ) (q : PageId) (va : ℕ) (kind : Kind) → k ≤ 1 → Kept k h now → Asked (k + 1) h (ask_reach q va kind (Alone now))
+asked_reach : (h now : Handed) (k : ℕ) (q : PageId) (va : ℕ) (kind : Kind) → k ≤ 1 → Kept k h now → QuestionOutcome (k + 1) h (ask_reach q va kind (Alone now))
 unfolding ask_reach
 asked_reach h now k q va kind low kept = asked_next h now k is_for_access now.answers low refl kept
 
-asked_put : (h now : Handed) (k va width value : ℕ) → k ≤ 1 → Kept k h now → Asked (k + 1) h (ask_put va width value (Alone now))
+asked_put : (h now : Handed) (k va width value : ℕ) → k ≤ 1 → Kept k h now → QuestionOutcome (k + 1) h (ask_put va width value (Alone now))
 unfolding ask_put
 asked_put h now k va width value low kept = asked_next h now k is_for_access now.answers low refl kept
 
-asked_clear : (h now : Handed) (k domain : ℕ) (marked : List Bool) → k ≤ 1 → Kept k h now → Asked (k + 1) h (ask_clear domain marked (Alone now))
+asked_clear : (h now : Handed) (k domain : ℕ) (marked : List Bool) → k ≤ 1 → Kept k h now → QuestionOutcome (k + 1) h (ask_clear domain marked (Alone now))
 unfolding ask_clear
 asked_clear h now k domain marked low kept = asked_next h now k is_for_clearing now.answers low refl kept
 
@@ -125,13 +125,13 @@ cut h k width a (Cloaked c) o = absurd o
 cut h k width a (Alone now) (inl good) = inl good
 cut h k width a (Alone now) (inr lacks) = inr (lacks.0, ap (λ (x : Answer). of_width width x) lacks.1)
 
-asked_get : (h now : Handed) (k va width : ℕ) → k ≤ 1 → Kept k h now → Asked (k + 1) h (ask_get va width (Alone now))
+asked_get : (h now : Handed) (k va width : ℕ) → k ≤ 1 → Kept k h now → QuestionOutcome (k + 1) h (ask_get va width (Alone now))
 unfolding ask_get
 asked_get h now k va width low kept = cut h (k + 1) width _ _ (asked_next h now k is_for_value now.answers low refl kept)
 
 -- an answer, and what goes on with it: if none was found it goes on as with Stopped
 then_asked : (B : Type 0) (h : Handed) (k : ℕ) (GoodNext : B → Handed → Type 0) (StopsNext : B → Type 0) (next : Answer → Asking B) (t : Told Answer) →
-    Asked k h t →
+    QuestionOutcome k h t →
     ((a : Answer) (now : Handed) → Kept k h now → Outcome h GoodNext StopsNext (next a (Alone now)).answer (next a (Alone now)).world) →
     ((now : Handed) → Quits StopsNext now (next told.Stopped (Alone now))) →
     Outcome h GoodNext StopsNext (next t.answer t.world).answer (next t.answer t.world).world

@@ -14,7 +14,9 @@ use Rattle.step_parts.proofs.Same.{same_step}
 use Rattle.step_parts.proofs.StepLater.{later_step_in_parts}
 use Rattle.cloak_model.proofs.Later.{IsLater}
 use Rattle.alone_views.specs.KernelChanges.{ChangesTo}
-use Rattle.alone_views.specs.KernelStanding.{state_with}
+use Rattle.alone_views.specs.KernelEnding.{EndsAs, ending_in, is_end, plain_ending}
+use Rattle.alone_views.specs.KernelPlaces.{stood_place}
+use Rattle.alone_views.specs.KernelStanding.{StandsForKernel, state_with}
 use Rattle.alone_views.specs.declared.kernel.KernelAlone.{KernelAlone}
 use Rattle.alone_views.specs.declared.kernel_ram.FlatRam.{FlatRam}
 use Rattle.alone_views.specs.KernelWorld.{IsWorld, seen_by}
@@ -90,3 +92,36 @@ step_taken s schedule number hart on turn =
     λ h. kernel_step_begun h (kernel_hart s.kernel h).inside (record s { steps = number }) in
     ap (λ (b : Bool). let t : model.KernelAlone = if b then kernel_unfit s else begun (turn_in schedule number) in t) on
     ∙ ap begun (sym turn)
+
+-- How a plain step ended.
+
+pub ended_plainly : (s : model.KernelAlone) (number : ℕ) (h h' : Hart) (disk : List ℕ) (k : Kernel) (seen : Seen) →
+    kernel_hart s.kernel number ≡ h → kernel_step h s.kernel.disk (Flat (kernel_seen s.kernel)) ≡ told_of h' disk k seen →
+    k ≡ plain_ending number s
+ended_plainly s number h h' disk k seen is made =
+    sym (ap (λ (x : Hart). (kernel_step x s.kernel.disk (Flat (kernel_seen s.kernel))).answer.ending) is
+    ∙ ap (λ (t : Told SteppedKernel). t.answer.ending) made)
+
+-- the number of a hart outside
+abbrev pub outside_hart : model.KernelPlace → ℕ
+outside_hart (model.Outside number) = number
+outside_hart other = 0
+
+abbrev pub is_outside : model.KernelPlace → Bool
+is_outside (model.Outside number) = true
+is_outside other = false
+
+-- the step of a hart outside was made
+pub ends_as : (old new : KernelAlone) (hart : ℕ) → stood_place old.place ≡ model.Outside hart →
+    ((turns : List ℕ) (s : model.KernelAlone) → StandsForKernel old turns s → ending_in new ≡ plain_ending hart s) →
+    EndsAs old new
+ends_as old new hart is ends = λ turns s stands number at.
+    ends turns s stands
+    ∙ ap (λ (n : ℕ). plain_ending n s) (ap outside_hart (sym is ∙ (ap (λ (t : model.KernelAlone). t.place) (sym stands.state) ∙ at)))
+
+-- no step of a hart outside is open
+pub ends_none : (old new : KernelAlone) (place : model.KernelPlace) → stood_place old.place ≡ place →
+    is_outside place ≡ false → EndsAs old new
+ends_none old new place is not_outside = λ turns s stands number at.
+    absurd (let clash : false ≡ true = sym not_outside
+    ∙ ap is_outside (sym is ∙ (ap (λ (t : model.KernelAlone). t.place) (sym stands.state) ∙ at)) in cc)

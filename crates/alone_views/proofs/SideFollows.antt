@@ -12,7 +12,7 @@ use Rattle.cloak_model.specs.Asking.{Follows, FollowsWhere, FollowsFrom}
 use Rattle.cloak_model.specs.World.{Flat, Cloaked, Alone, Handed, HasPage, plain_of}
 use Rattle.cloak_model.specs.AskPages.{next_answer, is_for_access, is_for_value, is_for_clearing, of_width, ask_reach, ask_write, ask_get, ask_put, ask_clear, ask_copy, ask_forget}
 use Rattle.alone_views.specs.DomainPages.{HasPlain}
-use Rattle.alone_views.specs.Side.{IsPageOf, StandsForHanded, IsAloneNow, IsAlone, answers_in, answers_of}
+use Rattle.alone_views.specs.Side.{IsOwnPage, StandsForHanded, IsAloneNow, IsAlone, answers_in, answers_of}
 use Rattle.alone_views.specs.declared.side.HandedSide.{HandedSide}
 
 -- where a page stands
@@ -63,14 +63,14 @@ get_follows side side' taken given va width cut takes first (Alone h) stands unc
     let told = takes h stands in record { answer = cut ∙ ap (λ (a : Answer). of_width width a) told.answer; stands = told.stands }
 
 -- different pages stand at different places
-apart : (domain : ℕ) (p q : PageId) → IsPageOf domain p → IsPageOf domain q → place p ≡ place q → p ≡ q
+apart : (domain : ℕ) (p q : PageId) → IsOwnPage domain p → IsOwnPage domain q → place p ≡ place q → p ≡ q
 apart domain p q hp hq same =
     let pp = hp.page in let qp = hq.page in
     let resources : p.resource ≡ q.resource = omega (arith, pp, qp, same) in
     same_numbers p q (hp.domain_is ∙ sym hq.domain_is) resources (omega (arith, pp, qp, same))
 
 -- the pages after one was replaced
-pages_set : (domain : ℕ) (pages : List (List ℕ)) (plain : PageId → List ℕ) (q p : PageId) (bytes : List ℕ) → length pages ≡ 16384 → IsPageOf domain q → IsPageOf domain p
+pages_set : (domain : ℕ) (pages : List (List ℕ)) (plain : PageId → List ℕ) (q p : PageId) (bytes : List ℕ) → length pages ≡ 16384 → IsOwnPage domain q → IsOwnPage domain p
     → slice_index_or pages (place p) [] ≡ plain p → slice_index_or (slice_set pages (place q) bytes) (place p) [] ≡ with_page plain q bytes p
 pages_set domain pages plain q p bytes all hq hp was = elim (same_page_tells p q) [
   | inl e ↦ rw (e.0, e.1) (get_or-set_same pages (place q) bytes [] (let a = hq.resource in let b = hq.page in omega (arith, all, a, b)))
@@ -87,10 +87,10 @@ pub record ChangesPages (side side' : HandedSide) : Type 0 where
 abbrev page_at : ℕ → ℕ → ℕ → PageId
 page_at domain resource page = record { domain = domain; resource = resource; page = page }
 
-is_page : (domain resource page : ℕ) → resource < 16 → page < 1024 → IsPageOf domain (page_at domain resource page)
+is_page : (domain resource page : ℕ) → resource < 16 → page < 1024 → IsOwnPage domain (page_at domain resource page)
 is_page domain resource page low few = record { domain_is = refl; resource = low; page = few }
 
-pub write_follows : (side side' : HandedSide) (q : PageId) (at width value : ℕ) → ChangesPages side side' → length side.pages.items ≡ 16384 → IsPageOf side.domain q
+pub write_follows : (side side' : HandedSide) (q : PageId) (at width value : ℕ) → ChangesPages side side' → length side.pages.items ≡ 16384 → IsOwnPage side.domain q
     → side'.pages.items ≡ slice_set side.pages.items (place q) (with_value_in (slice_index_or side.pages.items (place q) []) at width value) →
     Follows IsAlone side side' tt (ask_write q at width value)
 unfolding ask_write
@@ -101,7 +101,7 @@ write_follows side side' q at width value kept all hq now first (Alone h) stands
   stands = record {
     pages = λ resource page low few.
         let p = page_at q.domain resource page in
-        let hp : IsPageOf side.domain p = record { domain_is = hq.domain_is; resource = low; page = few } in
+        let hp : IsOwnPage side.domain p = record { domain_is = hq.domain_is; resource = low; page = few } in
         ap (λ (pages : List (List ℕ)). slice_index_or pages (place p) []) now
         ∙ (pages_set side.domain side.pages.items (plain_of (Alone h)) q p (with_value_in (slice_index_or side.pages.items (place q) []) at width value) all hq hp (stands.pages resource page low few)
         ∙ ap (λ (bytes : List ℕ). with_page (plain_of (Alone h)) q (with_value_in bytes at width value) p) (stands.pages q.resource q.page hq.resource hq.page));

@@ -2,6 +2,7 @@ pub mod DomainPages
 pub mod DomainStanding
 pub mod KernelChanges
 pub mod KernelConsole
+pub mod KernelEnding
 pub mod KernelPlaces
 pub mod KernelStanding
 pub mod KernelWorld

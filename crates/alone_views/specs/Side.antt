@@ -8,11 +8,11 @@ use Rattle.alone_views.specs.DomainPages.{HasPlain}
 use Rattle.alone_views.specs.declared.side.HandedSide.{HandedSide}
 use Rattle.alone_views.specs.declared.side.Handing.{Handing}
 use Rattle.alone_views.specs.declared.side.Handing.TheVariants as handing
-use Rattle.alone_views.specs.declared.side.Question.{Question}
-use Rattle.alone_views.specs.declared.side.Question.TheVariants.{Access, Value, Clearing}
+use Rattle.alone_views.specs.declared.side.QuestionKind.{QuestionKind}
+use Rattle.alone_views.specs.declared.side.QuestionKind.TheVariants.{Access, Value, Clearing}
 
 -- the answers that a question takes
-abbrev pub is_fit : Question → Answer → Bool
+abbrev pub is_fit : QuestionKind → Answer → Bool
 is_fit Access a = is_for_access a
 is_fit Value a = is_for_value a
 is_fit Clearing a = is_for_clearing a
@@ -37,7 +37,7 @@ handing_of unfit (a ∷ answers) = handing.Wrong
 handing_of unfit [] = if unfit then handing.Wants else handing.Over
 
 -- the page is one of the domain
-pub record IsPageOf (domain : ℕ) (q : PageId) : Type 0 where
+pub record IsOwnPage (domain : ℕ) (q : PageId) : Type 0 where
   pub domain_is : q.domain ≡ domain
   pub resource : q.resource < 16
   pub page : q.page < 1024

@@ -45,7 +45,7 @@ pub struct DomainAlone {
     /// The hart of each step, used cyclically.
     schedule: Vec<u8>,
     /// The number of the last step, 0 before the first.
-    steps: u32,
+    pub(crate) steps: u32,
     place: DomainPlace,
     unfit: Option<Unfit>,
     ghost served: { number_of domain ≡ side.domain },
@@ -278,7 +278,7 @@ impl DomainAlone {
     }
 
     /// The hart of the last step.
-    fn hart(&self) -> u32
+    pub(crate) fn hart(&self) -> u32
         ensures value { result ≡ hart_at (schedule_in self.now) self.now.steps }
         ensures below_four { result < 4 }
     {

@@ -1,7 +1,7 @@
 //! The kernel alone: it takes the items of a record one after another, and ignores the inward ones. A step of a hart
 //! outside shows the step's Ciphers and then makes the plain step, once the step's end has been read. A step of a hart
 //! inside counts the timer, and shows what the step's Ciphers, Puts and Leave say.
-ghost use Rattle.std.specs.Prelude.{◌≡◌, ◌<◌, ◌≤◌, ◌^◌, ℕ, List, length, All, IfOk, IsSome};
+ghost use Rattle.std.specs.Prelude.{◌≡◌, ◌<◌, ◌≤◌, ◌^◌, ℕ, true, None, List, length, All, IfOk, IsSome};
 ghost use Rattle.cloak_model.specs.Bundle.{IsKernelImage};
 ghost use Rattle.cloak_model.specs.Exchange.{EmitsSome};
 ghost use Rattle.cloak_model.specs.KernelAlone as spec;
@@ -16,7 +16,7 @@ use crate::kernel_ram::{FlatRam, load_segments};
 use crate::kernel_starting::start_harts;
 use crate::unfit::Unfit;
 use cloak_base::{Failed, NoMemory};
-use cloak_model::{Emit, Item, KernelImage};
+use cloak_model::{Emit, Item, Kernel, KernelImage};
 use host_calls::{Disk, Hart};
 use io_traits::Sink;
 use kernel_report::{Console, KernelLines, put_kernel};
@@ -36,6 +36,8 @@ pub struct KernelAlone {
     pub(crate) place: KernelPlace,
     /// The last step that was made halted.
     pub(crate) halted: bool,
+    /// How the last plain step ended; before the first, as one that shows nothing.
+    pub(crate) ending: Kernel,
     /// The step at which an item was unfit.
     pub(crate) unfit: Option<u32>,
     ghost few_harts: { length harts.items ≤ 4 },
@@ -48,6 +50,7 @@ impl KernelAlone {
     ghost use Rattle.alone_views.specs.KernelChanges.{ChangesTo};
     ghost use Rattle.alone_views.specs.KernelStanding.{Gains, StandsForKernel, TakesItem};
     ghost use Rattle.alone_views.specs.KernelStanding.{answer_for, turns_of, unfit_step};
+    ghost use Rattle.alone_views.specs.KernelEnding.{EndsAs, ending_in, is_end};
 
     /// The kernel of a guest image before any item.
     pub fn open(alloc: Global, k: &KernelImage) -> Result<KernelAlone, NoMemory>
@@ -67,13 +70,15 @@ impl KernelAlone {
             steps: 0,
             place: KernelPlace::Between,
             halted: false,
+            ending: Kernel::Stay,
             unfit: None,
         })
     }
 
     /// An item is unfit at the last Step.
     pub(crate) fn refuse(&mut self)
-        ensures { ChangesTo self.old self.new spec.kernel_unfit }
+        ensures becomes { ChangesTo self.old self.new spec.kernel_unfit }
+        ensures ending { ending_in self.new ≡ ending_in self.old }
     {
         self.unfit = Some(self.steps);
     }
@@ -82,6 +87,7 @@ impl KernelAlone {
     fn take_fit<E: Emit>(&mut self, i: &Item, e: &mut E)
         ensures gains { (turns : List ℕ) (s : spec.KernelAlone) → IsItem i.now → StandsForKernel self.old turns s →
             Gains E.gave e.old e.new self.new turns s (spec.kernel_takes turns i.now s) }
+        ensures ending { is_end i.now ≡ true → EndsAs self.old self.new }
         ensures schedule { turns_of self.new ≡ turns_of self.old }
         ensures emits_some { EmitsSome E.gave e.old e.new }
     {
@@ -113,6 +119,7 @@ impl KernelAlone {
     fn take_next<E: Emit>(&mut self, i: &Item, e: &mut E)
         ensures gains { (turns : List ℕ) (s : spec.KernelAlone) → IsItem i.now → StandsForKernel self.old turns s →
             Gains E.gave e.old e.new self.new turns s (spec.take_kernel_item turns s i.now) }
+        ensures ending { is_end i.now ≡ true → unfit_step self.old ≡ None → EndsAs self.old self.new }
         ensures stays { IsSome (unfit_step self.old) → (self.new ≡ self.old) × (e.new ≡ e.old) }
         ensures schedule { turns_of self.new ≡ turns_of self.old }
         ensures emits_some { EmitsSome E.gave e.old e.new }
@@ -138,6 +145,7 @@ impl KernelAlone {
     pub fn take<E: Emit>(&mut self, i: &Item, e: &mut E) -> Result<(), Unfit>
         ensures takes { (turns : List ℕ) (s : spec.KernelAlone) → IsItem i.now → StandsForKernel self.old turns s →
             TakesItem E.gave e.old e.new self.new result turns s (spec.take_kernel_item turns s i.now) }
+        ensures ending { is_end i.now ≡ true → unfit_step self.old ≡ None → EndsAs self.old self.new }
         ensures answer { result ≡ answer_for (unfit_step self.new) }
         ensures stays { IsSome (unfit_step self.old) → (self.new ≡ self.old) × (e.new ≡ e.old) }
         ensures emits_some { EmitsSome E.gave e.old e.new }

@@ -23,18 +23,21 @@ fn has_halted(ending: Kernel) -> bool
 impl KernelAlone {
     ghost use Rattle.alone_views.specs.KernelChanges.{ChangesTo};
     ghost use Rattle.alone_views.specs.KernelStanding.{Gains, StandsForKernel, turns_of, state_with};
+    ghost use Rattle.alone_views.specs.KernelEnding.{EndsAs, ending_in, plain_ending};
 
     /// Makes the plain step of a hart, which is outside.
     fn step_plainly(&mut self, hart: usize) -> Kernel
         requires { hart < length self.old.harts.items }
         ensures state { (console : List ℕ) → state_with self.new (console ++ spec.console_byte result)
             ≡ spec.plain_step hart (state_with self.old console) }
+        ensures ending { (console : List ℕ) → ending_in self.new ≡ plain_ending hart (state_with self.old console) }
         ensures console { self.new.console ≡ self.old.console }
         ensures schedule { turns_of self.new ≡ turns_of self.old }
     {
         let ending = kernel_step(&mut self.harts[hart], &mut self.disk, &mut self.ram);
         self.place = KernelPlace::Between;
         self.halted = has_halted(ending);
+        self.ending = ending;
         ending
     }
 
@@ -43,6 +46,8 @@ impl KernelAlone {
         requires { hart < length self.old.harts.items }
         ensures gains { (turns : List ℕ) (s : spec.KernelAlone) → StandsForKernel self.old turns s →
             Gains E.gave e.old e.new self.new turns s (spec.plain_step hart s) }
+        ensures ending { (turns : List ℕ) (s : spec.KernelAlone) → StandsForKernel self.old turns s →
+            ending_in self.new ≡ plain_ending hart s }
         ensures schedule { turns_of self.new ≡ turns_of self.old }
         ensures emits_some { EmitsSome E.gave e.old e.new }
     {
@@ -54,6 +59,7 @@ impl KernelAlone {
     pub(crate) fn end_step<E: Emit>(&mut self, e: &mut E)
         ensures gains { (turns : List ℕ) (s : spec.KernelAlone) → StandsForKernel self.old turns s →
             Gains E.gave e.old e.new self.new turns s (spec.kernel_step_ended s.place s) }
+        ensures ending { EndsAs self.old self.new }
         ensures schedule { turns_of self.new ≡ turns_of self.old }
         ensures emits_some { EmitsSome E.gave e.old e.new }
     {
@@ -76,8 +82,9 @@ impl KernelAlone {
     /// Begins a step of a hart. Inside, its timer counts.
     fn begin_step(&mut self, hart: usize)
         requires { hart < length self.old.harts.items }
-        ensures { ChangesTo self.old self.new
+        ensures becomes { ChangesTo self.old self.new
             (λ s. spec.kernel_step_begun hart (spec.kernel_hart s.kernel hart).inside s) }
+        ensures ending { ending_in self.new ≡ ending_in self.old }
     {
         match self.harts[hart].inside {
             None => self.place = KernelPlace::Outside { hart },
@@ -90,7 +97,8 @@ impl KernelAlone {
 
     /// Takes a Step after the end of the last one.
     pub(crate) fn take_step(&mut self, number: u32)
-        ensures { ChangesTo self.old self.new (spec.take_kernel_step (turns_of self.old) number) }
+        ensures becomes { ChangesTo self.old self.new (spec.take_kernel_step (turns_of self.old) number) }
+        ensures ending { ending_in self.new ≡ ending_in self.old }
     {
         if self.halted {
             return self.refuse();

@@ -5,8 +5,8 @@
 //! and `specs/DomainAlone`) over any list of items, even over one that no run wrote: for every state that the machine
 //! stood for, `take` tells whether the item fits or the step at which one did not, and the machine then stands for the
 //! state after the item; the kernel's `take` also emits the byte that its console gains. Once an item was unfit nothing
-//! changes. `harts`, `frames`, `context` and `asked` tell what a machine is at a moment (no clause says what `asked`
-//! tells). `report` writes the machine's lines of the report. After the opening no call takes memory.
+//! changes. `harts`, `frames`, `step`, `place`, `ending`, `context` and `asked` tell what a machine is at a moment (no clause
+//! says what `asked` tells). `report` writes the machine's lines of the report. After the opening no call takes memory.
 //!
 //! `FlatRam` is the memory of a kernel alone: frames in which nothing is settled, and the reservations of its harts. The plain
 //! step and the walk are made over it as over any `Ram`.
@@ -15,6 +15,7 @@
 mod asked;
 mod domain;
 mod domain_pages;
+mod domain_parts;
 mod kernel;
 mod kernel_ciphers;
 mod kernel_leaves;
@@ -31,5 +32,6 @@ mod unfit;
 pub use asked::AskedAccess;
 pub use domain::DomainAlone;
 pub use kernel::KernelAlone;
+pub use kernel_place::KernelPlace;
 pub use kernel_ram::FlatRam;
 pub use unfit::Unfit;

@@ -16,7 +16,7 @@ use std::alloc::Global;
 
 /// What a question takes.
 #[derive(Clone, Copy)]
-pub(crate) enum Question {
+pub(crate) enum QuestionKind {
     Access,
     Value,
     Clearing,
@@ -49,7 +49,7 @@ pub(crate) enum Handing {
     Wrong,
 }
 
-impl Question {
+impl QuestionKind {
     ghost use Rattle.alone_views.specs.Side.{is_fit};
 
     /// The question takes an answer of this kind.
@@ -57,9 +57,9 @@ impl Question {
         ensures { result ≡ is_fit self a.now }
     {
         match self {
-            Question::Access => !matches!(a, Answer::Word(_)),
-            Question::Value => !matches!(a, Answer::Ok),
-            Question::Clearing => matches!(a, Answer::Ok | Answer::Stopped),
+            QuestionKind::Access => !matches!(a, Answer::Word(_)),
+            QuestionKind::Value => !matches!(a, Answer::Ok),
+            QuestionKind::Clearing => matches!(a, Answer::Ok | Answer::Stopped),
         }
     }
 }
@@ -138,7 +138,7 @@ impl HandedSide {
     }
 
     /// The next answer, if it is one that the question takes.
-    fn take(&mut self, question: Question) -> Answer
+    fn take(&mut self, question: QuestionKind) -> Answer
         ensures follows { (h : Handed) → StandsForHanded self.old h →
             FollowsFrom IsAloneNow self.new result (next_answer (is_fit question) h.answers h) }
         ensures domain { self.new.domain ≡ self.old.domain }
@@ -184,7 +184,7 @@ fn of_width(width: u32, a: Answer) -> Answer
 
 #[tactic(auto, unfolding(cloak_model::specs::AskPages::ask_reach, cloak_model::specs::AskPages::ask_read, cloak_model::specs::AskPages::ask_write, cloak_model::specs::AskPages::ask_get, cloak_model::specs::AskPages::ask_put, cloak_model::specs::AskPages::ask_clear, cloak_model::specs::AskPages::ask_copy, cloak_model::specs::AskPages::ask_forget))]
 impl PageSide for HandedSide {
-    ghost use Rattle.alone_views.specs.Side.{IsAlone, IsPageOf};
+    ghost use Rattle.alone_views.specs.Side.{IsAlone, IsOwnPage};
 
     ghost stands_for = { λ first side w. IsAlone first side w };
 
@@ -192,9 +192,9 @@ impl PageSide for HandedSide {
 
     ghost serves = { λ side. side.domain };
 
-    ghost is_reached = { λ side q. IsPageOf side.domain q };
+    ghost is_reached = { λ side q. IsOwnPage side.domain q };
 
-    ghost is_writable = { λ side q. IsPageOf side.domain q };
+    ghost is_writable = { λ side q. IsOwnPage side.domain q };
 
     ghost is_cleared = { λ side r. r < 16 };
 
@@ -206,7 +206,7 @@ impl PageSide for HandedSide {
             address,
             kind,
         });
-        self.take(Question::Access)
+        self.take(QuestionKind::Access)
     }
 
     fn read(&mut self, q: PageId, at: u32, width: u32) -> u32 {
@@ -219,17 +219,17 @@ impl PageSide for HandedSide {
 
     fn get(&mut self, address: u32, width: u32) -> Answer {
         self.note(AskedAccess::Uncloaked { address });
-        let taken = self.take(Question::Value);
+        let taken = self.take(QuestionKind::Value);
         of_width(width, taken)
     }
 
     fn put(&mut self, address: u32, _: u32, _: u32) -> Answer {
         self.note(AskedAccess::Uncloaked { address });
-        self.take(Question::Access)
+        self.take(QuestionKind::Access)
     }
 
     fn clear(&mut self, _: u32, _: &[bool; 16]) -> Answer {
-        self.take(Question::Clearing)
+        self.take(QuestionKind::Clearing)
     }
 
     fn copy(&mut self, _: u32, from: u32, to: u32) {

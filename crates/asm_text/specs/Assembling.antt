@@ -4,7 +4,7 @@ use Rattle.std.specs.List.{flat_map}
 use Rattle.std.specs.Str.{IsUtf8}
 use Rattle.cloak_model.specs.Bits.{word}
 use Rattle.rv_asm.specs.declared.image_word.ImageWord.{ImageWord}
-use Rattle.rv_asm.specs.Assembly.{assembled, AreWords, FailsAs}
+use Rattle.rv_asm.specs.Assembly.{assembled, AreSpelled, FailsAs}
 use Rattle.asm_text.specs.declared.fault.TextFault.{TextFault}
 use Rattle.asm_text.specs.declared.fault.TextFault.TheVariants.{NoBytes, TooLarge, NotText, Faulty}
 
@@ -18,7 +18,7 @@ pub record IsAssembled (text bytes : List ℕ) : Type 0 where
   pub items : List ImageWord
   pub words : List ℕ
   pub spelled : assembled text ≡ Ok items
-  pub are_words : AreWords items words
+  pub are_words : AreSpelled items words
   pub flat : bytes ≡ flat_map word words
 
 -- The text has this first fault. (Want of memory is no fault of a text.)

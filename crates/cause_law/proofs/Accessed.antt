@@ -42,7 +42,7 @@ use Rattle.cloak_model.specs.Memory.{value_in}
 use Rattle.cloak_model.specs.Resources.{Resources, page_at}
 use Rattle.cloak_model.specs.World.{World, Cloak, Flat, Cloaked, Alone, regime_of, plain_of}
 use Rattle.domain_isolation.proofs.Answers.{question_answered}
-use Rattle.domain_isolation.proofs.Scripts.{Question, Reach, Get}
+use Rattle.script_fold.proofs.Scripts.{Question, Reach, Get}
 use Rattle.cause_law.specs.Presented.{Executes, AsksAt, Fetches, LoadsAt, StoresAt, AtomicAt, CopiesFrom, CopiesTo}
 use Rattle.cause_law.proofs.Asked.{Calm, Met, Calms, Calms-refl, Calms-trans, CalmOrMet, asked_meets, calms_asks_get, calms_asks_put, calms_asks_clear, calms_writes, calms_copies, calms_forgets, is_cloaked_calm}
 

@@ -1,27 +1,26 @@
 -- What each question of a program leaves: a memory that is kept and has met nothing wrong, or it is stopped, when the
 -- program's page is found in a frame that differs from what was last shown of it.
-use Rattle.std.proofs.Common.{◌≡◌, ◌∙◌, ◌⊎◌, ℕ, zero, suc, ◌+◌, Bool, true, false, cond, List, [], ◌∷◌, ◌++◌, Some, None, Result, Ok, Err, refl, sym, ap, inl, inr}
+use Rattle.std.proofs.Common.{◌≡◌, ◌∙◌, ◌⊎◌, ℕ, ◌+◌, Bool, true, false, cond, List, [], ◌∷◌, ◌++◌, Some, None, Result, Ok, Err, refl, sym, ap, inl, inr}
 use Rattle.std.proofs.lemmas.List.{length-set}
 use Rattle.cloak_base.specs.declared.causes.Violation.TheVariants as violation
 use Rattle.cloak_base.specs.declared.names.Kind.{Kind}
-use Rattle.cloak_base.specs.declared.names.Kind.TheVariants.{Load, Store}
 use Rattle.cloak_base.specs.declared.names.PageId.{PageId}
-use Rattle.cloak_model.specs.declared.access.Access.{Access}
 use Rattle.cloak_model.specs.declared.access.Walked.{Walked}
 use Rattle.cloak_model.specs.declared.answer.Answer.{Answer}
 use Rattle.cloak_model.specs.declared.answer.Answer.TheVariants as told
-use Rattle.cloak_model.specs.Ask.{ask_word, ask_second, ask_after, ask_first, ask_walk, ask_inside, ask_translate, ask_led, opened}
-use Rattle.cloak_model.specs.AskPages.{replies, if_drawn, is_store, offer_events, ask_inside_address, offered_by, ask_offer, reached, reach_by_table, get_at, got, get_by_table, put_at, stored_inside, put_by_table, settled_if_marked, clear_from, ask_reach, ask_write, ask_get, ask_put, ask_clear, ask_copy, ask_forget}
-use Rattle.cloak_model.specs.Asking.{Told, Asking}
+use Rattle.cloak_model.specs.AskPages.{replies, if_drawn, is_store, offer_events, ask_inside_address, offered_by, ask_offer, reached, reach_by_table, put_at, ask_reach, ask_write, ask_get, ask_put, ask_clear, ask_copy, ask_forget}
+use Rattle.cloak_model.specs.Asking.{Told}
 use Rattle.cloak_model.specs.Cloaking.{Offer, Ready, Mismatch, Missed, offer}
-use Rattle.cloak_model.specs.Ending.{all_marked, settled_for, ask_end}
+use Rattle.cloak_model.specs.Ending.{ask_end}
 use Rattle.cloak_model.specs.Events.{Event}
 use Rattle.cloak_model.specs.Fork.{ask_copies, ask_forgets}
 use Rattle.cloak_base.specs.Constants.{frame_of}
 use Rattle.cloak_model.specs.Memory.{Seen}
 use Rattle.cloak_model.specs.PageMoves.{copy_pages, drop_pages}
-use Rattle.cloak_model.specs.Walk.{FirstWord, Ends, GoesOn, Walk, first_entry, walk}
+use Rattle.cloak_model.specs.Walk.{walk}
 use Rattle.cloak_model.specs.World.{World, Cloak, Flat, Cloaked, Alone, Handed, noted, settled, cipher_items, is_missed}
+use Rattle.script_fold.proofs.Endings.{keeps_forgets, keeps_end}
+use Rattle.script_fold.proofs.Questions.{Replies, opens_by, keeps_inside_address, keeps_get, keeps_stored, keeps_clear}
 use Rattle.domain_isolation.proofs.Steady.{is_cloaked}
 use Rattle.cause_law.specs.Presented.{Differs, FindsOther}
 use Rattle.cause_law.proofs.Compared.{offer_compares}
@@ -63,11 +62,6 @@ Calms-refl w = record { by = λ calm. calm }
 pub Calms-trans : (u v w : World) → Calms u v → Calms v w → Calms u w
 Calms-trans u v w p q = record { by = λ calm. q.by (p.by calm) }
 
-Calms-either : {A : Type 0} (b : Bool) (m n : Told A) (w : World) → Calms w m.world → Calms w n.world →
-    Calms w (cond b m n).world
-Calms-either true m n w p q = p
-Calms-either false m n w p q = q
-
 no_flat : (seen : Seen) (v : World) → Calms (Flat seen) v
 no_flat seen v = record { by = λ calm. absurd calm }
 
@@ -88,40 +82,6 @@ Calms-noted events (Flat seen) = no_flat seen _
 Calms-noted events (Cloaked c) = record { by = λ calm. record { kept = calm.kept; none = calm.none } }
 Calms-noted events (Alone h) = no_alone h _
 
-Calms-opened : (satp : ℕ) (a : Access) (pa : ℕ) (w : World) → Calms w (opened satp a pa w)
-Calms-opened satp a pa w = Calms-trans _ _ _ (Calms-settled (frame_of pa) w) (Calms-noted _ _)
-
-calms_word : (pa : ℕ) (w : World) → Calms w (ask_word pa w).world
-unfolding ask_word
-calms_word pa w = Calms-either _ _ _ w (Calms-settled (frame_of pa) w) (Calms-refl w)
-
-calms_second : (a : Access) (at1 at0 : ℕ) (w : World) → Calms w (ask_second a at1 at0 w).world
-unfolding ask_second
-calms_second a at1 at0 w = calms_word at0 w
-
-calms_after : (a : Access) (at1 : ℕ) (word : FirstWord) (w : World) → Calms w (ask_after a at1 word w).world
-unfolding ask_after
-calms_after a at1 (Ends walk) w = Calms-refl w
-calms_after a at1 (GoesOn at0) w = calms_second a at1 at0 w
-
-calms_first : (a : Access) (at1 : ℕ) (w : World) → Calms w (ask_first a at1 w).world
-unfolding ask_first
-calms_first a at1 w = Calms-trans _ _ _ (calms_word at1 w) (calms_after a at1 _ _)
-
-calms_walk : (satp : ℕ) (a : Access) (w : World) → Calms w (ask_walk satp a w).world
-unfolding ask_walk
-calms_walk satp a w = Calms-either _ _ _ w (calms_first a (first_entry satp a.va) w) (Calms-refl w)
-
-calms_inside : (a : Access) (walk : Walk) (w : World) → Calms w (ask_inside a walk w).world
-unfolding ask_inside
-calms_inside a (Err cause) w = Calms-refl w
-calms_inside a (Ok walked) w = Calms-refl w
-
-calms_inside_address : (va : ℕ) (kind : Kind) (w : World) → Calms w (ask_inside_address va kind w).world
-unfolding ask_inside_address ask_led ask_translate
-calms_inside_address va kind w =
-    Calms-trans _ _ _ (Calms-noted _ w) (Calms-trans _ _ _ (calms_walk _ _ _) (calms_inside _ _ _))
-
 -- Answers.
 
 calms_replies : (a : Answer) (w : World) → Calms w (replies a w).world
@@ -130,22 +90,14 @@ calms_replies a (Flat seen) = no_flat seen _
 calms_replies a (Cloaked c) = record { by = λ calm. record { kept = calm.kept; none = calm.none } }
 calms_replies a (Alone h) = no_alone h _
 
-calms_drawn : (ask : Asking Answer) (w : World) → Calms w (ask w).world → Calms w (if_drawn ask w).world
-unfolding if_drawn
-calms_drawn ask w next = Calms-either _ _ _ w (calms_replies _ w) next
-
-calms_get_at : (pa width : ℕ) (w : World) → Calms w (get_at pa width w).world
-unfolding get_at
-calms_get_at pa width w = Calms-trans _ _ _ (Calms-noted _ w) (calms_replies _ _)
-
-calms_got : (va width : ℕ) (to : Result ℕ ℕ) (w : World) → Calms w (got va width to w).world
-unfolding got
-calms_got va width (Err cause) w = calms_replies _ w
-calms_got va width (Ok pa) w = Calms-trans _ _ _ (Calms-opened _ _ pa w) (calms_drawn _ _ (calms_get_at pa width _))
-
-calms_get : (va width : ℕ) (w : World) → Calms w (get_by_table va width w).world
-unfolding get_by_table
-calms_get va width w = Calms-trans _ _ _ (calms_inside_address va Load w) (calms_drawn _ _ (calms_got va width _ _))
+calm_replies : Replies Calms
+calm_replies = record {
+  opens =
+      opens_by Calms (record { same = Calms-refl; chained = Calms-trans; settled = Calms-settled }) Calms-noted;
+  replied = calms_replies;
+  told = λ h rest. no_alone h _;
+  unfit = λ h. no_alone h _;
+}
 
 calms_put_at : (pa width value : ℕ) (w : World) → Calms w (put_at pa width value w).world
 unfolding put_at replies
@@ -160,33 +112,6 @@ calms_put_at pa width value (Cloaked c) = record {
   };
 }
 calms_put_at pa width value (Alone h) = no_alone h _
-
-calms_stored : (va width value : ℕ) (to : Result ℕ ℕ) (w : World) → Calms w (stored_inside va width value to w).world
-unfolding stored_inside
-calms_stored va width value (Err cause) w = calms_replies _ w
-calms_stored va width value (Ok pa) w =
-    Calms-trans _ _ _ (Calms-opened _ _ pa w) (calms_drawn _ _ (calms_put_at pa width value _))
-
-calms_put : (va width value : ℕ) (w : World) → Calms w (put_by_table va width value w).world
-unfolding put_by_table
-calms_put va width value w =
-    Calms-trans _ _ _ (calms_inside_address va Store w) (calms_drawn _ _ (calms_stored va width value _ _))
-
-either_world : (b : Bool) (w v : World) → Calms w v → Calms w (cond b v w)
-either_world true w v later = later
-either_world false w v later = Calms-refl w
-
-calms_if_marked : (domain : ℕ) (marked : List Bool) (f : ℕ) (w : World) →
-    Calms w (settled_if_marked domain marked f w)
-unfolding settled_if_marked
-calms_if_marked domain marked f w = either_world _ w (settled f w) (Calms-settled f w)
-
-calms_clear : (domain : ℕ) (marked : List Bool) (f n : ℕ) (w : World) → Calms w (clear_from domain marked f n w).world
-unfolding clear_from
-calms_clear domain marked f zero w = calms_replies _ w
-calms_clear domain marked f (suc n) w =
-    Calms-trans _ _ _ (calms_if_marked domain marked f w)
-    (calms_drawn _ _ (calms_clear domain marked (f + 1) n _))
 
 -- A page is reached.
 
@@ -261,7 +186,7 @@ unfolding reach_by_table if_drawn
 reach_meets q va kind k calm =
     let to = ask_inside_address va kind (Cloaked k) in
     drawn_meets q va kind k to.answer to.world _ refl (λ pa is. address_leads va kind k pa calm.kept is) refl
-    ((calms_inside_address va kind (Cloaked k)).by calm)
+    ((keeps_inside_address Calms calm_replies.opens va kind (Cloaked k)).by calm)
 
 pub asked_meets : (q : PageId) (va : ℕ) (kind : Kind) (k : Cloak) → IsCalm k →
     CalmOrMet q va kind k (ask_reach q va kind (Cloaked k))
@@ -271,22 +196,14 @@ asked_meets q va kind k calm = reach_meets q va kind k calm
 -- The other questions, and what a program changes, meet nothing.
 
 pub calms_asks_get : (va width : ℕ) (w : World) → Calms w (ask_get va width w).world
-unfolding ask_get
-calms_asks_get va width (Flat seen) = no_flat seen _
-calms_asks_get va width (Cloaked c) = calms_get va width (Cloaked c)
-calms_asks_get va width (Alone h) = no_alone h _
+calms_asks_get va width w = keeps_get Calms calm_replies va width w
 
 pub calms_asks_put : (va width value : ℕ) (w : World) → Calms w (ask_put va width value w).world
-unfolding ask_put
-calms_asks_put va width value (Flat seen) = no_flat seen _
-calms_asks_put va width value (Cloaked c) = calms_put va width value (Cloaked c)
-calms_asks_put va width value (Alone h) = no_alone h _
+calms_asks_put va width value w =
+    keeps_stored Calms calm_replies width (λ pa value' v. calms_put_at pa width value' v) va value w
 
 pub calms_asks_clear : (d : ℕ) (marked : List Bool) (w : World) → Calms w (ask_clear d marked w).world
-unfolding ask_clear
-calms_asks_clear d marked (Flat seen) = no_flat seen _
-calms_asks_clear d marked (Cloaked c) = calms_clear d marked 0 _ (Cloaked c)
-calms_asks_clear d marked (Alone h) = no_alone h _
+calms_asks_clear d marked w = keeps_clear Calms calm_replies d marked w
 
 pub calms_writes : (q : PageId) (at width value : ℕ) (w : World) → Calms w (ask_write q at width value w).world
 unfolding ask_write
@@ -327,20 +244,11 @@ calms_copies d [] w = Calms-refl w
 calms_copies d (copy ∷ rest) w = Calms-trans _ _ _ (calms_copy d copy.0 copy.1 w) (calms_copies d rest _)
 
 pub calms_forgets : (d : ℕ) (list : List ℕ) (w : World) → Calms w (ask_forgets d list w).world
-unfolding ask_forgets
-calms_forgets d [] w = Calms-refl w
-calms_forgets d (n ∷ rest) w = Calms-trans _ _ _ (calms_forget d n w) (calms_forgets d rest _)
+calms_forgets d list w = keeps_forgets Calms Calms-refl Calms-trans calms_forget d list w
 
 -- The end of a domain meets nothing either.
-
-calms_for : (d f n : ℕ) (w : World) → Calms w (settled_for d f n w)
-unfolding settled_for
-calms_for d f zero w = Calms-refl w
-calms_for d f (suc n) w = Calms-trans _ _ _ (calms_if_marked d all_marked f w) (calms_for d (f + 1) n _)
-
 pub calms_end : (d : ℕ) (w : World) → Calms w (ask_end d w).world
-unfolding ask_end
-calms_end d w = Calms-trans _ _ _ (calms_for d 0 _ w) (calms_forgets d _ _)
+calms_end d w = keeps_end Calms calm_replies.opens.settles calms_forget d w
 
 pub is_cloaked_calm : (w : World) → Calm w → is_cloaked w ≡ true
 is_cloaked_calm (Flat seen) calm = absurd calm

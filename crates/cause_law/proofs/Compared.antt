@@ -46,19 +46,19 @@ both_false true b is other = absurd (false≢true (sym is))
 both_false false b is other = other
 
 -- Neither settling before a comparison lacked a draw, nor was one missing before.
-pub record Drawn (q : PageId) (g : ℕ) (m : CloakedMemory) : Type 0 where
+pub record LacksNoDraw (q : PageId) (g : ℕ) (m : CloakedMemory) : Type 0 where
   pub first : (settle g m).missed ≡ false
   pub second : (settle_frame_if (owing_frame (settle g m).memory q) (settle g m).memory).missed ≡ false
   pub before : m.ledger.missed ≡ false
 
-pub drawn_so : (q : PageId) (g : ℕ) (m : CloakedMemory) → (at_comparison q g m).ledger.missed ≡ false → Drawn q g m
+pub drawn_so : (q : PageId) (g : ℕ) (m : CloakedMemory) → (at_comparison q g m).ledger.missed ≡ false → LacksNoDraw q g m
 drawn_so q g m drawn =
     let m' : CloakedMemory = (settle g m).memory in
     let two = neither _ _ (sym (frame_marks (owing_frame m' q) m') ∙ drawn) in
     let one = neither _ _ (sym (settle_marks g m) ∙ two.1) in
     record { first = one.0; second = two.0; before = one.1 }
 
-so_drawn : (q : PageId) (g : ℕ) (m : CloakedMemory) → Drawn q g m → (at_comparison q g m).ledger.missed ≡ false
+so_drawn : (q : PageId) (g : ℕ) (m : CloakedMemory) → LacksNoDraw q g m → (at_comparison q g m).ledger.missed ≡ false
 so_drawn q g m drawn =
     let m' : CloakedMemory = (settle g m).memory in
     frame_marks (owing_frame m' q) m'

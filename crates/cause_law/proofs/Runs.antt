@@ -20,7 +20,7 @@ use Rattle.kernel_isolation.proofs.Isolated.{of_opened}
 use Rattle.kernel_isolation.proofs.Numbers.{number_at}
 use Rattle.kernel_isolation.proofs.Opened.{is_opened}
 use Rattle.kernel_isolation.proofs.Turns.{IsSteady, turn_is_alone}
-use Rattle.cause_law.specs.Causes.{moment_at, StepPresents, ViolationHasCause, PresentsContext, PresentsMapping, Presents, IsRefused, PresentedIsRefused, EndsBy, EndIsPresented, EndHasCause, CountIsPresented, CountHasCause, ListedHaveEnded, presented_root, can_run, context_running, StoppedEnds}
+use Rattle.cause_law.specs.Causes.{moment_at, StepPresents, ViolationHasCause, PresentsContext, PresentsMapping, Presents, EndsOrRefuses, PresentedIsRefused, EndsBy, EndIsPresented, EndHasCause, CountIsPresented, CountHasCause, ListedHaveEnded, presented_root, can_run, context_running, StoppedEnds}
 use Rattle.cause_law.specs.Presented.{hart_of_step, PresentsPage}
 use Rattle.cause_law.proofs.Ends.{LeavesList, turn_leaves, IsSound, answers_sound, answers_met, Does, IsSame, outside_does, inside_does}
 use Rattle.cause_law.proofs.Kept.{IsKept}
@@ -132,7 +132,7 @@ step_met : (m : Moment) → (joint_step m).violation ≡ (step_before_end m).vio
 unfolding joint_step
 step_met m = answers_met (hart_of_step m).inside (step_before_end m).violation (step_before_end m)
 
-presented_refused : (m : Moment) (v : Violation) → IsSteady m.joint → IsSound m.joint → Presents m v → IsRefused m v
+presented_refused : (m : Moment) (v : Violation) → IsSteady m.joint → IsSound m.joint → Presents m v → EndsOrRefuses m v
 presented_refused m v steady sound presents =
     let stopped = presented_violates m v sound.kept presents in
     record { met = step_met m ∙ stopped.violates; does = presented_ends m v steady sound presents stopped }

@@ -37,7 +37,7 @@ use Rattle.settling_ahead.proofs.Touching.{writes_touched_alone}
 use Rattle.kernel_isolation.proofs.Accounts.{ram_seen}
 use Rattle.kernel_isolation.proofs.Numbers.{number_at}
 use Rattle.kernel_isolation.proofs.Turns.{IsSteady}
-use Rattle.domain_isolation.proofs.InstructionScripts.{IsOwn, own_page}
+use Rattle.script_fold.proofs.InstructionScripts.{IsOwn, own_page}
 use Rattle.cause_law.specs.Causes.{kernel_ending, AsksToResume, context_running, can_run, presented_root, Presents, table_leads, IsLeft}
 use Rattle.cause_law.specs.Presented.{hart_of_step, StepsInside, world_inside, Differs, PresentsPage}
 use Rattle.cause_law.proofs.Kept.{IsKept, kept_settled}

@@ -38,9 +38,9 @@ use Rattle.domain_isolation.proofs.Answers.{IsServing}
 use Rattle.domain_isolation.proofs.Endings.{end_world, end_leaves}
 use Rattle.domain_isolation.proofs.InOrder.{decided, same_some, get_set_same}
 use Rattle.domain_isolation.proofs.Played.{answers_of, answer_items, played_items, played_stopped}
-use Rattle.domain_isolation.proofs.Scripts.{played}
+use Rattle.script_fold.proofs.Scripts.{played}
 use Rattle.domain_isolation.proofs.Steady.{is_halted}
-use Rattle.domain_isolation.proofs.StepScripts.{of_domain, step_scripted}
+use Rattle.script_fold.proofs.StepScripts.{of_domain, step_scripted}
 use Rattle.cause_law.specs.Causes.{kernel_ending, EndsOrStops}
 use Rattle.cause_law.specs.Presented.{hart_of_step}
 use Rattle.cause_law.proofs.Steps.{joint_outside, outside_turn}

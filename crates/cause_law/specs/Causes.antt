@@ -149,13 +149,13 @@ pub record CountsRefused (j j' : Joint) (v : Violation) : Type 0 where
   pub listed : j'.ended ≡ j.ended
 
 -- If one is presented, the step meets it, and does one or the other.
-pub record IsRefused (m : Moment) (v : Violation) : Type 0 where
+pub record EndsOrRefuses (m : Moment) (v : Violation) : Type 0 where
   pub met : (joint_step m).violation ≡ Some v
   pub does : EndsBy m.joint (joint_step m).joint v ⊎ CountsRefused m.joint (joint_step m).joint v
 
 abbrev pub RefusesPresented : Bundle → Run → Type 0
 RefusesPresented b r =
-    (n : ℕ) → n < length r.turns → (v : Violation) → Presents (moment_at b r n) v → IsRefused (moment_at b r n) v
+    (n : ℕ) → n < length r.turns → (v : Violation) → Presents (moment_at b r n) v → EndsOrRefuses (moment_at b r n) v
 
 abbrev pub PresentedIsRefused : Type 0
 PresentedIsRefused =

@@ -21,11 +21,11 @@ use Rattle.chain_arena.specs.contracts.cells.Cells as owner
 use Rattle.chain_arena.proofs.Memory.{BaseOf, mark}
 
 -- what the one field of the owner owns, and of the right to free: nothing
-abbrev pub Mark : El → Fml
-Mark E = (Struct (shape (owner.the_type (R E)))).own_val (tt, tt) (mark ∷ [])
+abbrev pub OwnsMark : El → Fml
+OwnsMark E = (Struct (shape (owner.the_type (R E)))).own_val (tt, tt) (mark ∷ [])
 
-pub mark_made : (E : El) {M : Type 1} {𝓤 : Ura M} (𝓛 : Logic 𝓤) → ent 𝓤 (emp 𝓤) (sem 𝓛 (Mark E))
-mark_made E 𝓛 = makes_shadow 𝓛 (Mark E) (λ vss. (tt, ((λ uss. (tt, tt)), tt))) (
+pub mark_made : (E : El) {M : Type 1} {𝓤 : Ura M} (𝓛 : Logic 𝓤) → ent 𝓤 (emp 𝓤) (sem 𝓛 (OwnsMark E))
+mark_made E 𝓛 = makes_shadow 𝓛 (OwnsMark E) (λ vss. (tt, ((λ uss. (tt, tt)), tt))) (
   (vstruct vnil ∷ [], tt),
   (refl, ((tt, (refl, tt)), tt)),
 )

@@ -67,9 +67,9 @@ one_file domains d a b n first second =
 -- Files in order.
 
 -- a file stands before each of these
-abbrev pub Before : FileContents → List FileContents → Type 0
-Before f [] = Unit {0}
-Before f (g ∷ files) = Precedes (stored_file f) (stored_file g) × Before f files
+abbrev pub PrecedesAll : FileContents → List FileContents → Type 0
+PrecedesAll f [] = Unit {0}
+PrecedesAll f (g ∷ files) = Precedes (stored_file f) (stored_file g) × PrecedesAll f files
 
 precedes_then : (f g h : FileContents) → Precedes (stored_file f) (stored_file g) →
     Precedes (stored_file g) (stored_file h) → Precedes (stored_file f) (stored_file h)
@@ -79,12 +79,12 @@ precedes_then f g h (inr first) (inl second) = inl (omega (arith, first.0, secon
 precedes_then f g h (inr first) (inr second) = inr (first.0 ∙ second.0, omega (arith, first.1, second.1))
 
 before_then : (f g : FileContents) (files : List FileContents) → Precedes (stored_file f) (stored_file g) →
-    Before g files → Before f files
+    PrecedesAll g files → PrecedesAll f files
 before_then f g [] first before = tt
 before_then f g (h ∷ files) first before =
     (precedes_then f g h first before.0, before_then f g files first before.1)
 
-pub rise_before : (f : FileContents) (files : List FileContents) → Rise (table_of (f ∷ files)) → Before f files
+pub rise_before : (f : FileContents) (files : List FileContents) → Rise (table_of (f ∷ files)) → PrecedesAll f files
 rise_before f [] rise = tt
 rise_before f (g ∷ files) rise = (rise.0, before_then f g files rise.0 (rise_before g files rise.1))
 
@@ -104,7 +104,7 @@ before_differs : (f g : FileContents) → Precedes (stored_file g) (stored_file 
 before_differs f g (inl less) same number = omega (arith, less, same)
 before_differs f g (inr less) same number = omega (arith, less.1, number)
 
-found_before : (f g : FileContents) (files : List FileContents) → Before g files → Has f files →
+found_before : (f g : FileContents) (files : List FileContents) → PrecedesAll g files → Has f files →
     Precedes (stored_file g) (stored_file f)
 found_before f g [] before has = absurd has
 found_before f g (h ∷ files) before (inl same) =
@@ -183,7 +183,7 @@ module _ (domains : List Domain) (d number n : ℕ) (here : IsAt domains d numbe
       other (sym domain) (one_file domains d g.number number n there here))
 
   files_apart : (f : FileContents) (files : List FileContents) (history : List Move) (page at : ℕ) → f.domain ≡ d →
-      f.number ≡ number → Before f files →
+      f.number ≡ number → PrecedesAll f files →
       latest (made_files domains files history) (page_of d n page) at ≡ latest history (page_of d n page) at
   files_apart f [] history page at domain same before = refl
   files_apart f (g ∷ files) history page at domain same before =

@@ -23,7 +23,7 @@ use Rattle.domain_isolation.proofs.InOrder.{decided}
 use Rattle.domain_isolation.proofs.Steady.{is_cloaked, replied_reach, replied_get, replied_put, replied_clear}
 use Rattle.kernel_isolation.proofs.Leading.{leads_inside}
 use Rattle.kernel_isolation.proofs.Settlings.{HasPlaces}
-use Rattle.script_fold.proofs.Questions.{Kept, keeps_inside_address, keeps_reach, keeps_get, keeps_put, keeps_clear}
+use Rattle.script_fold.proofs.Questions.{Kept, opens_of, replies_of, keeps_inside_address, keeps_reach, keeps_get, keeps_put, keeps_clear}
 use Rattle.chain_law.specs.Zeros.{IsFresh, FreshAreZeros, HaveVectors}
 use Rattle.chain_law.proofs.Zeros.{FreshStay, fresh_same, fresh_then, keeps_places, IsAtHand, offer_offered, settle_fresh, settle_cleans}
 
@@ -171,7 +171,7 @@ plain_get va width (Cloaked c) is = (replied_get va width (Cloaked c) refl).plai
 plain_get va width (Alone h) is = absurd (false≢true is)
 
 pub get_learns : (va width : ℕ) (w : World) → Learns w (ask_get va width w).world
-get_learns va width w = learns_stay w _ (keeps_get Stay kept va width w) (plain_get va width w)
+get_learns va width w = learns_stay w _ (keeps_get Stay (replies_of Stay kept) va width w) (plain_get va width w)
 
 plain_put : (va width value : ℕ) (w : World) → is_cloaked w ≡ true →
     plain_of (ask_put va width value w).world ≡ plain_of w
@@ -196,7 +196,7 @@ plain_clear domain marked (Alone h) is = absurd (false≢true is)
 
 pub clear_learns : (domain : ℕ) (marked : List Bool) (w : World) → Learns w (ask_clear domain marked w).world
 clear_learns domain marked w =
-    learns_stay w _ (keeps_clear Stay kept domain marked w) (plain_clear domain marked w)
+    learns_stay w _ (keeps_clear Stay (replies_of Stay kept) domain marked w) (plain_clear domain marked w)
 
 -- A page that was reached is at hand.
 
@@ -285,7 +285,7 @@ hand_by_table q va kind w places =
     let to = ask_inside_address va kind w in
     hand_drawn q (reached q va kind to.answer) to.world
     (hand_reached q va kind to.answer to.world
-    (stay_places w to.world (keeps_inside_address Stay kept va kind w) places)
+    (stay_places w to.world (keeps_inside_address Stay (opens_of Stay kept) va kind w) places)
     (λ pa is. ((leads_inside va kind w).inside pa is).0))
 
 hand_alone : (q : PageId) (w v : World) → is_cloaked w ≡ false → Stay w v → AtHandIn q v
@@ -498,7 +498,7 @@ pub clear_clears : (domain : ℕ) (marked : List Bool) (w : World) → KnowsIn w
 unfolding ask_clear
 clear_clears domain marked (Flat seen) knows is = absurd (stopped_ok is)
 clear_clears domain marked (Cloaked c) knows is =
-    cleared_world domain marked c _ (keeps_clear Stay kept domain marked (Cloaked c)) knows.0
+    cleared_world domain marked c _ (keeps_clear Stay (replies_of Stay kept) domain marked (Cloaked c)) knows.0
     (below_from domain marked 0 (length c.memory.ram) (Cloaked c) (λ f low. absurd (omega (arith, low))) is)
 clear_clears domain marked (Alone h) knows is =
-    λ resource of. none_alone domain resource h _ (keeps_clear Stay kept domain marked (Alone h))
+    λ resource of. none_alone domain resource h _ (keeps_clear Stay (replies_of Stay kept) domain marked (Alone h))

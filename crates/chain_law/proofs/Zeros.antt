@@ -172,7 +172,7 @@ abbrev pub IsAtHand : PageId → CloakedMemory → Type 0
 IsAtHand q m = m.ledger.missed ≡ false → IsFresh q m → ⊥
 
 -- What an offer of a page leaves: if it is ready, the page is at hand.
-pub record Offered (q : PageId) (g : ℕ) (m : CloakedMemory) (o : AfterOffer) : Type 0 where
+pub record OfferLeaves (q : PageId) (g : ℕ) (m : CloakedMemory) (o : AfterOffer) : Type 0 where
   pub stay : FreshStay m o.memory
   pub ready : g < length m.ledger.owed → o.answer ≡ Ready → IsAtHand q o.memory
 
@@ -195,7 +195,7 @@ compared_same a b m = record {
 }
 
 compared_offered : (q : PageId) (g : ℕ) (write : Bool) (o : Option (List ℕ)) (m : CloakedMemory) →
-    owed_in m g ≡ None → m.ledger.recorded q ≡ o → Offered q g m (compared q g write o m)
+    owed_in m g ≡ None → m.ledger.recorded q ≡ o → OfferLeaves q g m (compared q g write o m)
 unfolding compared
 compared_offered q g write None m clean recorded = record {
   stay = owed_fresh g q m clean;
@@ -210,7 +210,7 @@ compared_offered q g write (Some c) m clean recorded =
     (fresh_same m') in
     let known : (taken q g write m').ledger.recorded q ≡ Some c =
     either (λ (x : CloakedMemory). x.ledger.recorded q ≡ Some c) write (with_owed g (Some q) m') m' recorded recorded in
-    either (Offered q g m) (bytes_eq there c) (record { memory = taken q g write m'; ciphers = []; answer = Ready })
+    either (OfferLeaves q g m) (bytes_eq there c) (record { memory = taken q g write m'; ciphers = []; answer = Ready })
     (record { memory = m'; ciphers = []; answer = Mismatch })
     (record {
       stay = fresh_then m m' (taken q g write m') same took;
@@ -222,17 +222,17 @@ missed_ready : Missed ≡ Ready → ⊥
 missed_ready is = cc
 
 unless_offered : (q : PageId) (g : ℕ) (m : CloakedMemory) (s : AfterSettling) (next : CloakedMemory → AfterOffer) →
-    FreshStay m s.memory → Offered q g s.memory (next s.memory) → Offered q g m (unless_missed s next)
+    FreshStay m s.memory → OfferLeaves q g s.memory (next s.memory) → OfferLeaves q g m (unless_missed s next)
 unfolding unless_missed
 unless_offered q g m s next stay later =
-    either (Offered q g m) s.missed _ _
+    either (OfferLeaves q g m) s.missed _ _
     (record { stay = stay; ready = λ low is. absurd (missed_ready is) })
     (record {
       stay = fresh_then m s.memory (next s.memory).memory stay later.stay;
       ready = λ low. later.ready (subst (λ (k : ℕ). g < k) (sym stay.places) low);
     })
 
-pub offer_offered : (q : PageId) (g : ℕ) (write : Bool) (m : CloakedMemory) → Offered q g m (offer q g write m)
+pub offer_offered : (q : PageId) (g : ℕ) (write : Bool) (m : CloakedMemory) → OfferLeaves q g m (offer q g write m)
 unfolding offer
 offer_offered q g write m = by (owes q (owed_in m g)) refl
   where
@@ -245,12 +245,12 @@ offer_offered q g write m = by (owes q (owed_in m g)) refl
     next : CloakedMemory → AfterOffer
     next x = unless_missed (settle_frame_if (owing_frame x q) x) (λ y. compared q g write (y.ledger.recorded q) y)
 
-    last : Offered q g s'.memory (compared q g write (s'.memory.ledger.recorded q) s'.memory)
+    last : OfferLeaves q g s'.memory (compared q g write (s'.memory.ledger.recorded q) s'.memory)
     last = compared_offered q g write (s'.memory.ledger.recorded q) s'.memory
         (frame_clean (owing_frame m' q) m' g (settle_cleans g m).here) refl
 
     by : (b : Bool) → owes q (owed_in m g) ≡ b →
-        Offered q g m (cond b (record { memory = m; ciphers = []; answer = Ready }) (unless_missed (settle g m) next))
+        OfferLeaves q g m (cond b (record { memory = m; ciphers = []; answer = Ready }) (unless_missed (settle g m) next))
     by true is = record { stay = fresh_same m; ready = λ low ready. owed_at_hand g q m (owes_page q (owed_in m g) is) }
     by false is =
         unless_offered q g m (settle g m) next (settle_fresh g m)

@@ -11,15 +11,15 @@ use std::fs::{File, OpenOptions};
 use std::io::ErrorKind;
 use std::process::ExitCode;
 use std::{env, io};
-use system_io::{Console, FileShelf, StdSink, SystemDisk};
+use system_io::{FileShelf, StdSink, SystemConsole, SystemFiles};
 
 /// Files that hold the three standard streams.
-type Held = [File; 3];
+type HeldStreams = [File; 3];
 
 /// Opens the null device three times. The system gives each file the lowest descriptor that is free, so a standard
 /// stream that was closed when the program started is this device now, and no file that is opened later takes its
 /// place: a record there would be overwritten by what is shown.
-fn hold_streams(rt: &HostRuntime) -> io::Result<Held> {
+fn hold_streams(rt: &HostRuntime) -> io::Result<HeldStreams> {
     let open = || OpenOptions::new()
         .read(true)
         .write(true)
@@ -47,8 +47,8 @@ fn command_words(rt: &HostRuntime) -> ProgramWords {
 
 /// Runs the program with the files and the output of the system.
 fn run_here(rt: &HostRuntime, words: &ProgramWords) -> Result<Status, NoMemory> {
-    let mut shelf = FileShelf::open(rt.alloc(), SystemDisk::new(rt.clone()?))?;
-    let mut out = StdSink::open(rt.alloc(), Console::new(rt.clone()?))?;
+    let mut shelf = FileShelf::open(rt.alloc(), SystemFiles::new(rt.clone()?))?;
+    let mut out = StdSink::open(rt.alloc(), SystemConsole::new(rt.clone()?))?;
     Ok(run_program(rt.alloc(), words, &mut shelf, &mut out))
 }
 

@@ -33,12 +33,12 @@ use Rattle.cloaked_side.proofs.Spending.{maps_same}
 use Rattle.joint_machine.proofs.Mapped.{none_mapped}
 use Rattle.space_law.specs.Mapping.{mapped_in}
 use Rattle.cloaked_side.specs.declared.memory.Memory.{Memory}
-use Rattle.cloak_machine.specs.Counting.{Counts}
+use Rattle.cloak_machine.specs.Counting.{CountsAccesses}
 use Rattle.cloak_machine.specs.Lines.{lines_kept}
 use Rattle.cloak_machine.specs.Standing.{StandsForMoment, MakesTurn, EndsAs, FinishesAs, HaveFewLoads}
 use Rattle.cloak_machine.specs.Turns.{IsAt}
 use Rattle.kernel_report.specs.declared.console.Console.{Console}
-use Rattle.cloak_machine.specs.declared.end.End.{End}
+use Rattle.cloak_machine.specs.declared.end.RunEnd.{RunEnd}
 use Rattle.cloak_machine.specs.declared.machine.Machine.{Machine}
 use Rattle.cloak_machine.specs.declared.schedule.Schedule.{Schedule}
 use Rattle.cloak_machine.proofs.Opening.{begun}
@@ -112,9 +112,9 @@ next_number machine m number stands told =
     ∙ ap (λ (turns : List ℕ). slice_index turns (m.steps % length turns)) (sym stands.schedule)
 
 -- the counts go on with the fold after the step
-pub counts_behind : (old new : Machine) (m : Moment) (number : ℕ) (s : Fold) → number ≡ next_hart m → Counts old s →
+pub counts_behind : (old new : Machine) (m : Moment) (number : ℕ) (s : Fold) → number ≡ next_hart m → CountsAccesses old s →
     new.joint.memory.counting ≡ old.joint.memory.counting →
-    GoesBy old.joint.memory new.joint.memory (asked_with_end m.joint number) → Counts new (after_step m s)
+    GoesBy old.joint.memory new.joint.memory (asked_with_end m.joint number) → CountsAccesses new (after_step m s)
 unfolding after_step
 counts_behind old new m number s is counts same goes = record {
   counting = same ∙ counts.counting;
@@ -196,7 +196,7 @@ unfolding closing
 closed_console j = refl
 
 -- What is reported as a run closes.
-pub ended_as : {end : End} {stopped : Stop} (steps : ℕ) (closed : Joint) (missed : Bool) →
+pub ended_as : {end : RunEnd} {stopped : Stop} (steps : ℕ) (closed : Joint) (missed : Bool) →
     missed ≡ closed.memory.ledger.missed → end.stop ≡ (if missed then cause.NoRandom else stopped) →
     end.steps ≡ steps → end.draws ≡ closed.memory.ledger.draws → end.ended ≡ closed.ended →
     end.refused ≡ closed.refused → IsSaid end.lines (kernel_part closed) →
@@ -225,7 +225,7 @@ ended_as {end} {stopped} steps closed missed miss stop same draws ended refused 
 
 -- What is emitted and reported.
 pub finishes_as : {E : Type 0} {gave : E → E → List Piece → Type 0} {e f g h : E} {joint : Machines} {machine : Machine}
-    {end : End} {stopped : Stop} (m : Moment) → StandsForMoment machine m →
+    {end : RunEnd} {stopped : Stop} (m : Moment) → StandsForMoment machine m →
     Emits gave e f (item_pieces (item.Close machine.steps ∷ [])) → ShowsAs gave f g joint (closing m.joint) →
     Emits gave g h (item_pieces (item.End ∷ [])) → EndsAs end stopped machine.steps (closing m.joint).joint →
     FinishesAs gave e h end stopped m (closing m.joint)

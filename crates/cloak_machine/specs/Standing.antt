@@ -26,7 +26,7 @@ use Rattle.joint_machine.specs.declared.placings.Placing.{Placing}
 use Rattle.kernel_report.specs.Console.{ConsoleShows}
 use Rattle.cloak_machine.specs.Ending.{end_report, end_short_report, line_in, short_report}
 use Rattle.cloak_machine.specs.Turns.{IsAt}
-use Rattle.cloak_machine.specs.declared.end.End.{End}
+use Rattle.cloak_machine.specs.declared.end.RunEnd.{RunEnd}
 use Rattle.cloak_machine.specs.declared.machine.Machine.{Machine}
 
 -- the steps that a machine made
@@ -112,7 +112,7 @@ pub record ArePartsOf (parts : JointParts) (j : model.Joint) : Type 0 where
   pub refused : parts.refused ≡ j.refused
 
 -- the end of a run that this stopped after this many steps, and that closed as this machine
-pub record EndsAs (end : End) (stopped : Stop) (count : ℕ) (closed : model.Joint) : Type 0 where
+pub record EndsAs (end : RunEnd) (stopped : Stop) (count : ℕ) (closed : model.Joint) : Type 0 where
   pub steps : end.steps ≡ count
   pub draws : end.draws ≡ closed.memory.ledger.draws
   pub ended : end.ended ≡ closed.ended
@@ -124,7 +124,7 @@ pub record EndsAs (end : End) (stopped : Stop) (count : ℕ) (closed : model.Joi
       line_in end d ≡ domain_line program
 
 -- what the closing of a run that this stopped emits, if it closes like this, and what is reported then
-pub record FinishesAs {E : Type 0} (gave : E → E → List Piece → Type 0) (e e' : E) (end : End) (stopped : Stop)
+pub record FinishesAs {E : Type 0} (gave : E → E → List Piece → Type 0) (e e' : E) (end : RunEnd) (stopped : Stop)
     (m : Moment) (closed : Opened) : Type 0 where
   pub emits : Emits gave e e' (item_pieces (item.Close m.steps ∷ (closed.items ++ item.End ∷ [])))
   pub steps : end.steps ≡ m.steps

@@ -7,7 +7,7 @@ ghost use Rattle.kernel_report.specs.Console.{ConsoleShows};
 ghost use Rattle.cloak_machine.specs.Standing.{ArePartsOf, EndsAs};
 
 use crate::domains::DomainLines;
-use crate::end::{End, kernel_lines_of};
+use crate::end::{RunEnd, kernel_lines_of};
 use cloak_base::Stop;
 use joint_machine::JointParts;
 use kernel_report::Console;
@@ -20,7 +20,7 @@ fn stop_of(missed: bool, stop: Stop) -> Stop
 }
 
 /// The end of a run that this stopped, by the parts of its closed machine.
-pub(crate) fn end_of(parts: JointParts, stop: Stop, steps: u32, console: Console) -> End
+pub(crate) fn end_of(parts: JointParts, stop: Stop, steps: u32, console: Console) -> RunEnd
     requires outside { (k : ℕ) → held_in parts.memory.pager k ≡ None }
     requires few { length parts.domains.items ≤ 4 }
     ensures { (closed : model.Joint) → ArePartsOf parts closed → ConsoleShows console closed.console →
@@ -34,7 +34,7 @@ pub(crate) fn end_of(parts: JointParts, stop: Stop, steps: u32, console: Console
         ended,
         refused,
     } = parts;
-    End {
+    RunEnd {
         stop: stop_of(memory.missed, stop),
         steps,
         draws: memory.draws,

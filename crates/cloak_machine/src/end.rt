@@ -23,7 +23,7 @@ use sha2::{Digest, Sha256};
 
 /// A run that is over, with all that its report says.
 #[derive(Drop)]
-pub struct End {
+pub struct RunEnd {
     pub stop: Stop,
     /// The steps that were made.
     pub steps: u32,
@@ -177,7 +177,7 @@ fn put_lines<O: Sink>(out: &mut O, so_far: SoFar, lines: &[DomainLine]) -> SoFar
     so_far
 }
 
-impl End {
+impl RunEnd {
     ghost use Rattle.cloak_machine.specs.Ending.{end_is_refused, end_report, end_short_report, line_in};
 
     /// Whether a domain ended, or a resuming was refused of which none was left to end.

@@ -16,7 +16,7 @@ ghost use Rattle.joint_machine.specs.Standing.{AllOutside, LendsPager, harts_of,
 ghost use Rattle.kernel_report.specs.Console.{ConsoleShows};
 
 use crate::closing::end_of;
-use crate::end::End;
+use crate::end::RunEnd;
 use crate::schedule::Schedule;
 use arrayvec::ArrayVec;
 use cloak_base::Stop;
@@ -73,7 +73,7 @@ fn show<E: Emit>(console: &mut Console, byte: Option<u8>, e: &mut E)
 impl Machine {
     ghost use Rattle.cloak_machine.specs.Standing.{FinishesAs, MakesTurn, Opens, OpensStored, ShowsOpening};
     ghost use Rattle.cloak_machine.specs.Standing.{StandsForMoment, length_of_disk, placings_of, steps_made};
-    ghost use Rattle.cloak_machine.specs.Counting.{Counts, spent_by};
+    ghost use Rattle.cloak_machine.specs.Counting.{CountsAccesses, spent_by};
     ghost use Rattle.shadow_fold.specs.Events.{after_step, asked_in};
     ghost use Rattle.shadow_fold.specs.Fold.{Fold, fresh_fold};
     ghost use Rattle.shadow_fold.specs.Reads.{Spends, reads_due};
@@ -163,14 +163,15 @@ impl Machine {
         ensures placings { placings_of self.new ≡ placings_of self.old }
         ensures stands { (m : Moment) → StandsForMoment self.old m → StandsForMoment self.new m }
         ensures counts { steps_made self.old ≡ 0 → (m : Moment) → StandsForMoment self.old m →
-            ((f : ℕ) → owed_in m.joint.memory f ≡ None) → Counts self.new (fresh_fold (length m.joint.memory.ram)) }
+            ((f : ℕ) → owed_in m.joint.memory f ≡ None) →
+            CountsAccesses self.new (fresh_fold (length m.joint.memory.ram)) }
     {
         self.joint.count_accesses();
     }
 
     /// How often a translation was asked for, was not known, and all that were known ended for want of room.
     pub fn counts(&self) -> ShadowCounts
-        ensures counted { (s : Fold) → Counts self.now s → result ≡ s.table.counts }
+        ensures counted { (s : Fold) → CountsAccesses self.now s → result ≡ s.table.counts }
         ensures misses { result.misses ≡ (spent_by self.now).misses }
     {
         self.joint.counts()
@@ -187,8 +188,8 @@ impl Machine {
         ensures makes { (m : Moment) → StandsForMoment self.old m →
             (joint_step m).joint.memory.ledger.clashed ≡ false →
             MakesTurn E.gave e.old e.new self.new result m (joint_step m) }
-        ensures counts { (m : Moment) (s : Fold) → StandsForMoment self.old m → Counts self.old s →
-            (joint_step m).joint.memory.ledger.clashed ≡ false → Counts self.new (after_step m s) }
+        ensures counts { (m : Moment) (s : Fold) → StandsForMoment self.old m → CountsAccesses self.old s →
+            (joint_step m).joint.memory.ledger.clashed ≡ false → CountsAccesses self.new (after_step m s) }
         ensures reads { (m : Moment) → StandsForMoment self.old m → (joint_step m).joint.memory.ledger.clashed ≡ false →
             Spends 0 (reads_due (asked_in m)) (spent_by self.old) (spent_by self.new) }
     {
@@ -224,7 +225,7 @@ impl Machine {
         e: &mut E,
         files: &mut FileTable,
         disk: &mut [u8],
-    ) -> End
+    ) -> RunEnd
         requires empty { files.old ≡ [] }
         requires disk { length disk.old ≡ length_of_disk self }
         ensures emits_some { EmitsSome E.gave e.old e.new }
@@ -250,7 +251,7 @@ impl Machine {
     }
 
     /// Makes the closing of a run that this stopped.
-    pub fn finish<E: Emit>(self, stop: Stop, e: &mut E) -> End
+    pub fn finish<E: Emit>(self, stop: Stop, e: &mut E) -> RunEnd
         ensures emits_some { EmitsSome E.gave e.old e.new }
         ensures ends { (m : Moment) → StandsForMoment self m →
             FinishesAs E.gave e.old e.new result stop m (closing m.joint) }

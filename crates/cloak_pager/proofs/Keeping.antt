@@ -7,7 +7,7 @@ use Rattle.cloak_base.specs.declared.names.PageId.{PageId}
 use Rattle.cloak_base.specs.Pages.{with_page}
 use Rattle.cloak_base.specs.declared.names.Meta.{Meta}
 use Rattle.protect_meta.specs.PageRow.{HasValues}
-use Rattle.protect_meta.specs.Table.{Table, meta_at, domains_of}
+use Rattle.protect_meta.specs.Table.{MetaRow, meta_at, domains_of}
 use Rattle.cloak_pager.specs.Homes.{HomeTable, home_at}
 use Rattle.cloak_pager.specs.State.{PagerState, IsWholePager, IsWholeWithHomes, Names, AreNoted, page_of, right_at}
 use Rattle.cloak_pager.specs.State.{held_in}
@@ -53,7 +53,7 @@ right_put rights f h k q inside held =
     ]
 
 -- a right that names frame k still does if the metadata of its page did not go
-pub names_stay : (t t' : Table) (k : ℕ) (h : FrameRight) → domains_of t' ≡ domains_of t →
+pub names_stay : (t t' : MetaRow) (k : ℕ) (h : FrameRight) → domains_of t' ≡ domains_of t →
     ((o : PageId) → page_of h ≡ Some o → meta_at t o ≢ None → meta_at t' o ≢ None) → Names t k h → Names t' k h
 names_stay t t' k (Outside r) d keeps n = n
 names_stay t t' k (Clean r) d keeps n = (n.0, rw d n.1, keeps r.page refl n.2)
@@ -96,7 +96,7 @@ kept_still p p' homes frames metas k t long keeps = record {
 }
 
 -- metadata alone was written
-pub table_turned : (p : PagerState) (table' : Table) (metas : PageId → Option Meta) → HasValues p.table table' metas →
+pub table_turned : (p : PagerState) (table' : MetaRow) (metas : PageId → Option Meta) → HasValues p.table table' metas →
     MetasTurn p (record p { table = table' }) metas
 table_turned p table' metas now = record {
   frames_are = refl;
@@ -107,7 +107,7 @@ table_turned p table' metas now = record {
   reads_stay = refl;
 }
 
-pub kept_table : {p : PagerState} {homes : HomeTable} {table' : Table} {metas : PageId → Option Meta} →
+pub kept_table : {p : PagerState} {homes : HomeTable} {table' : MetaRow} {metas : PageId → Option Meta} →
     IsWholeWithHomes p homes → HasValues p.table table' metas →
     ((k : ℕ) (o : PageId) → held_in p k ≡ Some o → meta_at p.table o ≢ None → metas o ≢ None) →
     IsWholeWithHomes (record p { table = table' }) homes

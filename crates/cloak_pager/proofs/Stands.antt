@@ -31,7 +31,7 @@ owed_by_right p w m s f =
 
 -- The pager and the memory, turned at frame f, which has this right and these bytes now, and at page q, if one is
 -- named: all other frames and pages are as they were.
-pub record Turned (p p' : PagerState) (w w' : PageId → Bool) (m m' : CloakedMemory) (f : ℕ) (h : FrameRight) (bytes : List ℕ)
+pub record TurnedAt (p p' : PagerState) (w w' : PageId → Bool) (m m' : CloakedMemory) (f : ℕ) (h : FrameRight) (bytes : List ℕ)
     (q : Option PageId) : Type 0 where
   pub whole : IsWholePager p'
   pub frames : p'.frames ≡ slice_set p.frames f bytes
@@ -108,7 +108,7 @@ frame_stays p p' w w' m m' g Spent b e k same s = s
 
 pub stands_turned : (p p' : PagerState) (w w' : PageId → Bool) (m m' : CloakedMemory) (f : ℕ) (h : FrameRight)
     (bytes : List ℕ) (q : Option PageId) →
-    StandsForMemory p w m → Turned p p' w w' m m' f h bytes q → StandsForMemory p' w' m'
+    StandsForMemory p w m → TurnedAt p p' w w' m m' f h bytes q → StandsForMemory p' w' m'
 stands_turned p p' w w' m m' f h bytes q s t = record {
   whole = t.whole;
   keys = t.keys_same ∙ (s.keys ∙ sym t.keys);

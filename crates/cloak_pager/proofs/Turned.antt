@@ -15,7 +15,7 @@ use Rattle.frame_store.specs.Rights.{Holding}
 use Rattle.page_states.specs.Opening.{OpensTo}
 use Rattle.cloak_base.specs.declared.names.Meta.{Meta}
 use Rattle.protect_meta.specs.PageRow.{HasValues}
-use Rattle.protect_meta.specs.Table.{Table, meta_at}
+use Rattle.protect_meta.specs.Table.{MetaRow, meta_at}
 use Rattle.protect_meta.specs.Pages.{IsIn}
 use Rattle.cloak_pager.specs.Homes.{HomeTable, home_at}
 use Rattle.cloak_pager.specs.State.{PagerState, IsWholePager, IsWholeWithHomes, Names, AreNoted, page_of, right_at}
@@ -29,7 +29,7 @@ use Rattle.cloak_pager.proofs.Pages.{with_page-same, with_page-other}
 use Rattle.cloak_pager.proofs.Keeping.{HasRight, named_as, whole_turned, noted_still, noted_new}
 
 -- the pager with these frames, with this right put in a place from which one was taken, and with this metadata
-abbrev pub put : PagerState → List (List ℕ) → ℕ → FrameRight → FrameRight → Table → PagerState
+abbrev pub put : PagerState → List (List ℕ) → ℕ → FrameRight → FrameRight → MetaRow → PagerState
 put p frames f spent h table =
     record p { frames = frames; rights = slice_set (slice_set p.rights f spent) f h; table = table }
 
@@ -40,10 +40,10 @@ written frames frames' k f made is wrote =
     let F : ℕ → Type 0 = λ x. frames' ≡ slice_set frames x (made (get_or frames x [])) in subst F is wrote
 
 -- a table of which nothing was written
-pub same_metas : (t : Table) → HasValues t t (meta_at t)
+pub same_metas : (t : MetaRow) → HasValues t t (meta_at t)
 same_metas t = record { values_are = λ o. refl; domains_stay = refl }
 
-pub turns_put : (p : PagerState) (frames' : List (List ℕ)) (f : ℕ) (spent h h' : FrameRight) (bytes : List ℕ) (table' : Table)
+pub turns_put : (p : PagerState) (frames' : List (List ℕ)) (f : ℕ) (spent h h' : FrameRight) (bytes : List ℕ) (table' : MetaRow)
     (metas : PageId → Option Meta) →
     frames' ≡ slice_set p.frames f bytes → h ≡ h' → HasValues p.table table' metas →
     Turns p (put p frames' f spent h table') (slice_set p.frames f bytes) (slice_set p.rights f h') metas
@@ -58,7 +58,7 @@ turns_put p frames' f spent h h' bytes table' metas wrote is now = record {
 
 -- the pager is kept with the homes that it has then
 pub kept_put : (p : PagerState) (homes homes' : HomeTable) (frames' : List (List ℕ)) (f : ℕ) (spent h h' : FrameRight)
-    (bytes : List ℕ) (table' : Table) (metas : PageId → Option Meta) →
+    (bytes : List ℕ) (table' : MetaRow) (metas : PageId → Option Meta) →
     IsWholeWithHomes p homes → f < length p.frames →
     Turns p (put p frames' f spent h table') (slice_set p.frames f bytes) (slice_set p.rights f h') metas →
     Names table' f h' → ((o : PageId) → meta_at p.table o ≢ None → metas o ≢ None) →
@@ -88,7 +88,7 @@ of_held q P right page here o held =
 
 -- a frame goes outside: kept, whatever it shows
 pub kept_outside : (p : PagerState) (homes : HomeTable) (frames' : List (List ℕ)) (f : ℕ) (spent : FrameRight) (out : Frame)
-    (bytes : List ℕ) (table' : Table) (metas : PageId → Option Meta) →
+    (bytes : List ℕ) (table' : MetaRow) (metas : PageId → Option Meta) →
     IsWholeWithHomes p homes → f < length p.frames → out.0 ≡ f → frames' ≡ slice_set p.frames f bytes →
     HasValues p.table table' metas → ((o : PageId) → meta_at p.table o ≢ None → metas o ≢ None) →
     IsWholeWithHomes (put p frames' f spent (Outside out) table') homes
@@ -144,7 +144,7 @@ reseal_turns {p} {frames'} {f} {r} {t} {out} {key} spent right under meta wrote 
 
 -- Sealing.
 
-pub seal_kept : {p : PagerState} {homes : HomeTable} {frames' : List (List ℕ)} {f : ℕ} {r : Holding} {table' : Table}
+pub seal_kept : {p : PagerState} {homes : HomeTable} {frames' : List (List ℕ)} {f : ℕ} {r : Holding} {table' : MetaRow}
     {out : Frame} (key iv : List ℕ) (page : PageId) (t : Meta) (spent : FrameRight) →
     IsWholeWithHomes p homes → HasRight p f (Changed r) →
     frames' ≡ slice_set p.frames r.frame.0 (cbc key iv (bytes_in p r.frame.0)) →
@@ -157,7 +157,7 @@ seal_kept {p} {homes} {frames'} {f} {r} {table'} {out} key iv page t spent k rig
     (ap (λ (x : Frame). x.0) is ∙ here) (written p.frames frames' r.frame.0 f (λ old. cbc key iv old) here wrote) now
     (set_keeps (meta_at p.table) page t)
 
-pub seal_turns : {p : PagerState} {frames' : List (List ℕ)} {f : ℕ} {r : Holding} {iv : List ℕ} {table' : Table}
+pub seal_turns : {p : PagerState} {frames' : List (List ℕ)} {f : ℕ} {r : Holding} {iv : List ℕ} {table' : MetaRow}
     {page : PageId} {out : Frame} {key : List ℕ} (t : Meta) (spent : FrameRight) →
     HasRight p f (Changed r) → key ≡ key_for p page →
     frames' ≡ slice_set p.frames r.frame.0 (cbc key iv (bytes_in p r.frame.0)) →
@@ -335,7 +335,7 @@ put_back {p} {frames'} {f} {r} {same} spent right is =
 -- Placing.
 
 pub place_turns : {p : PagerState} {frames' : List (List ℕ)} {f : ℕ} {r : Frame} {digest c key : List ℕ}
-    {table' : Table} (q : PageId) (bytes iv : List ℕ) →
+    {table' : MetaRow} (q : PageId) (bytes iv : List ℕ) →
     HasRight p f (Outside r) → frames' ≡ slice_set p.frames r.0 c → key ≡ key_for p q → c ≡ cbc key iv bytes →
     digest ≡ sha256 c →
     HasValues p.table table' (with_page (meta_at p.table) q (Some (record { iv = iv; digest = digest }))) →

@@ -4,7 +4,7 @@ use Rattle.cloak_base.specs.declared.names.PageId.{PageId}
 use Rattle.cloak_base.specs.Pages.{is_of}
 use Rattle.cloak_model.specs.Ledger.{Keys, key_in}
 use Rattle.protect_meta.specs.Pages.{IsIn}
-use Rattle.protect_meta.specs.Table.{Table, meta_at, domains_of}
+use Rattle.protect_meta.specs.Table.{MetaRow, meta_at, domains_of}
 use Rattle.cloak_pager.specs.Homes.{HomeTable, home_at}
 use Rattle.cloak_pager.specs.declared.frame_right.FrameRight.{FrameRight}
 use Rattle.cloak_pager.specs.declared.frame_right.FrameRight.TheVariants.{Outside, Clean, Changed, Spent}
@@ -14,7 +14,7 @@ pub record PagerState : Type 0 where
   pub frames : List (List ℕ)
   pub rights : List FrameRight
   -- the metadata of the pages that were shown
-  pub table : Table
+  pub table : MetaRow
   pub keys : Keys
   -- how often an outside frame was read
   pub reads : ℕ
@@ -66,7 +66,7 @@ abbrev pub IsNoneHeld : PagerState → ℕ → ℕ → Type 0
 IsNoneHeld p domain resource = (k : ℕ) (q : PageId) → held_in p k ≡ Some q → is_of domain resource q ≡ false
 
 -- This right is one for frame k, of a page that there is. A page that is held unchanged has metadata.
-abbrev pub Names : Table → ℕ → FrameRight → Type 0
+abbrev pub Names : MetaRow → ℕ → FrameRight → Type 0
 Names t k (Outside r) = r.0 ≡ k
 Names t k (Clean r) = (r.frame.0 ≡ k) × IsIn (domains_of t) r.page × (meta_at t r.page ≢ None)
 Names t k (Changed r) = (r.frame.0 ≡ k) × IsIn (domains_of t) r.page

@@ -10,15 +10,15 @@ use std::fs::{File, OpenOptions};
 use std::io::ErrorKind;
 use std::process::ExitCode;
 use std::{env, io};
-use system_io::{Console, FileShelf, StdSink, SystemDisk};
+use system_io::{FileShelf, StdSink, SystemConsole, SystemFiles};
 use tool_commands::{CommandLine, run_tools, sentence};
 
 /// Files that hold the three standard streams.
-type Held = [File; 3];
+type HeldStreams = [File; 3];
 
 /// Opens the null device three times, so that a standard stream that was closed when the program started is this device
 /// now, and no file that is opened later takes its place.
-fn hold_streams(rt: &HostRuntime) -> io::Result<Held> {
+fn hold_streams(rt: &HostRuntime) -> io::Result<HeldStreams> {
     let open = || OpenOptions::new()
         .read(true)
         .write(true)
@@ -45,8 +45,8 @@ fn command_line(rt: &HostRuntime) -> CommandLine {
 
 /// Runs the tools with the files and the output of the system.
 fn run_here(rt: &HostRuntime) -> Result<Status, NoMemory> {
-    let mut shelf = FileShelf::open(rt.alloc(), SystemDisk::new(rt.clone()?))?;
-    let mut out = StdSink::open(rt.alloc(), Console::new(rt.clone()?))?;
+    let mut shelf = FileShelf::open(rt.alloc(), SystemFiles::new(rt.clone()?))?;
+    let mut out = StdSink::open(rt.alloc(), SystemConsole::new(rt.clone()?))?;
     Ok(run_tools(rt.alloc(), &command_line(rt), &mut shelf, &mut out))
 }
 

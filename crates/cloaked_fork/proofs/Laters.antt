@@ -1,5 +1,5 @@
 -- What a fork and an end do to the world never goes back, and what follows their questions follows them.
-use Rattle.std.proofs.Common.{◌≡◌, ℕ, Bool, true, false, List, Option, Result, Ok, Err, subst, sym}
+use Rattle.std.proofs.Common.{◌≡◌, ℕ, false, List, Option, Ok, subst, sym}
 use Rattle.cloak_model.specs.declared.answer.Answer.{Answer}
 use Rattle.cloak_model.specs.declared.answer.Answer.TheVariants as told
 use Rattle.cloak_model.specs.World.{World}
@@ -9,9 +9,7 @@ use Rattle.std.specs.List.{list_any}
 use Rattle.cloak_model.specs.Contexts.{Context, end_at}
 use Rattle.cloak_model.specs.Resources.{Resources}
 use Rattle.cloak_model.specs.Fork.{Fork, End, marked, fork_fits, fork_cleared, fork_if, fork, is_of_space, end_cleared, end_if, end_context}
-use Rattle.cloak_model.specs.declared.resource.MapFault.{MapFault}
-use Rattle.cloak_model.proofs.Later.{IsLater, IsLater-refl, IsLater-trans}
-use Rattle.cloak_model.proofs.PagesLater.{later_clear}
+use Rattle.cloak_model.proofs.Later.{IsLater, IsLater-refl}
 use Rattle.cloak_model.proofs.Following.{then_follows}
 use Rattle.cloaked_fork.specs.Left.{lowest}
 use Rattle.cloaked_fork.proofs.Asks.{later_copies, later_forgets}
@@ -29,24 +27,6 @@ later_end_cleared domain slot space r contexts told.Ok w = later_forgets domain 
 later_end_cleared domain slot space r contexts (told.Absent cause) w = IsLater-refl w
 later_end_cleared domain slot space r contexts (told.Word value) w = IsLater-refl w
 later_end_cleared domain slot space r contexts told.Stopped w = IsLater-refl w
-
-later_fork_if : (fits : Result (Unit {0}) MapFault) (domain : ℕ) (c : Context) (r : Resources) (contexts : List (Option Context)) (w : World) → IsLater w (fork_if fits domain c r contexts w).world
-unfolding fork_if
-later_fork_if (Err fault) domain c r contexts w = IsLater-refl w
-later_fork_if (Ok fits) domain c r contexts w = IsLater-trans _ _ _ (later_clear domain _ w) (later_fork_cleared domain c _ _ r contexts _ _)
-
-pub later_fork : (domain : ℕ) (c : Context) (r : Resources) (contexts : List (Option Context)) (w : World) → IsLater w (fork domain c r contexts w).world
-unfolding fork
-later_fork domain c r contexts w = later_fork_if _ domain c r contexts w
-
-later_end_if : (others : Bool) (domain slot space : ℕ) (r : Resources) (contexts : List (Option Context)) (w : World) → IsLater w (end_if others domain slot space r contexts w).world
-unfolding end_if
-later_end_if true domain slot space r contexts w = IsLater-refl w
-later_end_if false domain slot space r contexts w = IsLater-trans _ _ _ (later_clear domain _ w) (later_end_cleared domain slot space r contexts _ _)
-
-pub later_end_context : (domain slot space : ℕ) (r : Resources) (contexts : List (Option Context)) (w : World) → IsLater w (end_context domain slot space r contexts w).world
-unfolding end_context
-later_end_context domain slot space r contexts w = later_end_if _ domain slot space r contexts w
 
 module _ {S : Type 0} (stands_for : S → S → World → Type 0) (old mid new : S) (domain : ℕ) where
   -- a fork for which there is room

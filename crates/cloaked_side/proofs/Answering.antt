@@ -22,8 +22,8 @@ use Rattle.cloak_model.specs.Cloaking.{CloakedMemory, Offer, offer}
 use Rattle.cloak_model.specs.Exchange.{Piece, Emits, item_pieces}
 use Rattle.cloaked_side.specs.Holding.{Holds}
 use Rattle.cloaked_side.specs.Offering.{Offers, offer_of}
-use Rattle.cloaked_side.specs.declared.memory.Offer.{Offer as Ended}
-use Rattle.cloaked_side.specs.declared.memory.Offer.TheVariants as ended
+use Rattle.cloaked_side.specs.declared.memory.EndedOffer.{EndedOffer as Ended}
+use Rattle.cloaked_side.specs.declared.memory.EndedOffer.TheVariants as ended
 use Rattle.cloaked_side.proofs.Emitting.{emits_items}
 use Rattle.cloaked_side.proofs.Sided.{Repaged, still_turned, sees_still}
 use Rattle.cloaked_side.proofs.Tracking.{respaced, tracks_on}

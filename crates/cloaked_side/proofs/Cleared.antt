@@ -25,7 +25,7 @@ use Rattle.cloak_pager.proofs.Touches.{settle_none}
 use Rattle.cloak_pager.proofs.Writes.{held_within}
 use Rattle.cloak_pager.proofs.Pages.{same_or_not}
 use Rattle.cloaked_side.specs.Holding.{Holds, HoldsNoMore, Settles, frames_of}
-use Rattle.cloaked_side.specs.Seeing.{Sees, Shows, asked_by}
+use Rattle.cloaked_side.specs.Seeing.{Sees, ShowsWorld, asked_by}
 use Rattle.shadow_fold.specs.Reads.{Spends, reads_due}
 use Rattle.shadow_fold.specs.Table.{Table}
 use Rattle.cloaked_side.proofs.Spending.{due_events, maps_further, maps_of, maps_on, maps_same, maps_still, spends_more, spends_still, spends_then}
@@ -202,7 +202,7 @@ none_held_still p p' domain r less none k q e = none k q (less.held k q e)
 
 -- A frame was settled that was owed nothing: all but what the fold has of it is as it was.
 
-pub shows_of : {E : Type 0} (gave : E → E → List Piece → Type 0) (first now : Side E) (w : World) → Sees gave first now w → Shows gave first now w
+pub shows_of : {E : Type 0} (gave : E → E → List Piece → Type 0) (first now : Side E) (w : World) → Sees gave first now w → ShowsWorld gave first now w
 shows_of gave first now (Flat ram) sees = sees
 shows_of gave first now (Alone handed) sees = sees
 shows_of gave first now (Cloaked c) sees = record {
@@ -221,7 +221,7 @@ pub shows_settled : {E : Type 0} (gave : E → E → List Piece → Type 0) (fir
     Spends 0 (length (settle f m).ciphers) (spent_in old.memory.now) (spent_in new.memory.now)) →
     MapsStill old.memory.now new.memory.now →
     new.violation ≡ old.violation → new.regime ≡ old.regime → new.space ≡ old.space →
-    owed_at old.memory.now.pager f ≡ None → Shows gave first old w → Shows gave first new w
+    owed_at old.memory.now.pager f ≡ None → ShowsWorld gave first old w → ShowsWorld gave first new w
 shows_settled gave first old new f (Flat ram) settles spends maps violation regime space none shows = shows
 shows_settled gave first old new f (Alone handed) settles spends maps violation regime space none shows = shows
 shows_settled gave first old new f (Cloaked c) settles spends maps violation regime space none shows =
@@ -300,7 +300,7 @@ pub sees_dropped : {E : Type 0} (gave : E → E → List Piece → Type 0) (firs
     new.space ≡ begun.space →
     TracksBy begun.memory.now new.memory.now (touched_where (is_of domain r)) →
     new.memory.now.pager.reads ≡ old.memory.now.pager.reads → new.memory.now.shadows ≡ old.memory.now.shadows →
-    Sees gave first begun w → Shows gave first old w →
+    Sees gave first begun w → ShowsWorld gave first old w →
     FollowsFrom (λ side v. Sees gave first side v) new (tt {0}) (ask_forget domain r w)
 unfolding ask_forget drop_pages
 sees_dropped gave first begun old new domain r (Flat ram) same still meets space tracks reads shadows sees shows = absurd sees

@@ -12,7 +12,7 @@ use Rattle.cloak_model.specs.Exchange.{Piece, Emits, item_pieces}
 use Rattle.cloak_model.specs.Fork.{ask_forgets}
 use Rattle.cloak_model.specs.Opening.{numbers_below}
 use Rattle.cloak_model.specs.World.{World, items_of, ram_of}
-use Rattle.protect_meta.specs.Table.{Table}
+use Rattle.protect_meta.specs.Table.{MetaRow}
 use Rattle.cloak_pager.specs.State.{PagerState, IsWholePager, IsNoneHeld, Names, held_in, page_of, right_at}
 use Rattle.cloak_pager.specs.declared.frame_right.FrameRight.{FrameRight}
 use Rattle.cloak_pager.specs.declared.frame_right.FrameRight.TheVariants.{Outside, Clean, Changed, Spent}
@@ -85,7 +85,7 @@ held_next d n p p' less before here r low = elim (same_or_not r n) [
   | inr other ↦ none_held_still p p' d r less (before r (omega (arith, low, other)))
 ]
 
-page_in : (t : Table) (k : ℕ) (q : PageId) (h : FrameRight) → Names t k h → page_of h ≡ Some q → q.resource < 16
+page_in : (t : MetaRow) (k : ℕ) (q : PageId) (h : FrameRight) → Names t k h → page_of h ≡ Some q → q.resource < 16
 page_in t k q (Outside r) named is = (let clash : None ≡ Some q = is in cc)
 page_in t k q (Clean r) named is =
     let same : r.page ≡ q = cc in subst (λ (x : PageId). x.resource < 16) same named.1.resource

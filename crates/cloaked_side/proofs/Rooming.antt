@@ -34,8 +34,8 @@ use Rattle.cloaked_side.proofs.Spending.{spends_more}
 use Rattle.cloaked_side.proofs.Emitting.{emits_none}
 use Rattle.cloaked_side.specs.Offering.{behind_ciphers, offer_left, Rooms, Offers, offer_of}
 use Rattle.cloaked_side.specs.declared.memory.Memory.{Memory}
-use Rattle.cloaked_side.specs.declared.memory.Offer.{Offer as Ended}
-use Rattle.cloaked_side.proofs.Settling.{Counts, counts, draws_by, missed_by, marks_by}
+use Rattle.cloaked_side.specs.declared.memory.EndedOffer.{EndedOffer as Ended}
+use Rattle.cloaked_side.proofs.Settling.{TellsDraws, counts, draws_by, missed_by, marks_by}
 
 -- a frame that holds a page is owed it or owed nothing
 pub changed_or_not : (h : FrameRight) (q : PageId) → page_of h ≡ Some q → (owed_under h ≡ Some q) ⊎ (owed_under h ≡ None)
@@ -270,7 +270,7 @@ nothing_left : {A : Type 0} (xs ys : List A) → xs ++ ys ≡ [] → (xs ≡ [])
 nothing_left [] ys e = (refl, e)
 nothing_left (x ∷ xs) ys e = absurd (cc)
 
-counted_nothing : (m : CloakedMemory) (s : AfterSettling) → Counts m s → s.missed ≡ false → s.ciphers ≡ [] →
+counted_nothing : (m : CloakedMemory) (s : AfterSettling) → TellsDraws m s → s.missed ≡ false → s.ciphers ≡ [] →
     (s.memory.ledger.draws ≡ m.ledger.draws) × (s.memory.ledger.missed ≡ m.ledger.missed) × (s.memory.marks ≡ m.marks)
 counted_nothing m s c missed none = (
   c.draws ∙ ap (λ cs. draws_by cs s.missed m.ledger.draws) none,
@@ -279,7 +279,7 @@ counted_nothing m s c missed none = (
   c.marks ∙ ap (λ cs. marks_by cs m.marks) none,
 )
 
-unless_same : (m : CloakedMemory) (s : AfterSettling) (next : CloakedMemory → AfterOffer) → Counts m s →
+unless_same : (m : CloakedMemory) (s : AfterSettling) (next : CloakedMemory → AfterOffer) → TellsDraws m s →
     ((m' : CloakedMemory) → (next m').ciphers ≡ [] → (next m').answer ≢ Missed → Same m' (next m')) →
     (unless_missed s next).ciphers ≡ [] → (unless_missed s next).answer ≢ Missed → Same m (unless_missed s next)
 unless_same m s next c same none drawn = by_value s.missed refl
@@ -298,7 +298,7 @@ unless_same m s next c same none drawn = by_value s.missed refl
           marks = ap (λ (o : AfterOffer). o.memory.marks) is ∙ second.marks ∙ first.2;
         }
 
-counts_frame_if : (f : Option ℕ) (m : CloakedMemory) → Counts m (settle_frame_if f m)
+counts_frame_if : (f : Option ℕ) (m : CloakedMemory) → TellsDraws m (settle_frame_if f m)
 counts_frame_if None m = record { draws = refl; missed = refl; marks = refl }
 counts_frame_if (Some f) m = counts f m
 

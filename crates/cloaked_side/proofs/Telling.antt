@@ -15,7 +15,7 @@ use Rattle.cloak_model.specs.Events.{Event}
 use Rattle.cloak_base.specs.declared.names.SpaceId.{SpaceId}
 use Rattle.shadow_fold.specs.Fold.{Fold, after_events}
 use Rattle.cloaked_side.specs.Tracking.{Tracks, TracksBy, GoesBy, spent_in}
-use Rattle.shadow_fold.specs.Reads.{Asked, reads_due}
+use Rattle.shadow_fold.specs.Reads.{AskedByStep, reads_due}
 use Rattle.cloaked_side.proofs.Spending.{spends_more, spends_none}
 use Rattle.cloaked_side.proofs.Tracking.{no_events}
 use Rattle.cloak_pager.specs.State.{PagerState}
@@ -59,7 +59,7 @@ goes_world gave first now space (Cloaked c) at sees =
     })
 
 -- so it is of the memory that was given back, whose size is told
-pub goes_back : (old back new : Memory) (a : Asked) → SameSize old back → back ≡ new → GoesBy old new a → GoesBy old back a
+pub goes_back : (old back new : Memory) (a : AskedByStep) → SameSize old back → back ≡ new → GoesBy old new a → GoesBy old back a
 goes_back old back new a size same goes = subst (λ (m : Memory). GoesBy old m a) (sym same) goes
 
 pub holds_world : {E : Type 0} (gave : E → E → List Piece → Type 0) (first now : Side E) (w : World) →

@@ -24,7 +24,7 @@ use Rattle.shadow_law.specs.Walks.{listed}
 use Rattle.cloaked_side.specs.Leading.{IsRegimeIn}
 use Rattle.shadow_fold.specs.Entries.{is_table}
 use Rattle.shadow_fold.specs.Fold.{Fold, frame, entry_in, is_own_table, holds, part_holds, touched, touched_where, with_held, with_table, offered, granted, after_event, after_events}
-use Rattle.shadow_fold.specs.Following.{Follows, killed_if, killed_each, HasAll, AreBirthCalls, AreBirthCallsUnless, AreCallsFor}
+use Rattle.shadow_fold.specs.Following.{FollowsTable, killed_if, killed_each, HasAll, AreBirthCalls, AreBirthCallsUnless, AreCallsFor}
 use Rattle.shadow_fold.specs.Table.{Table, is_known, looked, ending, killed}
 use Rattle.shadow_fold.proofs.Follows.{follows_event, follows_kill, each_is_all}
 use Rattle.cloak_base.specs.Random.{Random}
@@ -35,7 +35,7 @@ use Rattle.cloak_pager.specs.declared.frame_right.FrameRight.TheVariants as held
 use Rattle.cloak_pager.specs.declared.touching.Touched.TheVariants.{Quiet}
 use Rattle.cloaked_side.specs.declared.memory.Memory.{Memory}
 use Rattle.cloaked_side.proofs.Translating.{quiet_held}
-use Rattle.cloaked_side.specs.Tracking.{Keeps, Tracks, TracksBy, room_made, touched_if}
+use Rattle.cloaked_side.specs.Tracking.{KeepsFold, Tracks, TracksBy, room_made, touched_if}
 
 -- events one after another
 pub events_then : (space : Option SpaceId) (es fs : List Event) (s : Fold) → after_events space (es ++ fs) s ≡ after_events space fs (after_events space es s)
@@ -52,8 +52,8 @@ unfolding after_events
 one_event space e s = refl
 
 -- the calls of an event, and what frames hold after it
-pub goes_on : (space : Option SpaceId) (e : Event) (c : Bool) (t t' : Table) (held held' : ℕ → Option PageId) (s : Fold) → Keeps c t held s
-    → (c ≡ true → AreCallsFor space e s t t') → ((f : ℕ) → held' f ≡ (after_event space e s).held f) → Keeps c t' held' (after_event space e s)
+pub goes_on : (space : Option SpaceId) (e : Event) (c : Bool) (t t' : Table) (held held' : ℕ → Option PageId) (s : Fold) → KeepsFold c t held s
+    → (c ≡ true → AreCallsFor space e s t t') → ((f : ℕ) → held' f ≡ (after_event space e s).held f) → KeepsFold c t' held' (after_event space e s)
 goes_on space e c t t' held held' s keeps calls pages = record {
   pages = pages;
   entries = λ counts. follows_event space e s t t' (keeps.entries counts) (calls counts);
@@ -85,9 +85,9 @@ emptied_is f held held' outside others k = elim (eqb_tells k f) [
   | inr h ↦ others k h.1 ∙ ap (λ (b : Bool). cond b None (held k)) (sym h.0)
 ]
 
-goes_on_touch : (c : Bool) (t t' : Table) (held held' : ℕ → Option PageId) (s : Fold) (f : ℕ) → Keeps c t held s
+goes_on_touch : (c : Bool) (t t' : Table) (held held' : ℕ → Option PageId) (s : Fold) (f : ℕ) → KeepsFold c t held s
     → t' ≡ killed_if (is_some (held f)) (frame f) t → held' f ≡ None → ((k : ℕ) → k ≢ f → held' k ≡ held k)
-    → Keeps c t' held' (touched (frame f) s)
+    → KeepsFold c t' held' (touched (frame f) s)
 unfolding after_event
 goes_on_touch c t t' held held' s f keeps calls outside others =
     goes_on None (Touch f) c t t' held held' s keeps
@@ -96,9 +96,9 @@ goes_on_touch c t t' held held' s f keeps calls outside others =
 
 pub settle_tracks : (p p' : PagerState) (c c' : Bool) (t t' : Table) (f : ℕ) → t' ≡ killed_if (is_some (held_in p f)) (frame f) t → c' ≡ c
     → held_in p' f ≡ None → ((k : ℕ) → k ≢ f → held_in p' k ≡ held_in p k)
-    → (s : Fold) → Keeps c t (held_in p) s → Keeps c' t' (held_in p') (touched (frame f) s)
+    → (s : Fold) → KeepsFold c t (held_in p) s → KeepsFold c' t' (held_in p') (touched (frame f) s)
 settle_tracks p p' c c' t t' f ends counts outside others s keeps =
-    subst (λ (x : Bool). Keeps x t' (held_in p') (touched (frame f) s)) (sym counts)
+    subst (λ (x : Bool). KeepsFold x t' (held_in p') (touched (frame f) s)) (sym counts)
     (goes_on_touch c t t' (held_in p) (held_in p') s f keeps ends outside others)
 
 -- what the end of a touch tells of the page that the frame held
@@ -135,12 +135,12 @@ holds_not q o n = by (holds (same_page q) o) refl
     by true e = absurd (n (holds_it q o e))
 
 -- nobody holds the page: the frames that hold it are none
-pub goes_on_none : (c : Bool) (t : Table) (held : ℕ → Option PageId) (q : PageId) (s : Fold) → ((k : ℕ) → held k ≢ Some q) → Keeps c t held s
-    → Keeps c t held (touched_where (same_page q) s)
+pub goes_on_none : (c : Bool) (t : Table) (held : ℕ → Option PageId) (q : PageId) (s : Fold) → ((k : ℕ) → held k ≢ Some q) → KeepsFold c t held s
+    → KeepsFold c t held (touched_where (same_page q) s)
 unfolding touched_where
 goes_on_none c t held q s nowhere keeps = record {
   pages = λ k. keeps.pages k ∙ ap (λ (b : Bool). cond b None (s.held k)) (sym (holds_not q (s.held k) (away k)));
-  entries = λ counts. subst (λ (u : Table). Follows t u) (each_is_all s.held (same_page q) [] s.table none) (keeps.entries counts);
+  entries = λ counts. subst (λ (u : Table). FollowsTable t u) (each_is_all s.held (same_page q) [] s.table none) (keeps.entries counts);
 }
   where
     away : (k : ℕ) → s.held k ≢ Some q
@@ -150,12 +150,12 @@ goes_on_none c t held q s nowhere keeps = record {
     none f is = absurd (away f (holds_it q (s.held f) is))
 
 -- One frame holds the page: the frames that hold it are that one.
-pub goes_on_home : (c c' : Bool) (t t' : Table) (held held' : ℕ → Option PageId) (q : PageId) (f : ℕ) (s : Fold) → Keeps c t held s → held f ≡ Some q
-    → ((k : ℕ) → held k ≡ Some q → k ≡ f) → Keeps c' t' held' (touched (frame f) s) → Keeps c' t' held' (touched_where (same_page q) s)
+pub goes_on_home : (c c' : Bool) (t t' : Table) (held held' : ℕ → Option PageId) (q : PageId) (f : ℕ) (s : Fold) → KeepsFold c t held s → held f ≡ Some q
+    → ((k : ℕ) → held k ≡ Some q → k ≡ f) → KeepsFold c' t' held' (touched (frame f) s) → KeepsFold c' t' held' (touched_where (same_page q) s)
 unfolding touched touched_where
 goes_on_home c c' t t' held held' q f s before home one keeps = record {
   pages = λ k. keeps.pages k ∙ touched_held f s (s.held f) refl k ∙ by k;
-  entries = λ counts. subst (λ (u : Table). Follows t' u) table (keeps.entries counts);
+  entries = λ counts. subst (λ (u : Table). FollowsTable t' u) table (keeps.entries counts);
 }
   where
     here : s.held f ≡ Some q
@@ -190,11 +190,11 @@ offered_new q g grant s n =
     ap (λ (b : Bool). cond b s (granted q (frame g) grant (touched_where (same_page q) (touched (frame g) s)))) (holds_not q (s.held g) n)
 
 -- the frame holds the page now
-pub goes_on_granted : (c : Bool) (t t' : Table) (held held' : ℕ → Option PageId) (q : PageId) (g : ℕ) (s : Fold) → Keeps c t held s
-    → t' ≡ killed (frame g) t → held' g ≡ Some q → ((k : ℕ) → k ≢ g → held' k ≡ held k) → Keeps c t' held' (granted q (frame g) true s)
+pub goes_on_granted : (c : Bool) (t t' : Table) (held held' : ℕ → Option PageId) (q : PageId) (g : ℕ) (s : Fold) → KeepsFold c t held s
+    → t' ≡ killed (frame g) t → held' g ≡ Some q → ((k : ℕ) → k ≢ g → held' k ≡ held k) → KeepsFold c t' held' (granted q (frame g) true s)
 goes_on_granted c t t' held held' q g s keeps ends here others = record {
   pages = pages;
-  entries = λ counts. subst (λ (u : Table). Follows u (killed (frame g) s.table)) (sym ends) (follows_kill (frame g) t s.table (keeps.entries counts));
+  entries = λ counts. subst (λ (u : Table). FollowsTable u (killed (frame g) s.table)) (sym ends) (follows_kill (frame g) t s.table (keeps.entries counts));
 }
   where
     pages : (k : ℕ) → held' k ≡ cond (k == g) (Some q) (s.held k)
@@ -204,20 +204,20 @@ goes_on_granted c t t' held held' q g s keeps ends here others = record {
     ]
 
 -- the same pages are held in another way of telling them
-pub goes_on_same : (c : Bool) (t : Table) (held held' : ℕ → Option PageId) (s : Fold) → Keeps c t held s → ((k : ℕ) → held' k ≡ held k) → Keeps c t held' s
+pub goes_on_same : (c : Bool) (t : Table) (held held' : ℕ → Option PageId) (s : Fold) → KeepsFold c t held s → ((k : ℕ) → held' k ≡ held k) → KeepsFold c t held' s
 goes_on_same c t held held' s keeps same = record { pages = λ k. same k ∙ keeps.pages k; entries = keeps.entries }
 
 -- Room is made.
 
 pub room_missed : (c c' : Bool) (t t' : Table) (held held' : ℕ → Option PageId) (q : PageId) (g : ℕ) (m : CloakedMemory) → (settle g m).missed ≡ true
-    → ((s : Fold) → Keeps c t held s → Keeps c' t' held' (touched (frame g) s)) → (s : Fold) → Keeps c t held s → Keeps c' t' held' (room_made q g m s)
+    → ((s : Fold) → KeepsFold c t held s → KeepsFold c' t' held' (touched (frame g) s)) → (s : Fold) → KeepsFold c t held s → KeepsFold c' t' held' (room_made q g m s)
 room_missed c c' t t' held held' q g m missed tracks s keeps =
-    subst (λ (b : Bool). Keeps c' t' held' (cond b (touched (frame g) s) (touched_where (same_page q) (touched (frame g) s)))) (sym missed) (tracks s keeps)
+    subst (λ (b : Bool). KeepsFold c' t' held' (cond b (touched (frame g) s) (touched_where (same_page q) (touched (frame g) s)))) (sym missed) (tracks s keeps)
 
 pub room_drawn : (c c' : Bool) (t t' : Table) (held held' : ℕ → Option PageId) (q : PageId) (g : ℕ) (m : CloakedMemory) → (settle g m).missed ≡ false
-    → ((s : Fold) → Keeps c t held s → Keeps c' t' held' (touched_where (same_page q) (touched (frame g) s))) → (s : Fold) → Keeps c t held s → Keeps c' t' held' (room_made q g m s)
+    → ((s : Fold) → KeepsFold c t held s → KeepsFold c' t' held' (touched_where (same_page q) (touched (frame g) s))) → (s : Fold) → KeepsFold c t held s → KeepsFold c' t' held' (room_made q g m s)
 room_drawn c c' t t' held held' q g m drawn tracks s keeps =
-    subst (λ (b : Bool). Keeps c' t' held' (cond b (touched (frame g) s) (touched_where (same_page q) (touched (frame g) s)))) (sym drawn) (tracks s keeps)
+    subst (λ (b : Bool). KeepsFold c' t' held' (cond b (touched (frame g) s) (touched_where (same_page q) (touched (frame g) s)))) (sym drawn) (tracks s keeps)
 
 -- The events of an offer.
 
@@ -238,40 +238,40 @@ effect_is space q g m Missed s = by (settle g m).missed
     by false = refl
 
 pub tracks_offer : (space : Option SpaceId) (c c' : Bool) (t t' : Table) (held held' : ℕ → Option PageId) (q : PageId) (g : ℕ) (m : CloakedMemory) (a b : OfferEnd) → a ≡ b
-    → ((s : Fold) → Keeps c t held s → Keeps c' t' held' (offer_effect q g m a s))
-    → (s : Fold) → Keeps c t held s → Keeps c' t' held' (after_events space (offer_events q g m b) s)
+    → ((s : Fold) → KeepsFold c t held s → KeepsFold c' t' held' (offer_effect q g m a s))
+    → (s : Fold) → KeepsFold c t held s → KeepsFold c' t' held' (after_events space (offer_events q g m b) s)
 tracks_offer space c c' t t' held held' q g m a b is tracks s keeps =
-    subst (λ (x : OfferEnd). Keeps c' t' held' (after_events space (offer_events q g m x) s)) is
-    (subst (λ (u : Fold). Keeps c' t' held' u) (effect_is space q g m a s) (tracks s keeps))
+    subst (λ (x : OfferEnd). KeepsFold c' t' held' (after_events space (offer_events q g m x) s)) is
+    (subst (λ (u : Fold). KeepsFold c' t' held' u) (effect_is space q g m a s) (tracks s keeps))
 
 -- a page is offered in the frame that holds it
 pub effect_again : (c : Bool) (t : Table) (held held' : ℕ → Option PageId) (q : PageId) (g : ℕ) (grant : Bool) → held g ≡ Some q → ((k : ℕ) → held' k ≡ held k)
-    → (s : Fold) → Keeps c t held s → Keeps c t held' (offered q (frame g) grant s)
+    → (s : Fold) → KeepsFold c t held s → KeepsFold c t held' (offered q (frame g) grant s)
 effect_again c t held held' q g grant is same s keeps =
-    subst (λ (u : Fold). Keeps c t held' u) (sym (offered_again q g grant s (sym (keeps.pages g) ∙ is))) (goes_on_same c t held held' s keeps same)
+    subst (λ (u : Fold). KeepsFold c t held' u) (sym (offered_again q g grant s (sym (keeps.pages g) ∙ is))) (goes_on_same c t held held' s keeps same)
 
 -- or in another one, for which there is room
 pub effect_new : (c c' : Bool) (t t' : Table) (held held' : ℕ → Option PageId) (q : PageId) (g : ℕ) (grant : Bool) → held g ≢ Some q
-    → ((s : Fold) → Keeps c t held s → Keeps c' t' held' (granted q (frame g) grant (touched_where (same_page q) (touched (frame g) s))))
-    → (s : Fold) → Keeps c t held s → Keeps c' t' held' (offered q (frame g) grant s)
+    → ((s : Fold) → KeepsFold c t held s → KeepsFold c' t' held' (granted q (frame g) grant (touched_where (same_page q) (touched (frame g) s))))
+    → (s : Fold) → KeepsFold c t held s → KeepsFold c' t' held' (offered q (frame g) grant s)
 effect_new c c' t t' held held' q g grant n tracks s keeps =
-    subst (λ (u : Fold). Keeps c' t' held' u) (sym (offered_new q g grant s (λ is. n (keeps.pages g ∙ is)))) (tracks s keeps)
+    subst (λ (u : Fold). KeepsFold c' t' held' u) (sym (offered_new q g grant s (λ is. n (keeps.pages g ∙ is)))) (tracks s keeps)
 
 -- making room ended an offer
 pub effect_missed : (c c' : Bool) (t t' : Table) (held held' : ℕ → Option PageId) (q : PageId) (g : ℕ) (m : CloakedMemory) → held g ≢ Some q
-    → ((s : Fold) → Keeps c t held s → Keeps c' t' held' (room_made q g m s)) → (s : Fold) → Keeps c t held s → Keeps c' t' held' (offer_effect q g m Missed s)
+    → ((s : Fold) → KeepsFold c t held s → KeepsFold c' t' held' (room_made q g m s)) → (s : Fold) → KeepsFold c t held s → KeepsFold c' t' held' (offer_effect q g m Missed s)
 effect_missed c c' t t' held held' q g m n tracks s keeps = by (settle g m).missed (tracks s keeps)
   where
-    by : (b : Bool) → Keeps c' t' held' (cond b (touched (frame g) s) (touched_where (same_page q) (touched (frame g) s)))
-        → Keeps c' t' held' (cond b (touched (frame g) s) (offered q (frame g) false s))
+    by : (b : Bool) → KeepsFold c' t' held' (cond b (touched (frame g) s) (touched_where (same_page q) (touched (frame g) s)))
+        → KeepsFold c' t' held' (cond b (touched (frame g) s) (offered q (frame g) false s))
     by true keeps' = keeps'
-    by false keeps' = subst (λ (u : Fold). Keeps c' t' held' u) (sym (offered_new q g false s (λ is. n (keeps.pages g ∙ is)))) keeps'
+    by false keeps' = subst (λ (u : Fold). KeepsFold c' t' held' u) (sym (offered_new q g false s (λ is. n (keeps.pages g ∙ is)))) keeps'
 
 -- room was made for it: no draw was missing
 pub room_is : (c c' : Bool) (t t' : Table) (held held' : ℕ → Option PageId) (q : PageId) (g : ℕ) (m : CloakedMemory) → (settle g m).missed ≡ false
-    → ((s : Fold) → Keeps c t held s → Keeps c' t' held' (room_made q g m s)) → (s : Fold) → Keeps c t held s → Keeps c' t' held' (touched_where (same_page q) (touched (frame g) s))
+    → ((s : Fold) → KeepsFold c t held s → KeepsFold c' t' held' (room_made q g m s)) → (s : Fold) → KeepsFold c t held s → KeepsFold c' t' held' (touched_where (same_page q) (touched (frame g) s))
 room_is c c' t t' held held' q g m drawn tracks s keeps =
-    subst (λ (b : Bool). Keeps c' t' held' (cond b (touched (frame g) s) (touched_where (same_page q) (touched (frame g) s)))) drawn (tracks s keeps)
+    subst (λ (b : Bool). KeepsFold c' t' held' (cond b (touched (frame g) s) (touched_where (same_page q) (touched (frame g) s)))) drawn (tracks s keeps)
 
 -- a call that changed one frame at most, which holds what it held
 pub same_held : (old new : PagerState) (f : ℕ) → StaysBut f old new → held_in new f ≡ held_in old f → (k : ℕ) → held_in new k ≡ held_in old k
@@ -284,17 +284,17 @@ same_held old new f stays here k = elim (eqb_tells k f) [
 
 -- nothing is done to translations, nor to what frames hold
 pub same_tracks : (c c' : Bool) (t t' : Table) (held held' : ℕ → Option PageId) → c' ≡ c → t' ≡ t → ((k : ℕ) → held' k ≡ held k)
-    → (s : Fold) → Keeps c t held s → Keeps c' t' held' s
+    → (s : Fold) → KeepsFold c t held s → KeepsFold c' t' held' s
 same_tracks c c' t t' held held' counts table same s keeps =
-    subst (λ (x : Bool). Keeps x t' held' s) (sym counts)
-    (subst (λ (u : Table). Keeps c u held' s) (sym table) (goes_on_same c t held held' s keeps same))
+    subst (λ (x : Bool). KeepsFold x t' held' s) (sym counts)
+    (subst (λ (u : Table). KeepsFold c u held' s) (sym table) (goes_on_same c t held held' s keeps same))
 
 -- a byte of a frame is written
 pub write_tracks : (space : Option SpaceId) (c c' : Bool) (t t' : Table) (held held' : ℕ → Option PageId) (f : Frame) (n : ℕ) → f.0 ≡ n → c' ≡ c
-    → t' ≡ ending (is_table f) t → ((k : ℕ) → held' k ≡ held k) → (s : Fold) → Keeps c t held s → Keeps c' t' held' (after_events space (Write n ∷ []) s)
+    → t' ≡ ending (is_table f) t → ((k : ℕ) → held' k ≡ held k) → (s : Fold) → KeepsFold c t held s → KeepsFold c' t' held' (after_events space (Write n ∷ []) s)
 unfolding after_events after_event
 write_tracks space c c' t t' held held' f n is counts table same s keeps =
-    subst (λ (x : Bool). Keeps x t' held' (after_event space (Write n) s)) (sym counts)
+    subst (λ (x : Bool). KeepsFold x t' held' (after_event space (Write n) s)) (sym counts)
     (goes_on space (Write n) c t t' held held' s keeps (λ on. table ∙ ap (λ (k : ℕ). ending (is_table (frame k)) t) is) (λ k. same k ∙ keeps.pages k))
 
 -- events, and then others
@@ -331,13 +331,13 @@ tracks_drop old new space domain resource tracks s keeps = tracks s keeps
 -- Events that do nothing.
 
 -- a frame that holds nothing is touched
-pub touch_still : (c : Bool) (t : Table) (held : ℕ → Option PageId) (f : ℕ) → held f ≡ None → (s : Fold) → Keeps c t held s → Keeps c t held (touched (frame f) s)
+pub touch_still : (c : Bool) (t : Table) (held : ℕ → Option PageId) (f : ℕ) → held f ≡ None → (s : Fold) → KeepsFold c t held s → KeepsFold c t held (touched (frame f) s)
 touch_still c t held f none s keeps =
     goes_on_touch c t t held held s f keeps (ap (λ (o : Option PageId). killed_if (is_some o) (frame f) t) (sym none)) none (λ k n. refl)
 
 -- the tables of a walk, which are outside
 pub touches_still : (space : Option SpaceId) (c : Bool) (t : Table) (held : ℕ → Option PageId) (o p : Option Frame) → IfSome o (λ f. held f.0 ≡ None)
-    → IfSome p (λ f. held f.0 ≡ None) → (s : Fold) → Keeps c t held s → Keeps c t held (after_events space (touches (listed o ++ listed p)) s)
+    → IfSome p (λ f. held f.0 ≡ None) → (s : Fold) → KeepsFold c t held s → KeepsFold c t held (after_events space (touches (listed o ++ listed p)) s)
 unfolding after_events after_event
 touches_still space c t held None None first second s keeps = keeps
 touches_still space c t held None (Some g) first second s keeps = touch_still c t held g.0 second s keeps
@@ -348,8 +348,8 @@ touches_still space c t held (Some f) (Some g) first second s keeps =
 -- A translation is asked for.
 
 pub look_tracks : (space : Option SpaceId) (regime : Regime) (va : ℕ) (kind : Kind) → IsRegimeIn space regime → (c : Bool) (t t' : Table) (held : ℕ → Option PageId)
-    → (c ≡ true → t' ≡ looked regime (va / 4096) kind t) → (s : Fold) → Keeps c t held s
-    → Keeps c t' held (after_events space (Look (satp_in regime) (access_in regime va kind) ∷ []) s)
+    → (c ≡ true → t' ≡ looked regime (va / 4096) kind t) → (s : Fold) → KeepsFold c t held s
+    → KeepsFold c t' held (after_events space (Look (satp_in regime) (access_in regime va kind) ∷ []) s)
 unfolding after_events after_event
 look_tracks space (Outside satp mode sum mxr) va kind is c t t' held made s keeps =
     goes_on space (Look satp (access_in (Outside satp mode sum mxr) va kind)) c t t' held held s keeps
@@ -361,8 +361,8 @@ look_tracks space (Inside satp sum mxr x) va kind is c t t' held made s keeps =
 -- A translation becomes known.
 
 pub born_tracks : (space : Option SpaceId) (satp : ℕ) (a : Access) (walked : Walked) (cloaked : Option PageId) (c : Bool) (t t' : Table) (held : ℕ → Option PageId)
-    → (c ≡ true → let e = entry_in space satp a walked cloaked in AreBirthCallsUnless (is_own_table e) e t t') → (s : Fold) → Keeps c t held s
-    → Keeps c t' held (after_events space (Born satp a walked cloaked ∷ []) s)
+    → (c ≡ true → let e = entry_in space satp a walked cloaked in AreBirthCallsUnless (is_own_table e) e t t') → (s : Fold) → KeepsFold c t held s
+    → KeepsFold c t' held (after_events space (Born satp a walked cloaked ∷ []) s)
 unfolding after_events after_event
 born_tracks space satp a walked cloaked c t t' held calls s keeps =
     goes_on space (Born satp a walked cloaked) c t t' held held s keeps calls keeps.pages
@@ -489,12 +489,12 @@ module _ (passes : PageId → Bool) (s : Fold) where
       or_true false = refl
 
   -- all frames that hold pages are below n: no page that passes is held any more
-  pub emptied_all : (c : Bool) (t : Table) (held : ℕ → Option PageId) (n : ℕ) → ((k : ℕ) → n ≤ k → s.held k ≡ None) → Keeps c t held (emptied_below passes n s)
-      → Keeps c t held (touched_where passes s)
+  pub emptied_all : (c : Bool) (t : Table) (held : ℕ → Option PageId) (n : ℕ) → ((k : ℕ) → n ≤ k → s.held k ≡ None) → KeepsFold c t held (emptied_below passes n s)
+      → KeepsFold c t held (touched_where passes s)
   unfolding touched_where
   emptied_all c t held n within keeps = record {
     pages = λ k. keeps.pages k ∙ by k;
-    entries = λ counts. subst (λ (u : Table). Follows t u) (below_table n ∙ each_is_all s.held passes (frames_below n) s.table all) (keeps.entries counts);
+    entries = λ counts. subst (λ (u : Table). FollowsTable t u) (below_table n ∙ each_is_all s.held passes (frames_below n) s.table all) (keeps.entries counts);
   }
     where
       past : (k : ℕ) → n ≤ k → s.held k ≡ cond (holds passes (s.held k)) None (s.held k)

@@ -127,11 +127,11 @@ found_to kind found.Fault = Some (Err (access_fault kind))
 found_to kind found.Missed = None
 
 -- the frame that was found is that of the address, and an address fits its word
-abbrev pub IsPlaced : Found → Type 0
-IsPlaced (found.Straight pa frame) = frame.0 ≡ frame_of pa
-IsPlaced (found.Other walked) = walked.pa < 2 ^ 32
-IsPlaced found.Fault = Unit {0}
-IsPlaced found.Missed = Unit {0}
+abbrev pub IsRightFound : Found → Type 0
+IsRightFound (found.Straight pa frame) = frame.0 ≡ frame_of pa
+IsRightFound (found.Other walked) = walked.pa < 2 ^ 32
+IsRightFound found.Fault = Unit {0}
+IsRightFound found.Missed = Unit {0}
 
 -- After the look for an access a side stands so: the access was led there, or its walk begins.
 abbrev pub IsFoundSo : {E : Type 0} → (E → E → List Piece → Type 0) → Side E → Side E → World → Regime → ℕ → Kind →

@@ -6,8 +6,8 @@ use Rattle.cloak_model.specs.World.{cipher_items}
 use Rattle.cloak_model.specs.Exchange.{Piece, Emits, item_pieces}
 use Rattle.cloaked_side.specs.Holding.{Holds}
 use Rattle.cloaked_side.specs.declared.memory.Memory.{Memory}
-use Rattle.cloaked_side.specs.declared.memory.Offer.{Offer as Ended}
-use Rattle.cloaked_side.specs.declared.memory.Offer.TheVariants as ended
+use Rattle.cloaked_side.specs.declared.memory.EndedOffer.{EndedOffer as Ended}
+use Rattle.cloaked_side.specs.declared.memory.EndedOffer.TheVariants as ended
 
 -- an offer before which this was shown
 abbrev pub behind_ciphers : List (ℕ × List ℕ) → AfterOffer → AfterOffer

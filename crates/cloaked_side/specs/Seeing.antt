@@ -9,7 +9,7 @@ use Rattle.cloak_model.specs.Asking.{Asking, FollowsFrom}
 use Rattle.cloak_model.specs.Exchange.{Piece, Emits, EmitsSome, item_pieces}
 use Rattle.cloak_model.specs.Events.{Event, Look, Touch, Offer, Born, Read, Write, Drop, Space}
 use Rattle.shadow_fold.specs.Fold.{after_events}
-use Rattle.shadow_fold.specs.Reads.{Asked, Spends, reads_due}
+use Rattle.shadow_fold.specs.Reads.{AskedByStep, Spends, reads_due}
 use Rattle.shadow_fold.specs.Table.{Table, is_known}
 use Rattle.shadow_fold.specs.declared.entry.Regime.{Regime}
 use Rattle.cloaked_side.specs.Tracking.{TracksBy, MapsBy, spent_in}
@@ -17,7 +17,7 @@ use Rattle.cloaked_side.specs.Holding.{Holds, SameSize, HoldsNoMore, domains_in}
 use Rattle.cloaked_side.specs.declared.side.Side.{Side}
 
 -- What a step has asked so far, for a context of this space or outside.
-abbrev pub asked_by : Option SpaceId → Cloak → Asked
+abbrev pub asked_by : Option SpaceId → Cloak → AskedByStep
 asked_by space c = record { space = space; events = c.events; items = c.items; changed = [] }
 
 -- this many more than are due
@@ -79,13 +79,13 @@ pub record ShowsCloak {E : Type 0} (gave : E → E → List Piece → Type 0) (f
   pub spends : Spends 0 (reads_due (asked_by now.space c)) (spent_in first.memory.now) (spent_in now.memory.now)
   pub maps : MapsBy first.memory.now now.memory.now now.space c.events
 
-abbrev pub Shows : {E : Type 0} → (E → E → List Piece → Type 0) → Side E → Side E → World → Type 0
-Shows gave first now (Flat ram) = ⊥
-Shows gave first now (Alone handed) = ⊥
-Shows gave first now (Cloaked c) = ShowsCloak gave first now c
+abbrev pub ShowsWorld : {E : Type 0} → (E → E → List Piece → Type 0) → Side E → Side E → World → Type 0
+ShowsWorld gave first now (Flat ram) = ⊥
+ShowsWorld gave first now (Alone handed) = ⊥
+ShowsWorld gave first now (Cloaked c) = ShowsCloak gave first now c
 
 abbrev pub ShowsOn : {E : Type 0} → (E → E → List Piece → Type 0) → Side E → Side E → Type 0
-ShowsOn gave old new = (first : _) (w : World) → Shows gave first old w → Shows gave first new w
+ShowsOn gave old new = (first : _) (w : World) → ShowsWorld gave first old w → ShowsWorld gave first new w
 
 -- From each world that the side stood for, it stands for the next one.
 abbrev pub Becomes : {E : Type 0} → (E → E → List Piece → Type 0) → Side E → Side E → (World → World) → Type 0

@@ -11,19 +11,19 @@ use Rattle.shadow_fold.specs.Agreement.{IsMapped}
 use Rattle.shadow_fold.specs.Births.{MakeAll}
 use Rattle.shadow_fold.specs.Entries.{is_of_space}
 use Rattle.shadow_fold.specs.Fold.{Fold, frame, touched, touched_where, after_events}
-use Rattle.shadow_fold.specs.Following.{Follows}
-use Rattle.shadow_fold.specs.Reads.{Asked, Spent, Spends, events_in, reads_due}
+use Rattle.shadow_fold.specs.Following.{FollowsTable}
+use Rattle.shadow_fold.specs.Reads.{AskedByStep, Spent, Spends, events_in, reads_due}
 use Rattle.shadow_fold.specs.Table.{Table}
 use Rattle.cloaked_side.specs.declared.memory.Memory.{Memory}
 
 -- Each frame holds the page that it holds in the fold. If accesses are counted, the translations and the counts are
 -- those of the fold too.
-pub record Keeps (counting : Bool) (table : Table) (held : ℕ → Option PageId) (s : Fold) : Type 0 where
+pub record KeepsFold (counting : Bool) (table : Table) (held : ℕ → Option PageId) (s : Fold) : Type 0 where
   pub pages : (f : ℕ) → held f ≡ s.held f
-  pub entries : counting ≡ true → Follows table s.table
+  pub entries : counting ≡ true → FollowsTable table s.table
 
 abbrev pub Tracks : Memory → Fold → Type 0
-Tracks memory s = Keeps memory.counting memory.shadows (held_in memory.pager) s
+Tracks memory s = KeepsFold memory.counting memory.shadows (held_in memory.pager) s
 
 -- a call did to a memory what this does to the fold
 abbrev pub TracksBy : Memory → Memory → (Fold → Fold) → Type 0
@@ -68,7 +68,7 @@ IsGone memory s = All (λ e. is_of_space s e ≡ false) memory.shadows.live
 
 -- What a step that asks this does to a memory: it follows the fold of its events, it is read no more often than is due,
 -- its entries come about by its events, and no entry is left of a space that changed.
-pub record GoesBy (old new : Memory) (a : Asked) : Type 0 where
+pub record GoesBy (old new : Memory) (a : AskedByStep) : Type 0 where
   pub tracks : TracksBy old new (after_events a.space (events_in a))
   pub spends : Spends 0 (reads_due a) (spent_in old) (spent_in new)
   pub maps : MapsBy old new a.space a.events

@@ -3,9 +3,9 @@ ghost use Rattle.std.specs.Prelude.{◌≡◌, ◌<◌, ◌%◌, ◌^◌, ◌*�
 ghost use Rattle.cloak_model.specs.AskPages as inside;
 ghost use Rattle.cloak_model.specs.Effect.{IsWidth};
 
-use crate::kept_items::set_put;
+use crate::kept_put::set_put;
 use crate::leading::{Found, Led, handed_on};
-use crate::memory::{self, Offer};
+use crate::memory::{self, EndedOffer};
 use crate::side::Side;
 use cloak_base::{Frame, Kind, PageId, SpaceId, Violation, frame_of};
 use cloak_model::{Answer, Emit, Item, access_fault};
@@ -318,15 +318,15 @@ impl<'m, 'e, E: Emit> Side<'m, 'e, E> {
         ensures writable { result ≡ Answer.Ok → kind ≡ Kind.Store → CanWrite self.new q }
     {
         match self.memory.offer(q, g, is_store(kind), self.emitter) {
-            Offer::Ready => {
+            EndedOffer::Ready => {
                 self.learn_page(q, regime, va, kind, led);
                 self.grant(g)
             }
-            Offer::Mismatch => {
+            EndedOffer::Mismatch => {
                 self.violation = Some(Violation::Page { page: q, frame: g });
                 self.stop()
             }
-            Offer::Missed => self.stop(),
+            EndedOffer::Missed => self.stop(),
         }
     }
 

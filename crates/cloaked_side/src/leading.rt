@@ -122,7 +122,7 @@ impl<'m, 'e, E: Emit> Side<'m, 'e, E> {
     ghost use Rattle.cloak_model.specs.World.{World, is_clashed, noted};
     ghost use Rattle.cloak_pager.specs.State.{held_in};
     ghost use Rattle.cloaked_side.specs.Holding.{frames_of};
-    ghost use Rattle.cloaked_side.specs.Leading.{place_in, found_to, IsFoundSo, IsPlaced, IsLedSo, IsEntryOf};
+    ghost use Rattle.cloaked_side.specs.Leading.{place_in, found_to, IsFoundSo, IsRightFound, IsLedSo, IsEntryOf};
     ghost use Rattle.cloaked_side.specs.Leading.{IsReachedSo, IsUnknownIfMissed, IsRegimeIn, LearnsWalk, asked_led};
     ghost use Rattle.cloaked_side.specs.Seeing.{Sees, SeesWalking, StaysWithin};
     ghost use Rattle.shadow_fold.specs.Fold.{entry_in, is_own_table};
@@ -147,7 +147,7 @@ impl<'m, 'e, E: Emit> Side<'m, 'e, E> {
             IsFoundSo E.gave first self.new w regime.now va kind cloaked (found_to kind result) }
         ensures same { self.new ≡ self.old }
         ensures known { result ≢ Found.Missed }
-        ensures placed { IsPlaced result }
+        ensures placed { IsRightFound result }
         ensures inside { IfSome (found_to kind result) (λ to. IfOk to (λ led.
             IsTrue (is_in_frames (frames_of self.new.memory.now) led.pa))) }
         ensures offset { IfSome (found_to kind result) (λ to. IfOk to (λ led. led.pa % 4096 ≡ va % 4096)) }
@@ -169,7 +169,7 @@ impl<'m, 'e, E: Emit> Side<'m, 'e, E> {
             IsFoundSo E.gave first self.new w regime.now va kind cloaked (found_to kind result) }
         ensures unknown { result ≡ Found.Missed →
             is_known regime.now (va / 4096) kind self.new.memory.now.shadows ≡ false }
-        ensures placed { IsPlaced result }
+        ensures placed { IsRightFound result }
         ensures keeps { Keeps (StaysWithin E.gave) self.old self.new }
         ensures inside { IfSome (found_to kind result) (λ to. IfOk to (λ led.
             IsTrue (is_in_frames (frames_of self.new.memory.now) led.pa))) }
@@ -209,7 +209,7 @@ impl<'m, 'e, E: Emit> Side<'m, 'e, E> {
             IsFoundSo E.gave first self.new w regime.now va kind cloaked (found_to kind result) }
         ensures unknown { result ≡ Found.Missed →
             is_known regime.now (va / 4096) kind self.new.memory.now.shadows ≡ false }
-        ensures placed { IsPlaced result }
+        ensures placed { IsRightFound result }
         ensures keeps { Keeps (StaysWithin E.gave) self.old self.new }
         ensures inside { IfSome (found_to kind result) (λ to. IfOk to (λ led.
             IsTrue (is_in_frames (frames_of self.new.memory.now) led.pa))) }
@@ -259,7 +259,7 @@ impl<'m, 'e, E: Emit> Side<'m, 'e, E> {
     fn led_from(&mut self, regime: &Regime, va: u32, kind: Kind, found: Found) -> Result<Led, u32>
         requires unknown { found ≡ Found.Missed →
             is_known regime.now (va / 4096) kind self.old.memory.now.shadows ≡ false }
-        requires placed { IsPlaced found }
+        requires placed { IsRightFound found }
         requires inside { IfSome (found_to kind found) (λ to. IfOk to (λ led.
             IsTrue (is_in_frames (frames_of self.old.memory.now) led.pa))) }
         requires offset { IfSome (found_to kind found) (λ to. IfOk to (λ led. led.pa % 4096 ≡ va % 4096)) }

@@ -5,7 +5,7 @@
 //! the frame first, and what the step of a cloaked program asks (`PageSide` of `cloak_model`), and writes each answer.
 //! Whatever writes what the kernel sees ends the reservations of words that it wrote; a page that is sealed again as it
 //! was last shown was not written. A side holds no page and copies none. `outside_step` is the plain step over it,
-//! `end_pages` the end of a domain's pages. The item of stores is kept from step to step (`KeptItems`), and lent to the
+//! `end_pages` the end of a domain's pages. The item of stores is kept from step to step (`KeptPut`), and lent to the
 //! side.
 //!
 //! The layer above may rely on this: for every joint world that a side stands for (`specs/Seeing`), each call returns
@@ -19,7 +19,7 @@ mod atomic;
 mod clearing;
 mod ending;
 mod inside;
-mod kept_items;
+mod kept_put;
 mod leading;
 mod memory;
 mod outside;
@@ -27,7 +27,7 @@ mod page_side;
 mod side;
 
 pub use ending::end_pages;
-pub use kept_items::KeptItems;
-pub use memory::{Memory, Offer};
+pub use kept_put::KeptPut;
+pub use memory::{EndedOffer, Memory};
 pub use outside::{outside_step, regime_of};
 pub use side::Side;

@@ -13,7 +13,7 @@ use multi_shadow::Shadows;
 
 /// How an offer ended.
 #[derive(Clone, Copy)]
-pub enum Offer {
+pub enum EndedOffer {
     /// The frame holds the page.
     Ready,
     /// The frame's bytes are not those that were last shown of the page.
@@ -161,7 +161,7 @@ impl Memory {
 
     /// Offers a page in a frame, for reading or for writing.
     #[inline(always)]
-    pub fn offer<E: Emit>(&mut self, q: PageId, g: Frame, write: bool, e: &mut E) -> Offer
+    pub fn offer<E: Emit>(&mut self, q: PageId, g: Frame, write: bool, e: &mut E) -> EndedOffer
         requires inside { g.0 < frames_of self.old }
         requires domain { q.domain < domains_in self.old }
         requires resource { q.resource < 16 }
@@ -180,13 +180,13 @@ impl Memory {
         ensures maps { MapsStill self.old self.new }
         ensures again { held_in self.old.pager g.0 ≡ Some q → self.new.shadows ≡ self.old.shadows }
         ensures counting { self.new.counting ≡ self.old.counting }
-        ensures held { result ≡ Offer.Ready → held_in self.new.pager g.0 ≡ Some q }
+        ensures held { result ≡ EndedOffer.Ready → held_in self.new.pager g.0 ≡ Some q }
         ensures others { HoldsNoOther q self.old.pager self.new.pager }
-        ensures owed { result ≡ Offer.Ready → IsTrue write → owed_at self.new.pager g.0 ≡ Some q }
-        ensures drawn { result ≡ Offer.Ready → self.new.missed ≡ false }
+        ensures owed { result ≡ EndedOffer.Ready → IsTrue write → owed_at self.new.pager g.0 ≡ Some q }
+        ensures drawn { result ≡ EndedOffer.Ready → self.new.missed ≡ false }
     {
         if self.pager.is_ready(q, g, write) {
-            return Offer::Ready;
+            return EndedOffer::Ready;
         }
         self.offer_anew(q, g, write, e)
     }
@@ -194,7 +194,7 @@ impl Memory {
     /// The same, whatever the frame holds. Kept out of line, since a page that is hit is ready.
     #[cold]
     #[inline(never)]
-    fn offer_anew<E: Emit>(&mut self, q: PageId, g: Frame, write: bool, e: &mut E) -> Offer
+    fn offer_anew<E: Emit>(&mut self, q: PageId, g: Frame, write: bool, e: &mut E) -> EndedOffer
         requires inside { g.0 < frames_of self.old }
         requires domain { q.domain < domains_in self.old }
         requires resource { q.resource < 16 }
@@ -213,27 +213,27 @@ impl Memory {
         ensures maps { MapsStill self.old self.new }
         ensures again { held_in self.old.pager g.0 ≡ Some q → self.new.shadows ≡ self.old.shadows }
         ensures counting { self.new.counting ≡ self.old.counting }
-        ensures held { result ≡ Offer.Ready → held_in self.new.pager g.0 ≡ Some q }
+        ensures held { result ≡ EndedOffer.Ready → held_in self.new.pager g.0 ≡ Some q }
         ensures others { HoldsNoOther q self.old.pager self.new.pager }
-        ensures owed { result ≡ Offer.Ready → IsTrue write → owed_at self.new.pager g.0 ≡ Some q }
-        ensures drawn { result ≡ Offer.Ready → self.new.missed ≡ false }
+        ensures owed { result ≡ EndedOffer.Ready → IsTrue write → owed_at self.new.pager g.0 ≡ Some q }
+        ensures drawn { result ≡ EndedOffer.Ready → self.new.missed ≡ false }
     {
         if self.is_held(q, g) {
             self.pager.whole();
             return match self.pager.offer(q, g, write) {
-                Offered::Ready => Offer::Ready,
-                Offered::Mismatch => Offer::Mismatch,
+                Offered::Ready => EndedOffer::Ready,
+                Offered::Mismatch => EndedOffer::Mismatch,
             };
         }
         if !self.make_room(q, g, e) {
-            return Offer::Missed;
+            return EndedOffer::Missed;
         }
         match self.pager.offer(q, g, write) {
             Offered::Ready => {
                 end_entries(&mut self.shadows, g);
-                Offer::Ready
+                EndedOffer::Ready
             }
-            Offered::Mismatch => Offer::Mismatch,
+            Offered::Mismatch => EndedOffer::Mismatch,
         }
     }
 

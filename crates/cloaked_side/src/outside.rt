@@ -11,7 +11,7 @@ ghost use Rattle.cloaked_side.specs.Holding.{Holds, HoldsNoMore, SameSize};
 ghost use Rattle.cloaked_side.specs.Telling.{TellsSide};
 ghost use Rattle.cloaked_side.specs.Tracking.{GoesBy};
 
-use crate::kept_items::KeptItems;
+use crate::kept_put::KeptPut;
 use crate::memory::Memory;
 use crate::side::Side;
 use cloak_base::Frame;
@@ -39,7 +39,7 @@ pub fn outside_step<E: Emit>(
     h: &mut Hart,
     d: &mut Disk,
     memory: &mut Memory,
-    items: &mut KeptItems,
+    items: &mut KeptPut,
     e: &mut E,
 ) -> Kernel
     ensures size { SameSize memory.old memory.new }

@@ -1,7 +1,7 @@
 ghost use Rattle.std.specs.Prelude.{◌≡◌, ◌<◌, ◌≤◌, ◌%◌, IsTrue, length, is_some};
 
 use crate::atomic::is_reserved;
-use crate::kept_items::KeptItems;
+use crate::kept_put::KeptPut;
 use crate::memory::Memory;
 use cloak_base::{Frame, SpaceId, Violation, frame_of, place_of};
 use cloak_model::{Access, Emit, InsideRegime, value_in};
@@ -16,7 +16,7 @@ pub struct Side<'m, 'e, E: Emit> {
     pub memory: &'m mut Memory,
     pub emitter: &'e mut E,
     /// What an answer is written as.
-    pub items: &'m mut KeptItems,
+    pub items: &'m mut KeptPut,
     /// What the kernel presented in place of what is recorded.
     pub violation: Option<Violation>,
     /// For the questions of a cloaked program.

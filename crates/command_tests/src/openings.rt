@@ -12,12 +12,12 @@ use std::test::Fail;
 
 /// The frames that were shown, as decimal digits in their order, and how many other pieces were given.
 #[derive(Drop)]
-struct Shown {
+struct ShownFrames {
     frames: u32,
     others: u32,
 }
 
-impl Emit for Shown {
+impl Emit for ShownFrames {
     ghost gave = { λ old new pieces. Unit {0} };
 
     fn item(&mut self, _: &Item) {
@@ -76,7 +76,7 @@ fn image(alloc: Global) -> Result<Bundle, NoMemory>
 /// Each frame with a page is shown once. As the machine closes nothing is owed.
 #[test]
 fn shows_each_frame_once(rt: HostRuntime) -> Result<(), Fail> {
-    let mut e = Shown {
+    let mut e = ShownFrames {
         frames: 0,
         others: 0,
     };

@@ -18,8 +18,9 @@ use Rattle.cloak_model.specs.Halves.{inward_half}
 use Rattle.cloak_model.specs.Memory.{value_in}
 use Rattle.cloak_model.specs.Resources.{page_at}
 use Rattle.cloak_model.specs.World.{World, plain_of, items_of}
-use Rattle.domain_isolation.proofs.Scripts.{Reach, Get, Put, asked}
-use Rattle.domain_isolation.proofs.InstructionScripts.{IsOwn, own_page}
+use Rattle.script_fold.proofs.Aligned.{byte_aligned}
+use Rattle.script_fold.proofs.Scripts.{Reach, Get, Put, asked}
+use Rattle.script_fold.proofs.InstructionScripts.{IsOwn, own_page}
 use Rattle.latest_store.specs.Moves.{Move, Loads}
 use Rattle.latest_store.specs.Deeds.{load_at, byte_moves}
 use Rattle.latest_store.proofs.Heard.{Heard, heard_asked, if_granted}
@@ -64,7 +65,7 @@ module _ (d : Control) (plain : PageId → List ℕ) (c : Context) where
   unfolding in_reached ask_read
   in_reached_deed q done told.Ok w heard =
       let byte : ℕ = value_in (plain_of w q) (byte_address (buffer c) done % 4096) 1 in
-      let question = Put (byte_address (area c) done) 1 byte in
+      let question = Put (byte_address (area c) done) 1 byte (byte_aligned (byte_address (area c) done)) in
       in_put_deed q done byte (asked question w).answer (asked question w).world
       (heard_asked d.number plain (item.Ok d.number ∷ []) question w heard)
   in_reached_deed q done (told.Absent cause) w heard = still d.number plain c _ _ _ _ w heard refl (λ word. refl)

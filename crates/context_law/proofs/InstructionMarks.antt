@@ -35,8 +35,9 @@ use Rattle.cloak_model.specs.Memory.{value_in, with_value_in}
 use Rattle.cloak_model.specs.Resources.{page_at}
 use Rattle.cloak_model.specs.World.{World, plain_of, items_of}
 use Rattle.cloak_base.specs.Pages.{with_page}
-use Rattle.domain_isolation.proofs.Scripts.{Reach, Get, Put, asked}
-use Rattle.domain_isolation.proofs.InstructionScripts.{IsOwn, own_page}
+use Rattle.script_fold.proofs.Aligned.{IsAligned, StoresAligned, effect_aligned}
+use Rattle.script_fold.proofs.Scripts.{Reach, Get, Put, asked}
+use Rattle.script_fold.proofs.InstructionScripts.{IsOwn, own_page}
 use Rattle.latest_store.specs.Moves.{Move, Stores, Loads, latest_value}
 use Rattle.latest_store.specs.Deeds.{first_granted, both_granted, load_at, store_at, atomic_at, ecall_moves, effect_moves, atomic_moves, word_moves, fetched_moves}
 use Rattle.latest_store.proofs.Values.{read_value}
@@ -44,7 +45,7 @@ use Rattle.latest_store.proofs.Moved.{Agrees}
 use Rattle.latest_store.proofs.Heard.{Heard, heard_asked, if_fetched, if_granted, with_plain_rewrites}
 use Rattle.context_law.specs.Inside as law
 use Rattle.context_law.specs.Inside.{Reached, reserved_by}
-use Rattle.context_law.proofs.Stores.{or_none, IsOnWord, misses_word, StoresOnWord, effect_stores}
+use Rattle.context_law.proofs.Stores.{or_none, IsOnWord, misses_word, on_word}
 use Rattle.context_law.proofs.Others.{Misses, misses_if, ecall_misses}
 use Rattle.latest_store.proofs.InstructionDeeds.{first_answer, second_answer}
 
@@ -58,7 +59,7 @@ abbrev pub if_reached : Option Reached → List Item → Option Reached
 if_reached reached answers = cond (both_granted answers) reached None
 
 -- An instruction, by what its program was told. At a hypercall nothing was done so far, and no answer lets it store.
-pub record Deed (n : ℕ) (c : Context) (moves : List Item → List Move) (reached : Option Reached)
+pub record DoneByInstruction (n : ℕ) (c : Context) (moves : List Item → List Move) (reached : Option Reached)
     (t : Told AfterInstruction) : Type 0 where
   pub answers : List Item
   pub told : inward_half n (items_of t.world) ≡ answers
@@ -74,7 +75,7 @@ pub record Deed (n : ℕ) (c : Context) (moves : List Item → List Move) (reach
 still : (n : ℕ) (plain : PageId → List ℕ) (c k : Context) (e : Ran) (moves : List Item → List Move)
     (reached : Option Reached) (answers : List Item) (w : World) → Heard n plain answers w → k.mark ≡ c.mark →
     ((word : WordPlace) → Misses n word (if_fetched moves answers)) → (e ≡ ran.Ecall → ⊥) →
-    Deed n c moves reached (record { answer = made k e; world = w })
+    DoneByInstruction n c moves reached (record { answer = made k e; world = w })
 still n plain c k e moves reached answers w heard same none other = record {
   answers = answers;
   told = heard.told;
@@ -96,7 +97,7 @@ written_told n plain answers q at width value w heard =
 module _ (n : ℕ) (plain : PageId → List ℕ) (c : Context) (reached : Option Reached) where
   load_reached_deed : (q : PageId) (rd va width : ℕ) (signed : Bool) (a : Answer) (w : World) →
       Heard n plain (second_answer n a) w →
-      Deed n c (if_granted (Loads q va width ∷ [])) reached (inside.load_reached c q rd va width signed a w)
+      DoneByInstruction n c (if_granted (Loads q va width ∷ [])) reached (inside.load_reached c q rd va width signed a w)
   unfolding inside.load_reached inside.loaded_inside ask_read
   load_reached_deed q rd va width signed told.Ok w heard =
       still n plain c _ _ _ reached _ w heard refl (λ word. refl) (λ is. cc)
@@ -108,7 +109,7 @@ module _ (n : ℕ) (plain : PageId → List ℕ) (c : Context) (reached : Option
       still n plain c _ _ _ reached _ w heard refl (λ word. refl) (λ is. cc)
 
   load_got_deed : (rd va width : ℕ) (signed : Bool) (a : Answer) (w : World) → Heard n plain (second_answer n a) w →
-      Deed n c (if_granted []) reached (inside.load_got c rd va width signed a w)
+      DoneByInstruction n c (if_granted []) reached (inside.load_got c rd va width signed a w)
   unfolding inside.load_got
   load_got_deed rd va width signed told.Ok w heard =
       still n plain c _ _ _ reached _ w heard refl (λ word. refl) (λ is. cc)
@@ -121,7 +122,7 @@ module _ (n : ℕ) (plain : PageId → List ℕ) (c : Context) (reached : Option
 
   load_deed : (rd va width : ℕ) (signed : Bool) (place : Option PageId) (w : World) → IsOwn n place →
       Heard n plain (item.Ok n ∷ []) w →
-      Deed n c (if_granted (load_at va width place)) reached (inside.load_inside c rd va width signed place w)
+      DoneByInstruction n c (if_granted (load_at va width place)) reached (inside.load_inside c rd va width signed place w)
   unfolding inside.load_inside
   load_deed rd va width signed None w own heard =
       let question = Get va width in
@@ -134,7 +135,7 @@ module _ (n : ℕ) (plain : PageId → List ℕ) (c : Context) (reached : Option
 
   store_reached_deed : (q : PageId) (va width value : ℕ) (a : Answer) (w : World) → IsOnWord va width →
       Heard n plain (second_answer n a) w →
-      Deed n c (if_granted (Stores q (va % 4096) width value ∷ [])) reached
+      DoneByInstruction n c (if_granted (Stores q (va % 4096) width value ∷ [])) reached
       (inside.store_reached c q va width value a w)
   unfolding inside.store_reached
   store_reached_deed q va width value told.Ok w on heard = record {
@@ -153,7 +154,7 @@ module _ (n : ℕ) (plain : PageId → List ℕ) (c : Context) (reached : Option
       still n plain c _ _ _ reached _ w heard refl (λ word. refl) (λ is. cc)
 
   store_put_deed : (va : ℕ) (a : Answer) (w : World) → Heard n plain (second_answer n a) w →
-      Deed n c (if_granted []) reached (inside.store_put c va a w)
+      DoneByInstruction n c (if_granted []) reached (inside.store_put c va a w)
   unfolding inside.store_put
   store_put_deed va told.Ok w heard = still n plain c _ _ _ reached _ w heard refl (λ word. refl) (λ is. cc)
   store_put_deed va (told.Absent cause) w heard =
@@ -161,22 +162,22 @@ module _ (n : ℕ) (plain : PageId → List ℕ) (c : Context) (reached : Option
   store_put_deed va (told.Word value) w heard = still n plain c _ _ _ reached _ w heard refl (λ word. refl) (λ is. cc)
   store_put_deed va told.Stopped w heard = still n plain c _ _ _ reached _ w heard refl (λ word. refl) (λ is. cc)
 
-  store_deed : (va width value : ℕ) (place : Option PageId) (w : World) → IsOnWord va width → IsOwn n place →
+  store_deed : (va width value : ℕ) (place : Option PageId) (w : World) → IsAligned va width → IsOwn n place →
       Heard n plain (item.Ok n ∷ []) w →
-      Deed n c (if_granted (store_at va width value place)) reached (inside.store_inside c va width value place w)
+      DoneByInstruction n c (if_granted (store_at va width value place)) reached (inside.store_inside c va width value place w)
   unfolding inside.store_inside
-  store_deed va width value None w on own heard =
-      let question = Put va width value in
+  store_deed va width value None w at own heard =
+      let question = Put va width value at in
       store_put_deed va (asked question w).answer (asked question w).world
       (heard_asked n plain (item.Ok n ∷ []) question w heard)
-  store_deed va width value (Some q) w on own heard =
+  store_deed va width value (Some q) w at own heard =
       let question = Reach q own va Store in
-      store_reached_deed q va width value (asked question w).answer (asked question w).world on
+      store_reached_deed q va width value (asked question w).answer (asked question w).world (on_word va width at)
       (heard_asked n plain (item.Ok n ∷ []) question w heard)
 
 module _ (d : Control) (plain : PageId → List ℕ) (c : Context) (reached : Option Reached) where
   system_deed : (i : Instr) (w : World) → Heard d.number plain (item.Ok d.number ∷ []) w →
-      Deed d.number c (ecall_moves d c i) reached (inside.system_inside c i w)
+      DoneByInstruction d.number c (ecall_moves d c i) reached (inside.system_inside c i w)
   unfolding inside.system_inside
   system_deed instr.Ecall w heard = record {
     answers = item.Ok d.number ∷ [];
@@ -193,8 +194,8 @@ module _ (d : Control) (plain : PageId → List ℕ) (c : Context) (reached : Op
   system_deed i w heard =
       still d.number plain c _ _ _ reached _ w heard refl (λ word. ecall_misses d.number word d c i _) (λ is. cc)
 
-  done_deed : (i : Instr) (e : Effect) (w : World) → StoresOnWord e → Heard d.number plain (item.Ok d.number ∷ []) w →
-      Deed d.number c (effect_moves d c i e) reached (inside.done_inside d.number d.resources c i e w)
+  done_deed : (i : Instr) (e : Effect) (w : World) → StoresAligned e → Heard d.number plain (item.Ok d.number ∷ []) w →
+      DoneByInstruction d.number c (effect_moves d c i e) reached (inside.done_inside d.number d.resources c i e w)
   unfolding inside.done_inside effect_moves
   done_deed i (does.Write rd value) w on heard =
       still d.number plain c _ _ _ reached _ w heard refl (λ word. refl) (λ is. cc)
@@ -207,7 +208,7 @@ module _ (d : Control) (plain : PageId → List ℕ) (c : Context) (reached : Op
       (own_page d.number d.resources c.space va) heard
   done_deed i (does.Store va width value) w on heard =
       store_deed d.number plain c reached va width value (page_at d.number d.resources c.space va) w
-      (on.is va width value refl) (own_page d.number d.resources c.space va) heard
+      on (own_page d.number d.resources c.space va) heard
   done_deed i does.System w on heard = system_deed i w heard
   done_deed i does.Nothing w on heard =
       still d.number plain c _ _ _ reached _ w heard refl (λ word. refl) (λ is. cc)
@@ -225,7 +226,7 @@ placed_reached c op va place =
 module _ (n : ℕ) (plain : PageId → List ℕ) (c : Context) where
   conditional_deed : (reserved : Bool) (reached : Option Reached) (rd : ℕ) (q : PageId) (va operand : ℕ) (w : World) →
       va % 4 ≡ 0 → Heard n plain (second_answer n told.Ok) w →
-      Deed n c (if_granted (cond reserved (Stores q (va % 4096) 4 operand ∷ []) [])) reached
+      DoneByInstruction n c (if_granted (cond reserved (Stores q (va % 4096) 4 operand ∷ []) [])) reached
       (inside.conditional_inside reserved c rd q va operand w)
   unfolding inside.conditional_inside
   conditional_deed true reached rd q va operand w even heard = record {
@@ -247,7 +248,7 @@ module _ (n : ℕ) (plain : PageId → List ℕ) (c : Context) where
 
   granted_deed : (rd : ℕ) (op : AtomicOp) (q : PageId) (va operand : ℕ) (w : World) → va % 4 ≡ 0 →
       Heard n plain (second_answer n told.Ok) w →
-      Deed n c (if_granted (atomic_at c op va operand (Some q))) (placed_reached c op va (Some q))
+      DoneByInstruction n c (if_granted (atomic_at c op va operand (Some q))) (placed_reached c op va (Some q))
       (inside.atomic_granted c rd op q va operand w)
   unfolding inside.atomic_granted ask_read
   granted_deed rd Lr q va operand w even heard = record {
@@ -271,7 +272,7 @@ module _ (n : ℕ) (plain : PageId → List ℕ) (c : Context) where
 
   atomic_reached_deed : (rd : ℕ) (op : AtomicOp) (q : PageId) (va operand : ℕ) (a : Answer) (w : World) → va % 4 ≡ 0 →
       Heard n plain (second_answer n a) w →
-      Deed n c (if_granted (atomic_at c op va operand (Some q))) (placed_reached c op va (Some q))
+      DoneByInstruction n c (if_granted (atomic_at c op va operand (Some q))) (placed_reached c op va (Some q))
       (inside.atomic_reached c rd op q va operand a w)
   unfolding inside.atomic_reached
   atomic_reached_deed rd op q va operand told.Ok w even heard = granted_deed rd op q va operand w even heard
@@ -284,7 +285,7 @@ module _ (n : ℕ) (plain : PageId → List ℕ) (c : Context) where
 
   placed_deed : (rd : ℕ) (op : AtomicOp) (va operand : ℕ) (place : Option PageId) (w : World) → va % 4 ≡ 0 →
       IsOwn n place → Heard n plain (item.Ok n ∷ []) w →
-      Deed n c (if_granted (atomic_at c op va operand place)) (placed_reached c op va place)
+      DoneByInstruction n c (if_granted (atomic_at c op va operand place)) (placed_reached c op va place)
       (inside.atomic_placed c rd op va operand place w)
   unfolding inside.atomic_placed
   placed_deed rd op va operand None w even own heard =
@@ -299,7 +300,7 @@ module _ (d : Control) (plain : PageId → List ℕ) (c : Context) where
       Heard d.number plain (item.Ok d.number ∷ []) w →
       let operand = register c.regs a.rs2 in
       let place = page_at d.number d.resources c.space va in
-      Deed d.number c (λ answers. cond aligned (if_granted (atomic_at c a.op va operand place) answers) [])
+      DoneByInstruction d.number c (λ answers. cond aligned (if_granted (atomic_at c a.op va operand place) answers) [])
       (placed_reached c a.op va place)
       (cond aligned (inside.atomic_placed c a.rd a.op va operand place w) (inside.traps c (misaligned a.op) va w))
   aligned_deed true a va w even heard =
@@ -308,7 +309,7 @@ module _ (d : Control) (plain : PageId → List ℕ) (c : Context) where
   aligned_deed false a va w even heard = still d.number plain c _ _ _ _ _ w heard refl (λ word. refl) (λ is. cc)
 
   atomic_deed : (a : Option Atomic) (w : World) → Heard d.number plain (item.Ok d.number ∷ []) w →
-      Deed d.number c (atomic_moves d c a) (law.atomic_reached d c a)
+      DoneByInstruction d.number c (atomic_moves d c a) (law.atomic_reached d c a)
       (inside.atomic_inside d.number d.resources c a w)
   unfolding inside.atomic_inside atomic_moves
   atomic_deed None w heard = still d.number plain c _ _ _ _ _ w heard refl (λ word. refl) (λ is. cc)
@@ -319,23 +320,23 @@ module _ (d : Control) (plain : PageId → List ℕ) (c : Context) where
   -- Every word.
 
   decoded_deed : (word : ℕ) (i : Option Instr) (w : World) → Heard d.number plain (item.Ok d.number ∷ []) w →
-      Deed d.number c (word_moves d c word i) (law.atomic_reached d c (atomic_instruction word))
+      DoneByInstruction d.number c (word_moves d c word i) (law.atomic_reached d c (atomic_instruction word))
       (inside.decoded_inside d.number d.resources c word i w)
   unfolding inside.decoded_inside word_moves
   decoded_deed word None w heard = atomic_deed (atomic_instruction word) w heard
   decoded_deed word (Some i) w heard =
       done_deed d plain c (law.atomic_reached d c (atomic_instruction word)) i (effect i c.regs c.pc) w
-      (effect_stores i c.regs c.pc) heard
+      (effect_aligned i c.regs c.pc) heard
 
   executed_deed : (word : ℕ) (w : World) → Heard d.number plain (item.Ok d.number ∷ []) w →
-      Deed d.number c (word_moves d c word (instruction word)) (law.atomic_reached d c (atomic_instruction word))
+      DoneByInstruction d.number c (word_moves d c word (instruction word)) (law.atomic_reached d c (atomic_instruction word))
       (inside.executed_inside d.number d.resources c word w)
   unfolding inside.executed_inside
   executed_deed word w heard = decoded_deed word (instruction word) w heard
 
   fetched_deed : (history : List Move) (q : PageId) (a : Answer) (w : World) → Agrees history plain →
       Heard d.number plain (first_answer d.number a) w →
-      Deed d.number c (fetched_moves history d c (Some q)) (law.fetched_reached history d c (Some q))
+      DoneByInstruction d.number c (fetched_moves history d c (Some q)) (law.fetched_reached history d c (Some q))
       (inside.fetched_inside d.number d.resources c q a w)
   unfolding inside.fetched_inside fetched_moves ask_read
   fetched_deed history q told.Ok w agrees heard =
@@ -343,7 +344,7 @@ module _ (d : Control) (plain : PageId → List ℕ) (c : Context) where
       let same : word ≡ latest_value history q (c.pc % 4096) 4 =
       ap (λ (p : PageId → List ℕ). value_in (p q) (c.pc % 4096) 4) heard.pages
       ∙ read_value history q (plain q) (c.pc % 4096) 4 (agrees q) in
-      subst (λ (x : ℕ). Deed d.number c (word_moves d c x (instruction x))
+      subst (λ (x : ℕ). DoneByInstruction d.number c (word_moves d c x (instruction x))
       (law.atomic_reached d c (atomic_instruction x)) (inside.executed_inside d.number d.resources c word w)) same
       (executed_deed word w heard)
   fetched_deed history q (told.Absent cause) w agrees heard =
@@ -355,7 +356,7 @@ module _ (d : Control) (plain : PageId → List ℕ) (c : Context) where
 
   fetch_deed : (history : List Move) (place : Option PageId) (w : World) → IsOwn d.number place →
       Agrees history plain → Heard d.number plain [] w →
-      Deed d.number c (fetched_moves history d c place) (law.fetched_reached history d c place)
+      DoneByInstruction d.number c (fetched_moves history d c place) (law.fetched_reached history d c place)
       (inside.fetch d.number d.resources c place w)
   unfolding inside.fetch
   fetch_deed history None w own agrees heard =
@@ -367,7 +368,7 @@ module _ (d : Control) (plain : PageId → List ℕ) (c : Context) where
 
   pub instruction_deed : (history : List Move) (w : World) → Agrees history plain → Heard d.number plain [] w →
       let place = page_at d.number d.resources c.space c.pc in
-      Deed d.number c (fetched_moves history d c place) (law.fetched_reached history d c place)
+      DoneByInstruction d.number c (fetched_moves history d c place) (law.fetched_reached history d c place)
       (inside.instruction_inside d.number d.resources c w)
   unfolding inside.instruction_inside
   instruction_deed history w agrees heard =

@@ -27,7 +27,7 @@ use Rattle.cloak_model.specs.Fork.{copies, private_numbers}
 use Rattle.cloak_model.specs.Hypercalls as hyper
 use Rattle.cloak_model.specs.Hypercalls.{Hypercall, New, ForkSpace, Exit, hypercall_of}
 use Rattle.cloak_model.specs.Resources.{page_at}
-use Rattle.domain_isolation.proofs.InstructionScripts.{IsOwn, own_page}
+use Rattle.script_fold.proofs.InstructionScripts.{IsOwn, own_page}
 use Rattle.latest_store.specs.Moves.{Move, Stores, Copies, Drops, latest_value}
 use Rattle.latest_store.specs.Deeds.{first_granted, both_granted, load_at, store_at, atomic_at, made_moves, file_moves, hypercall_moves, ecall_moves, effect_moves, atomic_moves, word_moves, fetched_moves, byte_moves, phase_moves, context_moves}
 use Rattle.context_law.specs.Inside.{stores_in}

@@ -27,7 +27,7 @@ use Rattle.latest_store.proofs.Heard.{Heard, if_fetched}
 use Rattle.context_law.specs.Inside.{Reached, reserved_by, phase_reached, context_reached}
 use Rattle.context_law.proofs.Marks.{mark_of, mark_at, NoMore, OneMore, set_one, set_none, set_same, none_one, left_unwritten}
 use Rattle.context_law.proofs.Others.{Misses, misses_if, load_misses}
-use Rattle.context_law.proofs.InstructionMarks.{writes_word, if_reached, Deed, instruction_deed}
+use Rattle.context_law.proofs.InstructionMarks.{writes_word, if_reached, DoneByInstruction, instruction_deed}
 use Rattle.context_law.proofs.CopyMarks.{CopyDeed, copy_in_deed, copy_out_deed}
 use Rattle.context_law.proofs.HypercallMarks.{hypercall_one}
 
@@ -96,7 +96,7 @@ module _ (slot : ℕ) (d : Domain) (c : Context) (there : context_at d.control.c
   own_mark k word at is = ap (mark_at d.control.contexts) at ∙ ap mark_of there ∙ is
 
   ended_stepping : (moves : List Item → List Move) (reached : Option Reached) (t : Told AfterInstruction) →
-      Deed d.control.number c moves reached t →
+      DoneByInstruction d.control.number c moves reached t →
       Stepping slot d (if_fetched moves) (if_reached reached)
       (then_ask (instruction_ended slot d t.answer.context t.answer.ending)
       (λ s. answered (after_write t.answer.wrote s)) t.world)

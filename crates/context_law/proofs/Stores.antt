@@ -1,15 +1,12 @@
 -- Which words a move stores in: the one that was written in, and pages of its own domain.
-use Rattle.std.proofs.Common.{◌≡◌, ◌≢◌, ◌∙◌, ◌⊎◌, inl, inr, ℕ, ◌+◌, ◌/◌, ◌*◌, ◌%◌, ◌<◌, Bool, true, false, ◌&&◌, ◌||◌, cond, List, ℤ, refl, sym, ap, subst, arith, eq-eqb, ne_eqb}
+use Rattle.std.proofs.Common.{◌≡◌, ◌≢◌, ◌∙◌, ◌⊎◌, inl, inr, ℕ, ◌+◌, ◌/◌, ◌*◌, ◌%◌, ◌<◌, Bool, true, false, ◌&&◌, ◌||◌, refl, sym, ap, subst, arith, eq-eqb, ne_eqb}
 use Rattle.std.specs.Prelude.{◌==◌, nat_eq, nat_lt}
 use Rattle.std.proofs.lemmas.Bool.{false≢true, and_parts, ltb-true, eqb-true}
 use Rattle.cloak_base.specs.declared.names.PageId.{PageId}
-use Rattle.rv_isa.specs.declared.instr.Instr.{Instr}
-use Rattle.rv_isa.specs.declared.instr.Instr.TheVariants as instr
 use Rattle.cloak_model.specs.declared.context.WordPlace.{WordPlace}
-use Rattle.cloak_model.specs.declared.outcome.Effect.{Effect}
-use Rattle.cloak_model.specs.declared.outcome.Effect.TheVariants as does
 use Rattle.cloak_model.specs.Contexts.{word_of_page, same_word}
-use Rattle.cloak_model.specs.Effect.{offset, effect, jump, go, branch, load_effect}
+use Rattle.cloak_model.specs.Effect.{IsWidth}
+use Rattle.script_fold.proofs.Aligned.{IsAligned}
 use Rattle.latest_store.specs.Sums.{reaches}
 use Rattle.context_law.specs.Inside.{meets_place}
 
@@ -25,6 +22,14 @@ false_if false never = refl
 
 abbrev pub IsOnWord : ℕ → ℕ → Type 0
 IsOnWord va width = (width ≡ 1) ⊎ (((width ≡ 2) × (va % 2 ≡ 0)) ⊎ ((width ≡ 4) × (va % 4 ≡ 0)))
+
+pub on_word : (va width : ℕ) → IsAligned va width → IsOnWord va width
+on_word va width at = by at.1
+  where
+    by : IsWidth width → IsOnWord va width
+    by (inl one) = inl one
+    by (inr (inl two)) = inr (inl (two, subst (λ (n : ℕ). va % n ≡ 0) two at.0))
+    by (inr (inr four)) = inr (inr (four, subst (λ (n : ℕ). va % n ≡ 0) four at.0))
 
 in_word : (va at width : ℕ) → at % 4 ≡ 0 → IsOnWord va width → va % 4096 < at + 4 → at < va % 4096 + width →
     at ≡ va % 4096 / 4 * 4
@@ -67,63 +72,3 @@ pub misses_domain : (d : ℕ) (word : WordPlace) (q : PageId) (from width : ℕ)
 misses_domain d word q from width other =
     ap (λ (b : Bool). (b && (nat_eq q.resource word.resource && nat_eq q.page word.page)) && reaches from width word.at)
     (ne_eqb q.domain d other)
-
--- An instruction that stores does so.
-
-pub record StoresOnWord (e : Effect) : Type 0 where
-  pub is : (va width value : ℕ) → e ≡ does.Store va width value → IsOnWord va width
-
-no_store : (e : Effect) → ((va width value : ℕ) → e ≡ does.Store va width value → ⊥) → StoresOnWord e
-no_store e none = record { is = λ va width value same. absurd (none va width value same) }
-
-either_stores : (test : Bool) (e f : Effect) → StoresOnWord e → StoresOnWord f → StoresOnWord (cond test e f)
-either_stores true e f p q = p
-either_stores false e f p q = q
-
-raise_stores : (cause value : ℕ) → StoresOnWord (does.Raise cause value)
-raise_stores cause value = no_store _ (λ va width value' x. cc)
-
-jump_stores : (rd pc target : ℕ) → StoresOnWord (jump rd pc target)
-jump_stores rd pc target =
-    either_stores (target % 4 == 0) _ _ (no_store _ (λ va width value x. cc)) (raise_stores 0 target)
-
-go_stores : (target : ℕ) → StoresOnWord (go target)
-go_stores target = either_stores (target % 4 == 0) _ _ (no_store _ (λ va width value x. cc)) (raise_stores 0 target)
-
-branch_stores : (taken : Bool) (pc : ℕ) (imm : ℤ) → StoresOnWord (branch taken pc imm)
-branch_stores taken pc imm =
-    either_stores taken _ _ (go_stores (offset pc imm)) (no_store _ (λ va width value x. cc))
-
-load_stores : (rd va width : ℕ) (signed : Bool) → StoresOnWord (load_effect rd va width signed)
-load_stores rd va width signed =
-    either_stores (va % width == 0) _ _ (no_store _ (λ va width value x. cc)) (raise_stores 4 va)
-
-store_if : (test : Bool) (va width value : ℕ) → (test ≡ true → IsOnWord va width) →
-    StoresOnWord (cond test (does.Store va width value) (does.Raise 6 va))
-store_if true va width value on = record {
-  is = λ va' width' value' same.
-      let a : va ≡ va' = cc in
-      let b : width ≡ width' = cc in
-      subst (λ (x : ℕ). IsOnWord x width') a (subst (λ (x : ℕ). IsOnWord va x) b (on refl));
-}
-store_if false va width value on = raise_stores 6 va
-
-pub effect_stores : (i : Instr) (r : List ℕ) (pc : ℕ) → StoresOnWord (effect i r pc)
-unfolding effect
-effect_stores (instr.Jal rd imm) r pc = jump_stores rd pc _
-effect_stores (instr.Jalr rd rs1 imm) r pc = jump_stores rd pc _
-effect_stores (instr.Beq rs1 rs2 imm) r pc = branch_stores _ pc imm
-effect_stores (instr.Bne rs1 rs2 imm) r pc = branch_stores _ pc imm
-effect_stores (instr.Blt rs1 rs2 imm) r pc = branch_stores _ pc imm
-effect_stores (instr.Bge rs1 rs2 imm) r pc = branch_stores _ pc imm
-effect_stores (instr.Bltu rs1 rs2 imm) r pc = branch_stores _ pc imm
-effect_stores (instr.Bgeu rs1 rs2 imm) r pc = branch_stores _ pc imm
-effect_stores (instr.Lb rd rs1 imm) r pc = load_stores rd _ 1 true
-effect_stores (instr.Lh rd rs1 imm) r pc = load_stores rd _ 2 true
-effect_stores (instr.Lw rd rs1 imm) r pc = load_stores rd _ 4 true
-effect_stores (instr.Lbu rd rs1 imm) r pc = load_stores rd _ 1 false
-effect_stores (instr.Lhu rd rs1 imm) r pc = load_stores rd _ 2 false
-effect_stores (instr.Sb rs1 rs2 imm) r pc = store_if _ _ 1 _ (λ test. inl refl)
-effect_stores (instr.Sh rs1 rs2 imm) r pc = store_if _ _ 2 _ (λ test. inr (inl (refl, eqb-true _ 0 test)))
-effect_stores (instr.Sw rs1 rs2 imm) r pc = store_if _ _ 4 _ (λ test. inr (inr (refl, eqb-true _ 0 test)))
-effect_stores _ r pc = no_store _ (λ va width value x. cc)

@@ -16,8 +16,8 @@ use Rattle.cloak_model.specs.DomainState.{Domain}
 use Rattle.cloak_model.specs.DomainStep.{DomainStepped, interrupt, resume_slot}
 use Rattle.cloak_model.specs.DomainAlone as alone
 use Rattle.cloak_model.specs.DomainAlone.{DomainAlone, DomainPlace, Between, Other, Running, Done, Stopped, Over, Wants, Wrong, tried, try_with, handed_of, is_stopped, domain_taken, take_domain_item, domain_takes, take_domain_step, domain_step_ended, domain_step_begun, slot_on, place_for, take_answer, answered_by, made_by, take_timer, take_resume, resumed_by, is_granted, with_control}
-use Rattle.domain_isolation.proofs.Scripts.{played}
-use Rattle.domain_isolation.proofs.StepScripts.{step_scripted}
+use Rattle.script_fold.proofs.Scripts.{played}
+use Rattle.script_fold.proofs.StepScripts.{step_scripted}
 use Rattle.domain_isolation.proofs.Answers.{alone_with, IsServing}
 use Rattle.domain_isolation.proofs.Played.{answers_of, answer_items, last_stopped, played_alone, played_short}
 use Rattle.domain_isolation.proofs.Ignoring.{item_taken}

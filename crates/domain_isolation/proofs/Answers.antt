@@ -18,7 +18,7 @@ use Rattle.cloak_model.specs.World.{World, Flat, Cloaked, Alone, Handed, plain_o
 use Rattle.cloak_model.specs.Asking.{Told, Asking}
 use Rattle.cloak_model.specs.AskPages.{inside_access, replies, if_drawn, ask_inside_address, offered_by, ask_offer, reached, reach_by_table, get_at, got, get_by_table, put_at, stored_inside, put_by_table, clear_from, is_for_access, is_for_value, is_for_clearing, of_width, next_answer, ask_reach, ask_read, ask_write, ask_get, ask_put, ask_clear, ask_copy, ask_forget}
 use Rattle.cloak_model.specs.Ask.{opened}
-use Rattle.domain_isolation.proofs.Scripts.{Question, Reach, Get, Put, Clear, Change, Write, Copy, Forget, asked, changed}
+use Rattle.script_fold.proofs.Scripts.{Question, Reach, Get, Put, Clear, Change, Write, Copy, Forget, asked, changed}
 use Rattle.domain_isolation.proofs.Steady.{is_cloaked, Replied, replied_reach, replied_get, replied_put, replied_clear}
 
 -- a program that runs alone, with the pages of this domain and these answers
@@ -179,7 +179,7 @@ question_answered {d} (Get va width) (Cloaked c) cloaked =
                 (plain_of t.world) rest;
           } in x) has.narrow;
     }
-question_answered {d} (Put va width value) (Cloaked c) cloaked =
+question_answered {d} (Put va width value at) (Cloaked c) cloaked =
     let t = put_by_table va width value (Cloaked c) in
     let r = replied_put va width value (Cloaked c) refl in
     record {
@@ -208,7 +208,7 @@ pub question_missing : {d : ℕ} (question : Question d) (plain : PageId → Lis
 unfolding ask_reach ask_get ask_put ask_clear next_answer
 question_missing {d} (Reach q own va kind) plain = (domain_pages d plain, refl)
 question_missing {d} (Get va width) plain = (domain_pages d plain, refl)
-question_missing {d} (Put va width value) plain = (domain_pages d plain, refl)
+question_missing {d} (Put va width value at) plain = (domain_pages d plain, refl)
 question_missing {d} (Clear marked) plain = (domain_pages d plain, refl)
 
 pub question_stuck : {d : ℕ} (question : Question d) (plain : ℕ → ℕ → List ℕ) →
@@ -216,7 +216,7 @@ pub question_stuck : {d : ℕ} (question : Question d) (plain : ℕ → ℕ → 
 unfolding ask_reach ask_get ask_put ask_clear next_answer
 question_stuck (Reach q own va kind) plain = (plain, refl)
 question_stuck (Get va width) plain = (plain, refl)
-question_stuck (Put va width value) plain = (plain, refl)
+question_stuck (Put va width value at) plain = (plain, refl)
 question_stuck (Clear marked) plain = (plain, refl)
 
 pub change_stuck : {d : ℕ} (change : Change d) (plain : ℕ → ℕ → List ℕ) →

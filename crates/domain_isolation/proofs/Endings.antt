@@ -1,5 +1,5 @@
 -- The end of a domain after a step, and what the program alone makes of it.
-use Rattle.std.proofs.Common.{◌≡◌, ◌≢◌, ◌∙◌, inl, inr, zero, suc, ◌+◌, ◌<◌, true, false, cond, ℕ, Bool, List, [], ◌∷◌, ◌++◌, length, Option, Some, None, refl, ap, sym, subst, eq-eqb, ne_eqb, append-nil, if◌then◌else◌}
+use Rattle.std.proofs.Common.{◌≡◌, ◌≢◌, ◌∙◌, inl, inr, suc, ◌+◌, ◌<◌, true, false, cond, ℕ, Bool, List, [], ◌∷◌, ◌++◌, length, Option, Some, None, refl, ap, sym, subst, eq-eqb, ne_eqb, append-nil, if◌then◌else◌}
 use Rattle.std.specs.Prelude.{◌==◌, ◌||◌, is_some, slice_get}
 use Rattle.std.specs.List.{AllByRecursion}
 use Rattle.std.proofs.lemmas.List.Elements.{filter-append}
@@ -7,12 +7,12 @@ use Rattle.cloak_base.specs.declared.causes.Violation.{Violation}
 use Rattle.cloak_base.specs.declared.names.PageId.{PageId}
 use Rattle.cloak_model.specs.declared.item.Item.{Item}
 use Rattle.cloak_model.specs.declared.item.Item.TheVariants as item
-use Rattle.cloak_model.specs.AskPages.{ask_forget, settled_if_marked}
+use Rattle.cloak_model.specs.AskPages.{ask_forget}
 use Rattle.cloak_model.specs.Cloaking.{CloakedMemory}
 use Rattle.cloak_model.specs.Contexts.{domain_of}
 use Rattle.cloak_model.specs.DomainAlone.{DomainAlone, DomainPlace, Between, Other, Done, Stopped, handed_of, domain_taken, take_domain_item, domain_takes, take_ended, ended_part, domain_gone, domain_step_ended, slot_on, place_for}
 use Rattle.cloak_model.specs.DomainState.{Domain}
-use Rattle.cloak_model.specs.Ending.{all_marked, settled_for, ask_end, cloak_for, handed_for, ended_domain}
+use Rattle.cloak_model.specs.Ending.{settled_for, ask_end, cloak_for, handed_for, ended_domain}
 use Rattle.cloak_model.specs.Fork.{ask_forgets}
 use Rattle.cloak_model.specs.Halves.{is_inward, inward_half}
 use Rattle.cloak_model.specs.Joint.{Turn, hart_in, turn_of, stop_of, domain_met, end_domain, refuses, ends_once, ends_resumed, ends_asked, answers_violation}
@@ -26,8 +26,9 @@ use Rattle.domain_isolation.proofs.Ignoring.{taken_append, taken_half, none_take
 use Rattle.domain_isolation.proofs.InOrder.{same_some, decided, InOrder, order_ends, get_set_same, get_set_other}
 use Rattle.domain_isolation.proofs.InsideSteps.{memory_plain, turn_alone}
 use Rattle.domain_isolation.proofs.JointSteps.{HoldsPart, StepAlone}
-use Rattle.domain_isolation.proofs.Scripts.{Forget}
-use Rattle.domain_isolation.proofs.Steady.{is_cloaked, Steady, Steady-refl, Steady-trans, steady_if_marked}
+use Rattle.script_fold.proofs.Endings.{keeps_settled_for}
+use Rattle.script_fold.proofs.Scripts.{Forget}
+use Rattle.domain_isolation.proofs.Steady.{is_cloaked, Steady, steady_opens}
 
 -- Its pages.
 
@@ -36,12 +37,6 @@ pub record EndLeaves (d : ℕ) (w v : World) : Type 0 where
   pub form : is_cloaked v ≡ true
   pub items : (e : ℕ) → inward_half e (items_of v) ≡ inward_half e (items_of w)
   pub others : (e : ℕ) → e ≢ d → domain_pages e (plain_of v) ≡ domain_pages e (plain_of w)
-
-pub steady_for : (d f n : ℕ) (w : World) → Steady w (settled_for d f n w)
-unfolding settled_for
-steady_for d f zero w = Steady-refl w
-steady_for d f (suc n) w =
-    Steady-trans _ _ _ (steady_if_marked d all_marked f w) (steady_for d (f + 1) n (settled_if_marked d all_marked f w))
 
 forgets_leave : (d : ℕ) (numbers : List ℕ) (w : World) → is_cloaked w ≡ true → EndLeaves d w (ask_forgets d numbers w).world
 unfolding ask_forgets
@@ -74,7 +69,7 @@ unfolding ask_end
 end_leaves d m =
     let w = Cloaked (cloak_for m d) in
     let v = settled_for d 0 (length m.ram) w in
-    let s = steady_for d 0 (length m.ram) w in
+    let s = keeps_settled_for Steady steady_opens.settles d 0 (length m.ram) w in
     let r = forgets_leave d (numbers_below 16) v s.form in
     record {
       form = r.form;
@@ -90,7 +85,7 @@ unfolding ask_end settled_for
 end_same d m =
     let w = Cloaked (cloak_for m d) in
     let v = settled_for d 0 (length m.ram) w in
-    let s = steady_for d 0 (length m.ram) w in
+    let s = keeps_settled_for Steady steady_opens.settles d 0 (length m.ram) w in
     ap (λ (pages : PageId → List ℕ). (handed_of (ask_forgets d (numbers_below 16) (alone_with d pages [])).world).plain)
     (sym s.plain)
     ∙ ap (λ (x : World). (handed_of x).plain) (forgets_same d (numbers_below 16) v s.form)

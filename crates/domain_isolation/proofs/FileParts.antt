@@ -15,7 +15,7 @@ use Rattle.cloak_model.specs.Parts.{Joint, DomainPart, domain_pages}
 use Rattle.cloak_model.specs.Resources.{Mapped}
 use Rattle.cloak_model.specs.StoredFiles.{PageContent, FileContents}
 use Rattle.kernel_isolation.proofs.FilesAdded.{IsGiven, file_made, with_given_file, files_carry, KeepsMachine, was_there}
-use Rattle.domain_isolation.proofs.Runs.{runs_in}
+use Rattle.script_fold.proofs.Runs.{runs_in}
 use Rattle.domain_isolation.proofs.InOrder.{same_some, decided, inside_at, is_running, InOrder, get_set_same, get_set_other}
 use Rattle.domain_isolation.proofs.JointSteps.{HoldsPart}
 

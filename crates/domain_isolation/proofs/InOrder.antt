@@ -15,7 +15,7 @@ use Rattle.cloak_model.specs.DomainState.{Control, Domain}
 use Rattle.cloak_model.specs.Ending.{ended_domain}
 use Rattle.cloak_model.specs.DomainStep.{answer_in, answer_taken, resume_told, resume_slot}
 use Rattle.cloak_model.specs.DomainAlone.{is_hart, runs_on, slot_on, is_granted}
-use Rattle.domain_isolation.proofs.Runs.{runs_in, set_same, set_others, MovesSlot}
+use Rattle.script_fold.proofs.Runs.{runs_in, set_same, set_others, MovesSlot}
 
 pub same_some : {A : Type 0} (a b : A) → Some a ≡ Some b → a ≡ b
 same_some a b is = ap (λ (o : Option _). unwrap_or o a) is

@@ -32,9 +32,9 @@ use Rattle.cloak_model.specs.Parts.{Joint, DomainPart, domain_pages}
 use Rattle.cloak_model.specs.Joint.{Turn, quiet, hart_in, with_hart, cloak_of, memory_of, domain_ended, with_domain, after_domain_step, pages_for, interrupt_ended, after_interrupt, by_interrupt, inside_step, turn_of, stop_without_miss, by_running, left, not_running}
 use Rattle.cloak_model.specs.DomainAlone.{DomainAlone, Running, domain_taken, place_for, is_stopped, runs_on}
 use Rattle.domain_isolation.proofs.Ignoring.{half_taken, taken_half}
-use Rattle.domain_isolation.proofs.Runs.{MovesSlot, slot_kept, slot_left, has_left, runs_in}
-use Rattle.domain_isolation.proofs.Scripts.{played}
-use Rattle.domain_isolation.proofs.StepScripts.{of_domain, step_scripted}
+use Rattle.script_fold.proofs.Runs.{MovesSlot, slot_kept, slot_left, has_left, runs_in}
+use Rattle.script_fold.proofs.Scripts.{played}
+use Rattle.script_fold.proofs.StepScripts.{of_domain, step_scripted}
 use Rattle.domain_isolation.proofs.Steady.{is_cloaked, is_halted}
 use Rattle.domain_isolation.proofs.Answers.{IsServing}
 use Rattle.domain_isolation.proofs.Played.{answers_of, answer_items, played_serving, played_items, played_others, played_ends, played_stopped, played_met}

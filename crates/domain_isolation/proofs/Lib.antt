@@ -1,10 +1,4 @@
 pub mod Ignoring
-pub mod Scripts
-pub mod Runs
-pub mod InstructionScripts
-pub mod CopyScripts
-pub mod ForkScripts
-pub mod StepScripts
 pub mod Steady
 pub mod Answers
 pub mod Played

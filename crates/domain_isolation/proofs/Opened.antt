@@ -25,7 +25,7 @@ use Rattle.cloak_model.specs.Joint.{hart_in, cloak_outside}
 use Rattle.cloak_model.specs.Run.{settled_below, closing}
 use Rattle.cloak_model.specs.DomainAlone.{started_page, started_part, with_files, part_from, is_hart}
 use Rattle.kernel_isolation.proofs.FilesAdded.{OpensOver, files_of, added_keep}
-use Rattle.domain_isolation.proofs.Runs.{runs_in}
+use Rattle.script_fold.proofs.Runs.{runs_in}
 use Rattle.domain_isolation.proofs.Steady.{settle_plain, ciphers_told}
 use Rattle.domain_isolation.proofs.InOrder.{same_some, decided, inside_at, InOrder, started_outside}
 use Rattle.domain_isolation.proofs.JointSteps.{HoldsPart}

@@ -14,7 +14,7 @@ use Rattle.cloak_model.specs.World.{World, plain_of, items_of, violation_of}
 use Rattle.cloak_model.specs.Asking.{Told}
 use Rattle.cloak_model.specs.AskPages.{answer_item, ask_read}
 use Rattle.cloak_model.specs.DomainAlone.{is_stopped}
-use Rattle.domain_isolation.proofs.Scripts.{Question, Change, Script, Gives, Asks, Reads, Changes, asked, changed, played, Ending, IsStop, EndsSo}
+use Rattle.script_fold.proofs.Scripts.{Question, Change, Script, Gives, Asks, Reads, Changes, asked, changed, played, EndClaims, IsStop, EndsSo}
 use Rattle.domain_isolation.proofs.Steady.{is_halted}
 use Rattle.domain_isolation.proofs.Answers.{alone_with, IsServing, question_answered, IsStuck, question_missing, question_stuck, change_stuck, read_same, change_same, change_leaves}
 
@@ -90,7 +90,7 @@ played_others (Changes change more) w serving e other =
     ∙ (change_leaves change w serving.form).others e other
 
 -- it ends so
-pub played_ends : {d : ℕ} {A : Type 0} (e : Ending A) (s : Script d A) (w : World) → EndsSo e s →
+pub played_ends : {d : ℕ} {A : Type 0} (e : EndClaims A) (s : Script d A) (w : World) → EndsSo e s →
     e.each (played s w).answer
 unfolding EndsSo
 played_ends e (Gives a) w ends = ends
@@ -102,11 +102,11 @@ played_ends e (Reads q own at width more) w ends =
 played_ends e (Changes change more) w ends = played_ends e more (changed change w).world ends
 
 -- A stop.
-pub record Halts {A : Type 0} (e : Ending A) (t : Told A) : Type 0 where
+pub record Halts {A : Type 0} (e : EndClaims A) (t : Told A) : Type 0 where
   pub stopped : e.stopped t.answer
   pub halted : is_halted t.world ≡ true
 
-stop_halts : {d : ℕ} {A : Type 0} (e : Ending A) (s : Script d A) (w : World) → IsStop e s → is_halted w ≡ true →
+stop_halts : {d : ℕ} {A : Type 0} (e : EndClaims A) (s : Script d A) (w : World) → IsStop e s → is_halted w ≡ true →
     Halts e (played s w)
 unfolding IsStop
 stop_halts e (Gives a) w is halted = record { stopped = is; halted = halted }
@@ -118,7 +118,7 @@ is_stop : (a : Answer) → is_stopped a ≡ true → a ≡ told.Stopped
 is_stop told.Stopped is = refl
 is_stop a is = absurd cc
 
-stopped_by : {d : ℕ} {A : Type 0} (e : Ending A) (question : Question d) (more : Answer → Script d A) (w : World) →
+stopped_by : {d : ℕ} {A : Type 0} (e : EndClaims A) (question : Question d) (more : Answer → Script d A) (w : World) →
     IsServing d w → IsStop e (more told.Stopped) →
     (b : Bool) → is_stopped (asked question w).answer ≡ b → (later : Bool) →
     (later ≡ true → Halts e (played (more (asked question w).answer) (asked question w).world)) → (b || later) ≡ true →
@@ -131,7 +131,7 @@ stopped_by e question more w serving stops true is later next any =
 stopped_by e question more w serving stops false is later next any = next any
 
 -- with an answer that stops, the script was stopped, and the run must stop
-pub played_stopped : {d : ℕ} {A : Type 0} (e : Ending A) (s : Script d A) (w : World) → EndsSo e s → IsServing d w →
+pub played_stopped : {d : ℕ} {A : Type 0} (e : EndClaims A) (s : Script d A) (w : World) → EndsSo e s → IsServing d w →
     list_any is_stopped (answers_of s w) ≡ true → Halts e (played s w)
 unfolding EndsSo ask_read
 played_stopped e (Gives a) w ends serving any = absurd (false≢true any)
@@ -156,14 +156,14 @@ last_cons : (a : Answer) (answers : List Answer) → last_stopped answers ≡ tr
 last_cons a [] last = absurd (false≢true last)
 last_cons a (b ∷ answers) last = last
 
-stop_answers : {d : ℕ} {A : Type 0} (e : Ending A) (s : Script d A) (w : World) → IsStop e s → answers_of s w ≡ []
+stop_answers : {d : ℕ} {A : Type 0} (e : EndClaims A) (s : Script d A) (w : World) → IsStop e s → answers_of s w ≡ []
 unfolding IsStop
 stop_answers e (Gives a) w is = refl
 stop_answers e (Asks question more) w is = absurd is
 stop_answers e (Reads q own at width more) w is = absurd is
 stop_answers e (Changes change more) w is = absurd is
 
-met_by : {d : ℕ} {A : Type 0} (e : Ending A) (question : Question d) (more : Answer → Script d A) (w : World) →
+met_by : {d : ℕ} {A : Type 0} (e : EndClaims A) (question : Question d) (more : Answer → Script d A) (w : World) →
     IsServing d w → violation_of w ≡ None → IsStop e (more told.Stopped) → (o : Option Violation) →
     violation_of (asked question w).world ≡ o →
     (o ≡ None → last_stopped (answers_of (more (asked question w).answer) (asked question w).world) ≡ true) →
@@ -178,7 +178,7 @@ met_by e question more w serving none stops (Some v) is later =
     stop_answers e (more t.answer) t.world (subst (λ (a : Answer). IsStop e (more a)) (sym stop) stops) in
     ap (λ (l : List Answer). last_stopped (t.answer ∷ l)) over ∙ ap is_stopped stop
 
-pub played_met : {d : ℕ} {A : Type 0} (e : Ending A) (s : Script d A) (w : World) → EndsSo e s → IsServing d w →
+pub played_met : {d : ℕ} {A : Type 0} (e : EndClaims A) (s : Script d A) (w : World) → EndsSo e s → IsServing d w →
     violation_of w ≡ None → is_some (violation_of (played s w).world) ≡ true → last_stopped (answers_of s w) ≡ true
 unfolding EndsSo ask_read
 played_met e (Gives a) w ends serving none some = absurd (false≢true (sym (ap is_some none) ∙ some))

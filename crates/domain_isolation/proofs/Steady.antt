@@ -15,16 +15,15 @@ use Rattle.cloak_model.specs.declared.answer.Answer.{Answer}
 use Rattle.cloak_model.specs.declared.answer.Answer.TheVariants as told
 use Rattle.cloak_model.specs.declared.item.Item.{Item}
 use Rattle.cloak_model.specs.Events.{Event}
-use Rattle.cloak_base.specs.Constants.{frame_of}
 use Rattle.cloak_model.specs.Ledger.{vector_of}
 use Rattle.cloak_model.specs.Halves.{is_inward, inward_half}
 use Rattle.cloak_model.specs.Cloaking.{CloakedMemory, AfterSettling, AfterOffer, Offer, Ready, Mismatch, Missed, settle, settle_if, settle_owed, settle_frame_if, owing_frame, owes, owed_in, compared, unless_missed, offer}
 use Rattle.cloak_model.specs.World.{World, Flat, Cloaked, Alone, plain_of, regime_of, items_of, violation_of, is_missed, noted, stored_at, settled, written, cipher_items}
 use Rattle.cloak_model.specs.Asking.{Told, Asking}
-use Rattle.cloak_model.specs.Walk.{Walk, FirstWord, Ends, GoesOn, first_entry}
-use Rattle.cloak_model.specs.Ask.{ask_word, ask_second, ask_after, ask_first, ask_walk, ask_inside, ask_translate, ask_led, opened}
+use Rattle.cloak_model.specs.Ask.{opened}
 use Rattle.cloak_model.specs.AskPages.{answer_item, is_store, inside_access, replies, if_drawn, ask_inside_address, offered_by, ask_offer, reached, reach_by_table, get_at, got, get_by_table, put_at, stored_inside, put_by_table, settled_if_marked, clear_from}
 use Rattle.cloak_model.proofs.Clashes.{either}
+use Rattle.script_fold.proofs.Questions.{Opens, opens_by, keeps_inside_address, keeps_if_marked}
 
 abbrev pub is_cloaked : World → Bool
 is_cloaked (Flat ram) = false
@@ -167,11 +166,6 @@ Steady-trans u v w p q =
       violation = q.violation ∙ p.violation;
     }
 
-Steady-either : {A : Type 0} (b : Bool) (m n : Told A) (w : World) → Steady w m.world → Steady w n.world →
-    Steady w (cond b m n).world
-Steady-either true m n w p q = p
-Steady-either false m n w p q = q
-
 Steady-settled : (f : ℕ) (w : World) → Steady w (settled f w)
 Steady-settled f (Flat ram) = Steady-refl (Flat ram)
 Steady-settled f (Cloaked c) =
@@ -190,8 +184,15 @@ Steady-noted events (Flat ram) = Steady-refl (Flat ram)
 Steady-noted events (Cloaked c) = record { plain = refl; regime = refl; form = refl; items = λ d. refl; violation = refl }
 Steady-noted events (Alone h) = Steady-refl (Alone h)
 
+pub steady_opens : Opens Steady
+steady_opens =
+    opens_by Steady (record { same = Steady-refl; chained = Steady-trans; settled = Steady-settled }) Steady-noted
+
+steady_inside_address : (va : ℕ) (kind : Kind) (w : World) → Steady w (ask_inside_address va kind w).world
+steady_inside_address va kind w = keeps_inside_address Steady steady_opens va kind w
+
 Steady-opened : (satp : ℕ) (a : Access) (pa : ℕ) (w : World) → Steady w (opened satp a pa w)
-Steady-opened satp a pa w = Steady-trans _ _ _ (Steady-settled (frame_of pa) w) (Steady-noted _ _)
+Steady-opened satp a pa w = steady_opens.opened satp a pa w
 
 Steady-stored_at : (pa width value : ℕ) (w : World) → Steady w (stored_at pa width value w)
 Steady-stored_at pa width value (Flat ram) = record { plain = refl; regime = refl; form = refl; items = λ d. refl; violation = refl }
@@ -211,44 +212,6 @@ Steady-written i (Cloaked c) outward = record {
   violation = refl;
 }
 Steady-written i (Alone h) outward = Steady-refl (Alone h)
-
-steady_word : (pa : ℕ) (w : World) → Steady w (ask_word pa w).world
-unfolding ask_word
-steady_word pa w = Steady-either _ _ _ w (Steady-settled (frame_of pa) w) (Steady-refl w)
-
-steady_second : (a : Access) (at1 at0 : ℕ) (w : World) → Steady w (ask_second a at1 at0 w).world
-unfolding ask_second
-steady_second a at1 at0 w = steady_word at0 w
-
-steady_after : (a : Access) (at1 : ℕ) (word : FirstWord) (w : World) → Steady w (ask_after a at1 word w).world
-unfolding ask_after
-steady_after a at1 (Ends walk) w = Steady-refl w
-steady_after a at1 (GoesOn at0) w = steady_second a at1 at0 w
-
-steady_first : (a : Access) (at1 : ℕ) (w : World) → Steady w (ask_first a at1 w).world
-unfolding ask_first
-steady_first a at1 w = Steady-trans _ _ _ (steady_word at1 w) (steady_after a at1 _ _)
-
-steady_walk : (satp : ℕ) (a : Access) (w : World) → Steady w (ask_walk satp a w).world
-unfolding ask_walk
-steady_walk satp a w = Steady-either _ _ _ w (steady_first a (first_entry satp a.va) w) (Steady-refl w)
-
-steady_inside : (a : Access) (walk : Walk) (w : World) → Steady w (ask_inside a walk w).world
-unfolding ask_inside
-steady_inside a (Err cause) w = Steady-refl w
-steady_inside a (Ok walked) w = Steady-refl w
-
-steady_translate : (satp : ℕ) (a : Access) (w : World) → Steady w (ask_translate satp a w).world
-unfolding ask_translate
-steady_translate satp a w = Steady-trans _ _ _ (steady_walk satp a w) (steady_inside a _ _)
-
-steady_led : (satp : ℕ) (a : Access) (w : World) → Steady w (ask_led satp a w).world
-unfolding ask_led
-steady_led satp a w = Steady-trans _ _ _ (Steady-noted _ w) (steady_translate satp a _)
-
-steady_inside_address : (va : ℕ) (kind : Kind) (w : World) → Steady w (ask_inside_address va kind w).world
-unfolding ask_inside_address
-steady_inside_address va kind w = steady_led _ _ w
 
 -- A step that is to stop the run: a draw was missing, or the kernel presented what is not recorded.
 abbrev pub is_halted : World → Bool
@@ -414,21 +377,12 @@ replied_put va width value w cloaked =
     replied_after w to.world _ steady (replied_drawn (stored_inside va width value to.answer) to.world cloaked'
     (replied_stored va width value to.answer to.world cloaked'))
 
-either_world : (b : Bool) (w v : World) → Steady w v → Steady w (if b then v else w)
-either_world true w v steady = steady
-either_world false w v steady = Steady-refl w
-
-pub steady_if_marked : (domain : ℕ) (marked : List Bool) (f : ℕ) (w : World) →
-    Steady w (settled_if_marked domain marked f w)
-unfolding settled_if_marked
-steady_if_marked domain marked f w = either_world _ w (settled f w) (Steady-settled f w)
-
 pub replied_clear : (domain : ℕ) (marked : List Bool) (f n : ℕ) (w : World) → is_cloaked w ≡ true →
     Replied w (clear_from domain marked f n w)
 unfolding clear_from
 replied_clear domain marked f zero w cloaked = replied told.Ok w cloaked (λ e. absurd cc)
 replied_clear domain marked f (suc n) w cloaked =
-    let steady = steady_if_marked domain marked f w in
+    let steady = keeps_if_marked Steady steady_opens.settles domain marked f w in
     let cloaked' : is_cloaked (settled_if_marked domain marked f w) ≡ true = steady.form ∙ cloaked in
     replied_after w _ _ steady (replied_drawn (clear_from domain marked (f + 1) n) _ cloaked'
     (replied_clear domain marked (f + 1) n _ cloaked'))

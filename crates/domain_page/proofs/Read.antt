@@ -19,14 +19,14 @@ use Rattle.cloak_model.specs.DomainState.{hart_byte, phase_bytes, slot_bytes, re
 use Rattle.cloak_model.specs.Record.{IsWord}
 use Rattle.frozen_state.specs.DomainPage.{mark_bytes, slot_mark_bytes}
 use Rattle.frozen_state.specs.Words.{AreWords}
-use Rattle.domain_page.specs.Reading.{Reads, all, phase_in, hart_in, owner_in, HasPhaseWords, AreRegs, regs_bytes, HasMarkWords, IsReadableSlot, unmarked, HasRegionWords, AreRegions, IsReadableSpace, HasOwnerNumber, IsReadableNumber}
+use Rattle.domain_page.specs.Reading.{ReadsSpelled, all, phase_in, hart_in, owner_in, HasPhaseWords, AreRegs, regs_bytes, HasMarkWords, IsReadableSlot, unmarked, HasRegionWords, AreRegions, IsReadableSpace, HasOwnerNumber, IsReadableNumber}
 use Rattle.domain_page.specs.Writing.{HasHart}
 
 abbrev pub ReadsByte : List ℕ → List ℕ → ℕ → Type 0
 ReadsByte old new given = (x : ℕ) (rest : List ℕ) → old ≡ x ∷ rest → (given ≡ x) × (new ≡ rest)
 
 abbrev pub ReadsWord : List ℕ → List ℕ → ℕ → Type 0
-ReadsWord old new given = Reads word IsWord all old new given
+ReadsWord old new given = ReadsSpelled word IsWord all old new given
 
 -- A row of things.
 
@@ -81,7 +81,7 @@ phase_at l0 l1 l2 l3 number done total tag a b first second third rest fits also
     (rw (r1.0, r2.0, r3.0) refl, r3.1)
 
 pub phase_read : (l0 l1 l2 l3 : List ℕ) (number done total : ℕ) → ReadsByte l0 l1 number → ReadsWord l1 l2 done →
-    ReadsWord l2 l3 total → Reads phase_bytes HasPhaseWords all l0 l3 (phase_in number done total)
+    ReadsWord l2 l3 total → ReadsSpelled phase_bytes HasPhaseWords all l0 l3 (phase_in number done total)
 phase_read l0 l1 l2 l3 n d t first second third Plain rest right e =
     phase_at l0 l1 l2 l3 n d t 0 0 0 first second third rest (omega arith) (omega arith) e
 phase_read l0 l1 l2 l3 n d t first second third (CopyIn done) rest right e =
@@ -108,16 +108,16 @@ same_context : (c : Context) (pc : ℕ) (regs : List ℕ) (phase : Phase) (space
 same_context c pc regs phase space on a b d e f = cc
 
 pub slot_none : (l0 l1 : List ℕ) (tag : ℕ) → ReadsByte l0 l1 tag → tag ≡ 0 →
-    Reads slot_bytes IsReadableSlot unmarked l0 l1 None
+    ReadsSpelled slot_bytes IsReadableSlot unmarked l0 l1 None
 slot_none l0 l1 tag first nil None rest right e = (refl, (first 0 rest e).1)
 slot_none l0 l1 tag first nil (Some c) rest right e =
     let r = first 1 ((hart_byte c.on ∷ (phase_bytes c.phase ++ (word c.space ++ (word c.pc ++ regs_bytes c.regs)))) ++ rest) e in
     absurd (omega (arith, r.0, nil))
 
 pub slot_some : (l0 l1 l2 l3 l4 l5 l6 : List ℕ) (tag byte : ℕ) (phase : Phase) (space pc : ℕ) (regs : List ℕ) →
-    ReadsByte l0 l1 tag → ReadsByte l1 l2 byte → Reads phase_bytes HasPhaseWords all l2 l3 phase → ReadsWord l3 l4 space →
-    ReadsWord l4 l5 pc → Reads regs_bytes AreRegs all l5 l6 regs → (tag ≡ 0 → ⊥) →
-    Reads slot_bytes IsReadableSlot unmarked l0 l6
+    ReadsByte l0 l1 tag → ReadsByte l1 l2 byte → ReadsSpelled phase_bytes HasPhaseWords all l2 l3 phase → ReadsWord l3 l4 space →
+    ReadsWord l4 l5 pc → ReadsSpelled regs_bytes AreRegs all l5 l6 regs → (tag ≡ 0 → ⊥) →
+    ReadsSpelled slot_bytes IsReadableSlot unmarked l0 l6
     (Some (record { pc = pc / 4 * 4; regs = regs; phase = phase; space = space; on = hart_in byte; mark = None }))
 slot_some l0 l1 l2 l3 l4 l5 l6 tag byte phase space pc regs a b c d e f used None rest right is =
     absurd (used (a 0 rest is).0)
@@ -143,14 +143,14 @@ same_mark : (p : WordPlace) (resource page at : ℕ) → resource ≡ p.resource
     Some (record { resource = resource; page = page; at = at }) ≡ Some p
 same_mark p resource page at a b c = rw (a, b, c) refl
 
-pub mark_none : (l0 l1 : List ℕ) (tag : ℕ) → ReadsByte l0 l1 tag → tag ≡ 0 → Reads mark_bytes HasMarkWords all l0 l1 None
+pub mark_none : (l0 l1 : List ℕ) (tag : ℕ) → ReadsByte l0 l1 tag → tag ≡ 0 → ReadsSpelled mark_bytes HasMarkWords all l0 l1 None
 mark_none l0 l1 tag first nil None rest right e = (refl, (first 0 rest e).1)
 mark_none l0 l1 tag first nil (Some p) rest right e =
     let r = first 1 ((word p.resource ++ (word p.page ++ word p.at)) ++ rest) e in absurd (omega (arith, r.0, nil))
 
 pub mark_some : (l0 l1 l2 l3 l4 : List ℕ) (tag resource page at : ℕ) → ReadsByte l0 l1 tag → ReadsWord l1 l2 resource →
     ReadsWord l2 l3 page → ReadsWord l3 l4 at → (tag ≡ 0 → ⊥) →
-    Reads mark_bytes HasMarkWords all l0 l4 (Some (record { resource = resource; page = page; at = at }))
+    ReadsSpelled mark_bytes HasMarkWords all l0 l4 (Some (record { resource = resource; page = page; at = at }))
 mark_some l0 l1 l2 l3 l4 tag resource page at a b c d used None rest right is = absurd (used (a 0 rest is).0)
 mark_some l0 l1 l2 l3 l4 tag resource page at a b c d used (Some p) rest right is =
     let r1 = a 1 ((word p.resource ++ (word p.page ++ word p.at)) ++ rest) is in
@@ -161,7 +161,7 @@ mark_some l0 l1 l2 l3 l4 tag resource page at a b c d used (Some p) rest right i
     (same_mark p resource page at r2.0 r3.0 r4.0, r4.1)
 
 -- a slot with its reservation
-pub marked_none : (l0 l1 : List ℕ) (mark : Option WordPlace) → Reads mark_bytes HasMarkWords all l0 l1 mark →
+pub marked_none : (l0 l1 : List ℕ) (mark : Option WordPlace) → ReadsSpelled mark_bytes HasMarkWords all l0 l1 mark →
     (x : Option Context) (rest : List ℕ) → IsReadableSlot x → None ≡ unmarked x → l0 ≡ slot_mark_bytes x ++ rest →
     (None ≡ x) × (l1 ≡ rest)
 marked_none l0 l1 mark reads None rest right same e = (refl, (reads None rest tt e).1)
@@ -176,7 +176,7 @@ unfolding with_mark
 same_but_mark before c mark same is = ap (with_mark mark) same ∙ ap (λ (m : Option WordPlace). with_mark m (Some c)) is
 
 pub marked_some : (l0 l1 : List ℕ) (mark : Option WordPlace) (before : Context) →
-    Reads mark_bytes HasMarkWords all l0 l1 mark → (x : Option Context) (rest : List ℕ) → IsReadableSlot x →
+    ReadsSpelled mark_bytes HasMarkWords all l0 l1 mark → (x : Option Context) (rest : List ℕ) → IsReadableSlot x →
     Some before ≡ unmarked x → l0 ≡ slot_mark_bytes x ++ rest → (Some (record before { mark = mark }) ≡ x) × (l1 ≡ rest)
 marked_some l0 l1 mark before reads None rest right same e = cc
 marked_some l0 l1 mark before reads (Some c) rest right same e =
@@ -190,7 +190,7 @@ same_region g start pages resource first a b c d = rw (a, b, c, d) refl
 
 pub region_read : (l0 l1 l2 l3 l4 : List ℕ) (start pages resource first : ℕ) → ReadsWord l0 l1 start →
     ReadsWord l1 l2 pages → ReadsWord l2 l3 resource → ReadsWord l3 l4 first →
-    Reads region_bytes HasRegionWords all l0 l4
+    ReadsSpelled region_bytes HasRegionWords all l0 l4
     (record { start = start; pages = pages; resource = resource; first = first })
 region_read l0 l1 l2 l3 l4 start pages resource first a b c d g rest right is =
     let r1 = a g.start ((word g.pages ++ (word g.resource ++ word g.first)) ++ rest) right.start
@@ -204,14 +204,14 @@ region_read l0 l1 l2 l3 l4 start pages resource first a b c d g rest right is =
 -- Spaces.
 
 pub space_none : (l0 l1 : List ℕ) (tag : ℕ) → ReadsByte l0 l1 tag → tag ≡ 0 →
-    Reads space_bytes IsReadableSpace all l0 l1 None
+    ReadsSpelled space_bytes IsReadableSpace all l0 l1 None
 space_none l0 l1 tag first nil None rest right e = (refl, (first 0 rest e).1)
 space_none l0 l1 tag first nil (Some list) rest right e =
     let r = first 1 ((word (length list) ++ flat_map region_bytes list) ++ rest) e in absurd (omega (arith, r.0, nil))
 
 pub space_some : (l0 l1 l2 l3 : List ℕ) (tag count : ℕ) (list : List Region) → ReadsByte l0 l1 tag → ReadsWord l1 l2 count →
-    Reads (flat_map region_bytes) (AreRegions count) all l2 l3 list → (tag ≡ 0 → ⊥) →
-    Reads space_bytes IsReadableSpace all l0 l3 (Some list)
+    ReadsSpelled (flat_map region_bytes) (AreRegions count) all l2 l3 list → (tag ≡ 0 → ⊥) →
+    ReadsSpelled space_bytes IsReadableSpace all l0 l3 (Some list)
 space_some l0 l1 l2 l3 tag count list a b c used None rest right is = absurd (used (a 0 rest is).0)
 space_some l0 l1 l2 l3 tag count list a b c used (Some xs) rest right is =
     let r1 = a 1 ((word (length xs) ++ flat_map region_bytes xs) ++ rest) is in
@@ -262,7 +262,7 @@ spelled held rest =
     ∙ ap (λ (l : List ℕ). l ++ (word held.pages ++ rest)) (owner_spelled held.owner)
 
 pub number_none : (l0 l1 : List ℕ) (tag : ℕ) → ReadsByte l0 l1 tag → tag ≡ 0 →
-    Reads resource_bytes IsReadableNumber all l0 l1 None
+    ReadsSpelled resource_bytes IsReadableNumber all l0 l1 None
 number_none l0 l1 tag first nil None rest right e = (refl, (first 0 rest e).1)
 number_none l0 l1 tag first nil (Some held) rest right e =
     let r = first (kind_of held.owner) (word (number_of held.owner) ++ (word held.pages ++ rest)) (e ∙ spelled held rest) in
@@ -270,7 +270,7 @@ number_none l0 l1 tag first nil (Some held) rest right e =
 
 pub number_some : (l0 l1 l2 l3 : List ℕ) (tag number pages : ℕ) → ReadsByte l0 l1 tag → ReadsWord l1 l2 number →
     ReadsWord l2 l3 pages → (tag ≡ 0 → ⊥) →
-    Reads resource_bytes IsReadableNumber all l0 l3 (Some (record { owner = owner_in tag number; pages = pages }))
+    ReadsSpelled resource_bytes IsReadableNumber all l0 l3 (Some (record { owner = owner_in tag number; pages = pages }))
 number_some l0 l1 l2 l3 tag number pages a b c used None rest right is = absurd (used (a 0 rest is).0)
 number_some l0 l1 l2 l3 tag number pages a b c used (Some held) rest right is =
     let r1 = a (kind_of held.owner) (word (number_of held.owner) ++ (word held.pages ++ rest)) (is ∙ spelled held rest) in

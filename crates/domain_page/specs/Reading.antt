@@ -21,8 +21,8 @@ use Rattle.domain_page.specs.Writing.{HasHart}
 
 -- If the bytes begin with what spells a right value, this value is the answer, or what is kept of it, and the bytes after
 -- it are left.
-abbrev pub Reads : {A B : Type 0} → (A → List ℕ) → (A → Type 0) → (A → B) → List ℕ → List ℕ → B → Type 0
-Reads {A} spell IsRight kept old new given =
+abbrev pub ReadsSpelled : {A B : Type 0} → (A → List ℕ) → (A → Type 0) → (A → B) → List ℕ → List ℕ → B → Type 0
+ReadsSpelled {A} spell IsRight kept old new given =
     (x : A) (rest : List ℕ) → IsRight x → old ≡ spell x ++ rest → (given ≡ kept x) × (new ≡ rest)
 
 abbrev pub all : {A : Type 0} → A → A

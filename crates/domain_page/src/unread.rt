@@ -6,7 +6,7 @@ ghost use Rattle.cloak_model.specs.Contexts as context;
 ghost use Rattle.cloak_model.specs.DomainState as spec;
 ghost use Rattle.cloak_model.specs.Record.{IsWord};
 ghost use Rattle.frozen_state.specs.DomainPage as page;
-ghost use Rattle.domain_page.specs.Reading.{Reads, all, phase_in, hart_in, owner_in, HasPhaseWords, AreRegs, regs_bytes, IsReadable, IsReadableSlot, unmarked, HasMarkWords, HasRegionWords, AreRegions, IsReadableSpace, IsReadableNumber, AreEight, AreSixteen, AreUnmarked};
+ghost use Rattle.domain_page.specs.Reading.{ReadsSpelled, all, phase_in, hart_in, owner_in, HasPhaseWords, AreRegs, regs_bytes, IsReadable, IsReadableSlot, unmarked, HasMarkWords, HasRegionWords, AreRegions, IsReadableSpace, IsReadableNumber, AreEight, AreSixteen, AreUnmarked};
 
 use crate::region_list::RegionList;
 use cloak_base::{HartId, Regs};
@@ -66,7 +66,7 @@ impl Unread<'_> {
 
     /// A word, or 0 if fewer than four bytes are left.
     fn word(&mut self) -> u32
-        ensures { Reads word IsWord all self.old.left.now self.new.left.now result }
+        ensures { ReadsSpelled word IsWord all self.old.left.now self.new.left.now result }
     {
         let left = self.left;
         if left.len() < 4 {
@@ -77,7 +77,7 @@ impl Unread<'_> {
     }
 
     fn phase(&mut self) -> Phase
-        ensures { Reads spec.phase_bytes HasPhaseWords all self.old.left.now self.new.left.now result }
+        ensures { ReadsSpelled spec.phase_bytes HasPhaseWords all self.old.left.now self.new.left.now result }
     {
         let number = self.byte();
         let done = self.word();
@@ -87,7 +87,7 @@ impl Unread<'_> {
 
     /// All registers but x0.
     fn regs(&mut self) -> Regs
-        ensures { Reads regs_bytes AreRegs all self.old.left.now self.new.left.now result }
+        ensures { ReadsSpelled regs_bytes AreRegs all self.old.left.now self.new.left.now result }
     {
         let mut regs = Regs::zero();
         for i in 1..32 {
@@ -98,7 +98,7 @@ impl Unread<'_> {
 
     /// A slot without its reservation.
     fn slot(&mut self) -> Option<Context>
-        ensures { Reads spec.slot_bytes IsReadableSlot unmarked self.old.left.now self.new.left.now result }
+        ensures { ReadsSpelled spec.slot_bytes IsReadableSlot unmarked self.old.left.now self.new.left.now result }
     {
         if self.byte() == 0 {
             return None;
@@ -120,7 +120,7 @@ impl Unread<'_> {
 
     /// The slots without their reservations.
     pub fn slots(&mut self) -> [Option<Context>; 8]
-        ensures { Reads (flat_map spec.slot_bytes) (AreEight IsReadableSlot) (map unmarked)
+        ensures { ReadsSpelled (flat_map spec.slot_bytes) (AreEight IsReadableSlot) (map unmarked)
             self.old.left.now self.new.left.now result }
     {
         let mut slots = [None; 8];
@@ -131,7 +131,7 @@ impl Unread<'_> {
     }
 
     fn mark(&mut self) -> Option<WordPlace>
-        ensures { Reads page.mark_bytes HasMarkWords all self.old.left.now self.new.left.now result }
+        ensures { ReadsSpelled page.mark_bytes HasMarkWords all self.old.left.now self.new.left.now result }
     {
         if self.byte() == 0 {
             return None;
@@ -161,7 +161,7 @@ impl Unread<'_> {
 
     /// The reservations of the slots.
     pub fn marks(&mut self, slots: &[Option<Context>; 8]) -> [Option<Context>; 8]
-        ensures { Reads (flat_map page.slot_mark_bytes) (AreUnmarked slots.now) all
+        ensures { ReadsSpelled (flat_map page.slot_mark_bytes) (AreUnmarked slots.now) all
             self.old.left.now self.new.left.now result }
     {
         let mut marked = [None; 8];
@@ -172,7 +172,7 @@ impl Unread<'_> {
     }
 
     fn region(&mut self) -> Region
-        ensures { Reads spec.region_bytes HasRegionWords all self.old.left.now self.new.left.now result }
+        ensures { ReadsSpelled spec.region_bytes HasRegionWords all self.old.left.now self.new.left.now result }
     {
         let start = self.word();
         let pages = self.word();
@@ -188,7 +188,8 @@ impl Unread<'_> {
 
     /// So many regions, at most 16.
     fn regions(&mut self, count: u32) -> RegionList
-        ensures { Reads (flat_map spec.region_bytes) (AreRegions count) all self.old.left.now self.new.left.now result }
+        ensures { ReadsSpelled (flat_map spec.region_bytes) (AreRegions count) all self.old.left.now
+            self.new.left.now result }
     {
         let mut list = RegionList::new();
         for _i in 0..count.min(16) {
@@ -198,7 +199,7 @@ impl Unread<'_> {
     }
 
     fn space(&mut self) -> Option<RegionList>
-        ensures { Reads spec.space_bytes IsReadableSpace all self.old.left.now self.new.left.now result }
+        ensures { ReadsSpelled spec.space_bytes IsReadableSpace all self.old.left.now self.new.left.now result }
     {
         if self.byte() == 0 {
             return None;
@@ -208,7 +209,7 @@ impl Unread<'_> {
     }
 
     pub fn spaces(&mut self) -> [Option<RegionList>; 8]
-        ensures { Reads (flat_map spec.space_bytes) (AreEight IsReadableSpace) all
+        ensures { ReadsSpelled (flat_map spec.space_bytes) (AreEight IsReadableSpace) all
             self.old.left.now self.new.left.now result }
     {
         let mut spaces = [None, None, None, None, None, None, None, None];
@@ -219,7 +220,7 @@ impl Unread<'_> {
     }
 
     fn resource(&mut self) -> Option<Resource>
-        ensures { Reads spec.resource_bytes IsReadableNumber all self.old.left.now self.new.left.now result }
+        ensures { ReadsSpelled spec.resource_bytes IsReadableNumber all self.old.left.now self.new.left.now result }
     {
         let tag = self.byte();
         if tag == 0 {
@@ -234,7 +235,7 @@ impl Unread<'_> {
     }
 
     pub fn resources(&mut self) -> [Option<Resource>; 16]
-        ensures { Reads (flat_map spec.resource_bytes) (AreSixteen IsReadableNumber) all
+        ensures { ReadsSpelled (flat_map spec.resource_bytes) (AreSixteen IsReadableNumber) all
             self.old.left.now self.new.left.now result }
     {
         let mut held = [None; 16];

@@ -5,14 +5,14 @@ use cloak_base::Failed;
 use io_traits::Shelf;
 use std::fs;
 use std::test::Fail;
-use system_io::{Disk, FileShelf, SystemDisk};
+use system_io::{FileShelf, FileSystem, SystemFiles};
 
 /// Two files by turns, the first of which had more bytes before it was begun.
 #[test]
 fn appended_pieces_stand_in_their_files(rt: HostRuntime) -> Result<(), Fail> {
     let (a, b) = ("file_shelf_test_a.bytes", "file_shelf_test_b.bytes");
     fs::write(&rt, a, "what stood there before")?;
-    let mut shelf = FileShelf::open(rt.alloc(), SystemDisk::new(rt.clone()?))?;
+    let mut shelf = FileShelf::open(rt.alloc(), SystemFiles::new(rt.clone()?))?;
     shelf.begin(a)?;
     for (name, piece) in [(a, "hello"), (b, "two"), (a, ", "), (a, "world")] {
         shelf.append(name, piece.as_bytes())?;
@@ -26,7 +26,7 @@ fn appended_pieces_stand_in_their_files(rt: HostRuntime) -> Result<(), Fail> {
 }
 
 /// Adds all bytes of a file, read in pieces, and says whether no call failed.
-fn read_in_pieces<D: Disk + Drop>(
+fn read_in_pieces<D: FileSystem + Drop>(
     shelf: &mut FileShelf<D>,
     name: &str,
     piece: &mut [u8],
@@ -51,7 +51,7 @@ fn pieces_that_are_read_follow_one_another(rt: HostRuntime) -> Result<(), Fail> 
         .map(|i| (i % 251) as u8)
         .collect(rt.alloc())?;
     fs::write(&rt, name, bytes.as_slice())?;
-    let mut shelf = FileShelf::open(rt.alloc(), SystemDisk::new(rt.clone()?))?;
+    let mut shelf = FileShelf::open(rt.alloc(), SystemFiles::new(rt.clone()?))?;
     for length in [999, 65_536, 70_000] {
         let mut piece = vec![in rt.alloc(); 0u8; length]?;
         let mut seen = Vec::new(rt.alloc());
@@ -67,12 +67,12 @@ fn pieces_that_are_read_follow_one_another(rt: HostRuntime) -> Result<(), Fail> 
 }
 
 /// Begins a file with this text, and says whether that was done.
-fn is_put<D: Disk + Drop>(shelf: &mut FileShelf<D>, name: &str, text: &str) -> bool {
+fn is_put<D: FileSystem + Drop>(shelf: &mut FileShelf<D>, name: &str, text: &str) -> bool {
     shelf.begin(name).is_ok() && shelf.append(name, text.as_bytes()).is_ok()
 }
 
 /// Whether a file is read as this text.
-fn is_read<D: Disk + Drop>(shelf: &mut FileShelf<D>, name: &str, text: &str) -> bool {
+fn is_read<D: FileSystem + Drop>(shelf: &mut FileShelf<D>, name: &str, text: &str) -> bool {
     let mut into = [0u8; 8];
     match shelf.read_at(name, 0, &mut into) {
         Ok(n) => &into[..n] == text.as_bytes(),
@@ -84,7 +84,7 @@ fn is_read<D: Disk + Drop>(shelf: &mut FileShelf<D>, name: &str, text: &str) -> 
 #[test]
 fn what_was_read_ahead_is_forgotten(rt: HostRuntime) -> Result<(), Fail> {
     let name = "file_shelf_test_ahead.bytes";
-    let mut shelf = FileShelf::open(rt.alloc(), SystemDisk::new(rt.clone()?))?;
+    let mut shelf = FileShelf::open(rt.alloc(), SystemFiles::new(rt.clone()?))?;
     for (other, text) in [(name, "old"), ("./file_shelf_test_ahead.bytes", "new!")] {
         holds(&rt, is_put(&mut shelf, other, text), text);
         holds(&rt, is_read(&mut shelf, name, text), text);
@@ -94,7 +94,7 @@ fn what_was_read_ahead_is_forgotten(rt: HostRuntime) -> Result<(), Fail> {
 }
 
 #[derive(Clone, Copy)]
-enum Call {
+enum ShelfCall {
     Begin,
     Append,
     AppendLong,
@@ -112,17 +112,21 @@ fn done(answer: Result<(), Failed>) -> Option<u64> {
 }
 
 /// What a call returns, if it does not fail.
-fn answer<D: Disk + Drop>(shelf: &mut FileShelf<D>, call: Call, name: &str) -> Option<u64> {
+fn answer<D: FileSystem + Drop>(
+    shelf: &mut FileShelf<D>,
+    call: ShelfCall,
+    name: &str,
+) -> Option<u64> {
     match call {
-        Call::Begin => done(shelf.begin(name)),
-        Call::Append => done(shelf.append(name, b"a")),
-        Call::AppendLong => done(shelf.append(name, &[0; 70_000])),
-        Call::Size => shelf.size(name).ok(),
-        Call::Read => match shelf.read_at(name, 0, &mut [0; 8]) {
+        ShelfCall::Begin => done(shelf.begin(name)),
+        ShelfCall::Append => done(shelf.append(name, b"a")),
+        ShelfCall::AppendLong => done(shelf.append(name, &[0; 70_000])),
+        ShelfCall::Size => shelf.size(name).ok(),
+        ShelfCall::Read => match shelf.read_at(name, 0, &mut [0; 8]) {
             Ok(n) => Some(n as u64),
             Err(_) => None,
         },
-        Call::Flush => done(shelf.flush()),
+        ShelfCall::Flush => done(shelf.flush()),
     }
 }
 
@@ -135,29 +139,29 @@ const FULL: &str = "/dev/full";
 /// Calls, and what each returns. A name that is missing is empty, and a folder is a fault. A fault of writing is
 /// returned by the call that meets it, even by one that reads. What is gathered is not lost by it: otherwise the next
 /// call would succeed.
-static CALLS: [(Call, &str, Option<u64>); 17] = [
-    (Call::Size, MISSING, Some(0)),
-    (Call::Read, MISSING, Some(0)),
-    (Call::Size, FOLDER, None),
-    (Call::Read, FOLDER, None),
-    (Call::Begin, FOLDER, None),
-    (Call::Append, FOLDER, None),
-    (Call::Begin, FULL, Some(0)),
-    (Call::AppendLong, FULL, None),
-    (Call::Append, FULL, Some(0)),
-    (Call::Flush, FULL, None),
-    (Call::AppendLong, FULL, None),
-    (Call::Append, MISSING, None),
-    (Call::Size, MISSING, None),
-    (Call::Append, FULL, Some(0)),
-    (Call::Begin, MISSING, None),
-    (Call::Read, MISSING, None),
-    (Call::Flush, FULL, None),
+static CALLS: [(ShelfCall, &str, Option<u64>); 17] = [
+    (ShelfCall::Size, MISSING, Some(0)),
+    (ShelfCall::Read, MISSING, Some(0)),
+    (ShelfCall::Size, FOLDER, None),
+    (ShelfCall::Read, FOLDER, None),
+    (ShelfCall::Begin, FOLDER, None),
+    (ShelfCall::Append, FOLDER, None),
+    (ShelfCall::Begin, FULL, Some(0)),
+    (ShelfCall::AppendLong, FULL, None),
+    (ShelfCall::Append, FULL, Some(0)),
+    (ShelfCall::Flush, FULL, None),
+    (ShelfCall::AppendLong, FULL, None),
+    (ShelfCall::Append, MISSING, None),
+    (ShelfCall::Size, MISSING, None),
+    (ShelfCall::Append, FULL, Some(0)),
+    (ShelfCall::Begin, MISSING, None),
+    (ShelfCall::Read, MISSING, None),
+    (ShelfCall::Flush, FULL, None),
 ];
 
 #[test]
 fn faults_are_answered(rt: HostRuntime) -> Result<(), Fail> {
-    let mut shelf = FileShelf::open(rt.alloc(), SystemDisk::new(rt.clone()?))?;
+    let mut shelf = FileShelf::open(rt.alloc(), SystemFiles::new(rt.clone()?))?;
     for &(call, name, answered) in &CALLS {
         same(&rt, &answer(&mut shelf, call, name), &answered, name);
     }

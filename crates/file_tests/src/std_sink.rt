@@ -7,16 +7,16 @@ use std::fmt::Display;
 use std::io;
 use std::io::{Error, ErrorKind};
 use std::test::Fail;
-use system_io::{Console, Output, StdSink};
+use system_io::{Output, StdSink, SystemConsole};
 
 /// Shows two bytes a call, and fails at the second call.
 #[derive(Drop)]
-struct Screen<'a> {
+struct FailingScreen<'a> {
     calls: &'a Cell<u64>,
     shown: &'a Cell<u64>,
 }
 
-impl Print for Screen<'_> {
+impl Print for FailingScreen<'_> {
     fn print<D: Display + Drop>(&self, _: D) -> io::Result<()> {
         Err(Error::from(ErrorKind::Unsupported))
     }
@@ -48,11 +48,11 @@ impl Print for Screen<'_> {
 fn a_line_shows_at_its_end(rt: HostRuntime) -> Result<(), Fail> {
     let calls = Cell::new(0);
     let shown = Cell::new(0);
-    let screen = Screen {
+    let screen = FailingScreen {
         calls: &calls,
         shown: &shown,
     };
-    let mut sink = StdSink::open(rt.alloc(), Console::new(screen))?;
+    let mut sink = StdSink::open(rt.alloc(), SystemConsole::new(screen))?;
     for (piece, is_ok, on_screen) in [
         ("hell", true, 0),
         ("o\n", false, 0x6865),
@@ -87,11 +87,11 @@ fn a_piece_is_taken_up_to_a_fault(rt: HostRuntime) -> Result<(), Fail> {
     for next in ["c\n", ""] {
         let calls = Cell::new(0);
         let shown = Cell::new(0);
-        let screen = Screen {
+        let screen = FailingScreen {
             calls: &calls,
             shown: &shown,
         };
-        let mut sink = StdSink::open(rt.alloc(), Console::new(screen))?;
+        let mut sink = StdSink::open(rt.alloc(), SystemConsole::new(screen))?;
         same(&rt, &sink.put(b"abc\n"), &Ok(2), "a piece");
         for (piece, done) in [(next, false), ("c\n", true), ("d", true)] {
             same(&rt, &is_done(&mut sink, piece), &done, piece);
@@ -111,11 +111,11 @@ fn a_piece_is_taken_up_to_a_fault(rt: HostRuntime) -> Result<(), Fail> {
 fn a_long_piece_stands_behind_what_is_gathered(rt: HostRuntime) -> Result<(), Fail> {
     let calls = Cell::new(0);
     let shown = Cell::new(0);
-    let screen = Screen {
+    let screen = FailingScreen {
         calls: &calls,
         shown: &shown,
     };
-    let mut sink = StdSink::open(rt.alloc(), Console::new(screen))?;
+    let mut sink = StdSink::open(rt.alloc(), SystemConsole::new(screen))?;
     let long = vec![in rt.alloc(); b'x'; 70_000]?;
     sink.put(b"ab")?;
     // This many calls were made before, and the second one fails.

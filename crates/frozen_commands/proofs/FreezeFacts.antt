@@ -31,12 +31,12 @@ use Rattle.command_parts.proofs.FaultFacts.{raised, risen}
 use Rattle.run_command.specs.Outlet.{WroteAll, WroteFront, pieces_left}
 use Rattle.run_command.specs.Recording.{GrowsSome}
 use Rattle.run_command.specs.Running.{IsStatusOfStop, NoClashYet, run_status, status_of, unless_refused}
-use Rattle.run_command.proofs.BegunFacts.{AreLow, AtPieces, Begun, at_pieces, fault_since, front_of_text, grows_from}
+use Rattle.run_command.proofs.BegunFacts.{AreLow, AtPieces, HasBegunRecord, at_pieces, fault_since, front_of_text, grows_from}
 use Rattle.run_command.proofs.Lawful.{is_lawful}
 use Rattle.frozen_commands.specs.declared.first.First.{First}
 use Rattle.frozen_commands.specs.declared.first.First.TheVariants as first
-use Rattle.frozen_commands.specs.declared.freezing.Left.{Left}
-use Rattle.frozen_commands.specs.declared.freezing.Prepared.{Prepared}
+use Rattle.frozen_commands.specs.declared.freezing.ForSaving.{ForSaving}
+use Rattle.frozen_commands.specs.declared.freezing.PreparedFreeze.{PreparedFreeze}
 use Rattle.frozen_commands.specs.FreezeAnswering.{BreaksOff, FreezeAnswers, Freezes, HasEnded, HasFrozen, HasLacked, HasStopped, IfNoneClashed, IsSaved, IsState, KeepsFrozenFiles, LacksVectors, OtherThanFrozen}
 use Rattle.frozen_commands.specs.Freezing.{IsFirstOf, IsPrepared, RecordsFirst, due_frozen, due_if, is_stopped, last_joint}
 use Rattle.frozen_commands.specs.Saving.{Leaves, LeavesState, SavesState, ShowsLacking, lacking_line}
@@ -92,7 +92,7 @@ same_files names status.BadState held held' same = same
 -- A run that was prepared.
 
 -- What is asked for, with the machine that was prepared for it.
-pub record Asks {S O : Type 0} (names : spec.FreezeNames) (steps : ℕ) (randomness : spec.Randomness) (prepared : Prepared)
+pub record Asks {S O : Type 0} (names : spec.FreezeNames) (steps : ℕ) (randomness : spec.Randomness) (prepared : PreparedFreeze)
     (before : Outside S O) : Type 0 where
   pub is : IsPrepared names randomness before.files.held prepared
   pub few : steps ≤ most_steps
@@ -100,18 +100,18 @@ pub record Asks {S O : Type 0} (names : spec.FreezeNames) (steps : ℕ) (randomn
   pub low : AreLow before
 
 abbrev run_for : {S O : Type 0} {names : spec.FreezeNames} {steps : ℕ} {randomness : spec.Randomness}
-    {prepared : Prepared} {before : Outside S O} → Asks names steps randomness prepared before → Run
+    {prepared : PreparedFreeze} {before : Outside S O} → Asks names steps randomness prepared before → Run
 run_for {S} {O} {names} {steps} {randomness} {prepared} {before} asks =
     run_of asks.is.sources.bundle steps asks.is.opened
 
-runs : {S O : Type 0} {names : spec.FreezeNames} {steps : ℕ} {randomness : spec.Randomness} {prepared : Prepared}
+runs : {S O : Type 0} {names : spec.FreezeNames} {steps : ℕ} {randomness : spec.Randomness} {prepared : PreparedFreeze}
     {before : Outside S O} (asks : Asks names steps randomness prepared before) →
     joint_run asks.is.sources.bundle asks.is.sources.stream steps ≡ Ok (run_for asks)
 runs {S} {O} {names} {steps} {randomness} {prepared} {before} asks =
     ap (λ (opened : Result Opened Lack). result_map_both (run_of asks.is.sources.bundle steps) (λ lack. lack) opened)
     asks.is.opens
 
-reaches : {S O : Type 0} {names : spec.FreezeNames} {steps : ℕ} {randomness : spec.Randomness} {prepared : Prepared}
+reaches : {S O : Type 0} {names : spec.FreezeNames} {steps : ℕ} {randomness : spec.Randomness} {prepared : PreparedFreeze}
     {before : Outside S O} (asks : Asks names steps randomness prepared before) → is_stopped (run_for asks) ≡ false →
     Reaches asks.is.sources steps (run_for asks)
 reaches {S} {O} {names} {steps} {randomness} {prepared} {before} asks goes = record {
@@ -124,7 +124,7 @@ reaches {S} {O} {names} {steps} {randomness} {prepared} {before} asks goes = rec
   count = all_made asks.is.sources.bundle steps asks.is.opened goes;
 }
 
-freezes : {S O : Type 0} {names : spec.FreezeNames} {steps : ℕ} {randomness : spec.Randomness} {prepared : Prepared}
+freezes : {S O : Type 0} {names : spec.FreezeNames} {steps : ℕ} {randomness : spec.Randomness} {prepared : PreparedFreeze}
     {before : Outside S O} (after : Outside S O) (asks : Asks names steps randomness prepared before)
     (Becomes : spec.FreezeNames → ℕ → FreezeSources → Run → Type 0) →
     Becomes names steps asks.is.sources (run_for asks) →
@@ -158,7 +158,7 @@ answered_as names steps randomness before after is answered =
     subst (λ (x : Status). Answered names steps randomness before after x) (sym is) answered
 
 -- The record could not be begun.
-pub not_begun : {S O : Type 0} {names : spec.FreezeNames} {steps : ℕ} {randomness : spec.Randomness} {prepared : Prepared}
+pub not_begun : {S O : Type 0} {names : spec.FreezeNames} {steps : ℕ} {randomness : spec.Randomness} {prepared : PreparedFreeze}
     (before now after : FilesOutside S) (out : Output O) (r : Result Unit Failed) →
     Asks {S = S} {O = O} names steps randomness prepared (record { files = before; output = out }) → OnlyRead before now →
     OnErr r ((after.held names.record_name ≡ now.held names.record_name) ⊎ Tells (after.held names.record_name) []) →
@@ -180,8 +180,8 @@ not_begun {S} {O} {names} {steps} {randomness} {prepared} before now after out r
 
 -- Writing broke off in what is due of the run.
 pub failed_first : {S O : Type 0} {names : spec.FreezeNames} {steps : ℕ} {randomness : spec.Randomness}
-    {prepared : Prepared} {before mid after : Outside S O} {pieces : List Piece}
-    (asks : Asks names steps randomness prepared before) → Begun names.record_name before mid →
+    {prepared : PreparedFreeze} {before mid after : Outside S O} {pieces : List Piece}
+    (asks : Asks names steps randomness prepared before) → HasBegunRecord names.record_name before mid →
     WroteFront names.record_name mid after pieces →
     (NoClashYet (joint_after asks.is.opened.joint
     (turns_from steps (first_moment asks.is.sources.bundle asks.is.opened.joint))) →
@@ -217,8 +217,8 @@ has_ended names steps randomness before after stop.Budget false ended others = (
 has_ended names steps randomness before after stop.NoRandom refused ended others = (inr (inl ended), others)
 
 pub ended_first : {S O : Type 0} {names : spec.FreezeNames} {steps : ℕ} {randomness : spec.Randomness}
-    {prepared : Prepared} {before mid after : Outside S O} {pieces : List Piece} {given : Status}
-    (asks : Asks names steps randomness prepared before) → Begun names.record_name before mid →
+    {prepared : PreparedFreeze} {before mid after : Outside S O} {pieces : List Piece} {given : Status}
+    (asks : Asks names steps randomness prepared before) → HasBegunRecord names.record_name before mid →
     WroteAll names.record_name mid after pieces → IsStatusOfStop given →
     (NoClashYet (joint_after asks.is.opened.joint
     (turns_from steps (first_moment asks.is.sources.bundle asks.is.opened.joint))) →
@@ -250,9 +250,9 @@ pub record ReachedSo {S O : Type 0} (names : spec.FreezeNames) (steps : ℕ) (s 
   pub written : HasWritten (first_pieces r.opened r.turns) names.record_name before mid
   pub state_is : state ≡ frozen_of (last_joint r) steps s.vectors
 
-reached_so : {S O : Type 0} {names : spec.FreezeNames} {steps : ℕ} {randomness : spec.Randomness} {prepared : Prepared}
+reached_so : {S O : Type 0} {names : spec.FreezeNames} {steps : ℕ} {randomness : spec.Randomness} {prepared : PreparedFreeze}
     {before mid now after : Outside S O} {machine : Machine} {given : Status}
-    (asks : Asks names steps randomness prepared before) → Begun names.record_name before mid →
+    (asks : Asks names steps randomness prepared before) → HasBegunRecord names.record_name before mid →
     (leaves : LeavesState machine prepared.left names.state_name now after given) →
     RecordsFirst names.record_name mid now (first.Reached machine) asks.is.sources.bundle (run_for asks) →
     ReachedSo names steps asks.is.sources (run_for asks) before now leaves.state
@@ -268,7 +268,7 @@ reached_so {S} {O} {names} {steps} {randomness} {prepared} {before} {mid} {now} 
     }
 
 -- there are too few vectors
-lacks : {S O : Type 0} {names : spec.FreezeNames} {steps : ℕ} {randomness : spec.Randomness} {prepared : Prepared}
+lacks : {S O : Type 0} {names : spec.FreezeNames} {steps : ℕ} {randomness : spec.Randomness} {prepared : PreparedFreeze}
     {before now after : Outside S O} {given : Status} (asks : Asks names steps randomness prepared before) →
     AtPieces names.record_name before now → ShowsLacking now after given →
     (NoClashYet (last_joint (run_for asks)) →
@@ -329,7 +329,7 @@ lacks {S} {O} {names} {steps} {randomness} {prepared} {before} {now} {after} {gi
     ]
 
 -- there is a state
-saves : {S O : Type 0} {names : spec.FreezeNames} {steps : ℕ} {randomness : spec.Randomness} {prepared : Prepared}
+saves : {S O : Type 0} {names : spec.FreezeNames} {steps : ℕ} {randomness : spec.Randomness} {prepared : PreparedFreeze}
     {before now after : Outside S O} {given : Status} (f : Frozen) (asks : Asks names steps randomness prepared before) →
     AtPieces names.record_name before now → SavesState f prepared.left.digest names.state_name now after given →
     (NoClashYet (last_joint (run_for asks)) →
@@ -399,7 +399,7 @@ saves {S} {O} {names} {steps} {randomness} {prepared} {before} {now} {after} {gi
           )
     ]
 
-left_so : {S O : Type 0} {names : spec.FreezeNames} {steps : ℕ} {randomness : spec.Randomness} {prepared : Prepared}
+left_so : {S O : Type 0} {names : spec.FreezeNames} {steps : ℕ} {randomness : spec.Randomness} {prepared : PreparedFreeze}
     {before now : Outside S O} (after : Outside S O) (given : Status) (state : Option Frozen)
     (asks : Asks names steps randomness prepared before) → AtPieces names.record_name before now →
     Leaves state prepared.left.digest names.state_name now after given →
@@ -410,8 +410,8 @@ left_so after given None asks at leaves reached = lacks asks at leaves reached
 left_so after given (Some f) asks at leaves reached = saves f asks at leaves reached
 
 pub reached_first : {S O : Type 0} {names : spec.FreezeNames} {steps : ℕ} {randomness : spec.Randomness}
-    {prepared : Prepared} {before mid now after : Outside S O} {pieces : List Piece} {machine : Machine} {given : Status}
-    (asks : Asks names steps randomness prepared before) → Begun names.record_name before mid →
+    {prepared : PreparedFreeze} {before mid now after : Outside S O} {pieces : List Piece} {machine : Machine} {given : Status}
+    (asks : Asks names steps randomness prepared before) → HasBegunRecord names.record_name before mid →
     WroteAll names.record_name mid now pieces →
     (NoClashYet (joint_after asks.is.opened.joint
     (turns_from steps (first_moment asks.is.sources.bundle asks.is.opened.joint))) →

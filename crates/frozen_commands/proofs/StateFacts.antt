@@ -12,7 +12,7 @@ use Rattle.cloak_model.specs.Joint.{Turn}
 use Rattle.cloak_model.specs.Opening.{Opened}
 use Rattle.cloak_model.specs.Parts.{Joint}
 use Rattle.cloak_model.specs.Run.{Run, first_moment, joint_after, joint_run, last_stop, most_steps, run_of, turns_from}
-use Rattle.frozen_law.specs.Missed.{GoesOn}
+use Rattle.frozen_law.specs.Missed.{NoneStopped}
 use Rattle.frozen_law.specs.Sizes.{HasSizes}
 use Rattle.frozen_law.proofs.Frozen.{frozen_states_go_on}
 use Rattle.frozen_law.proofs.MissedRuns.{nothing_is_missed}
@@ -32,9 +32,9 @@ use Rattle.command_parts.specs.Freezing.{FreezeSources}
 use Rattle.command_parts.specs.Outside.{Outside}
 use Rattle.run_command.specs.Running.{NoClashYet, moment_behind}
 use Rattle.thaw_law.proofs.TwoParts.{runs_go_on}
-use Rattle.frozen_commands.specs.declared.freezing.Left.{Left}
+use Rattle.frozen_commands.specs.declared.freezing.ForSaving.{ForSaving}
 use Rattle.frozen_commands.specs.FreezeAnswering.{IsState}
-use Rattle.frozen_commands.specs.Freezing.{IsLeft, is_stopped, last_joint}
+use Rattle.frozen_commands.specs.Freezing.{IsForSaving, is_stopped, last_joint}
 use Rattle.frozen_commands.specs.Saving.{LeavesState}
 
 pub none_left : (stopped : Option Stop) → is_some stopped ≡ false → stopped ≡ None
@@ -64,7 +64,7 @@ all_turns {s} {steps} {r} at = take_all steps r.turns (let n = at.count in omega
 until_last : {s : FreezeSources} {steps : ℕ} {r : Run} → Reaches s steps r → joint_until steps r ≡ last_joint r
 until_last {s} {steps} {r} at = ap (λ (ts : List Turn). joint_after r.opened.joint ts) (all_turns at)
 
-goes_on : {s : FreezeSources} {steps : ℕ} {r : Run} → Reaches s steps r → GoesOn steps r
+goes_on : {s : FreezeSources} {steps : ℕ} {r : Run} → Reaches s steps r → NoneStopped steps r
 goes_on {s} {steps} {r} at = ap (λ (ts : List Turn). last_stop None ts) (all_turns at) ∙ none_left _ at.goes
 
 -- its state is in range, and its machine can go on
@@ -110,8 +110,8 @@ room_after {s} {steps} {r} {room} at for =
     (runs_keep_sizes s.bundle (Fresh s.stream) steps r at.grammar at.runs steps)) for
 
 -- what the machine left is the state that the vectors give
-pub state_left : {S O : Type 0} {s : FreezeSources} {steps : ℕ} {r : Run} {machine : Machine} {left : Left}
-    {name : List ℕ} {before after : Outside S O} {given : Status} → Reaches s steps r → IsLeft s left →
+pub state_left : {S O : Type 0} {s : FreezeSources} {steps : ℕ} {r : Run} {machine : Machine} {left : ForSaving}
+    {name : List ℕ} {before after : Outside S O} {given : Status} → Reaches s steps r → IsForSaving s left →
     StandsForMoment machine (moment_behind (first_moment s.bundle r.opened.joint) r.turns) →
     (leaves : LeavesState machine left name before after given) →
     leaves.state ≡ frozen_of (last_joint r) steps s.vectors

@@ -24,7 +24,7 @@ use Rattle.command_parts.specs.Thawing.{ThawSources}
 use Rattle.command_parts.proofs.FaultFacts.{raised}
 use Rattle.run_command.specs.Outlet.{WroteAll, WroteFront, pieces_left}
 use Rattle.run_command.specs.Running.{IsStatusOfStop, NoClash, status_of}
-use Rattle.run_command.proofs.BegunFacts.{AreLow, Begun, at_pieces, fault_since, grows_from}
+use Rattle.run_command.proofs.BegunFacts.{AreLow, HasBegunRecord, at_pieces, fault_since, grows_from}
 use Rattle.frozen_commands.specs.ThawAnswering.{HasThawed, KeepsThawedFiles, ThawAnswers, Thaws}
 use Rattle.frozen_commands.specs.Thawing.{IsThawed, RecordsRest}
 use Rattle.frozen_commands.proofs.WrittenFacts.{begins_no_record, has_written, is_cut_off}
@@ -134,7 +134,7 @@ EachRest names steps machine mid after given =
 -- Writing broke off in the rest.
 pub rest_failed : {S O : Type 0} {names : spec.ThawNames} {steps : ℕ} {randomness : spec.Randomness} {machine : Machine}
     {before mid after : Outside S O} {pieces : List Piece} → Asks names steps randomness machine before →
-    Begun names.record_name before mid → WroteFront names.record_name mid after pieces →
+    HasBegunRecord names.record_name before mid → WroteFront names.record_name mid after pieces →
     EachRest names steps machine mid after None → Answered names steps randomness before after status.WriteFault
 rest_failed {S} {O} {names} {steps} {randomness} {machine} {before} {mid} {after} {pieces} asks begun front each =
     let s = asks.is.sources in
@@ -168,7 +168,7 @@ has_thawed names steps randomness before after stop.NoRandom refused thawed othe
 
 pub rest_written : {S O : Type 0} {names : spec.ThawNames} {steps : ℕ} {randomness : spec.Randomness} {machine : Machine}
     {before mid after : Outside S O} {pieces : List Piece} {given : Status} → Asks names steps randomness machine before →
-    Begun names.record_name before mid → WroteAll names.record_name mid after pieces → IsStatusOfStop given →
+    HasBegunRecord names.record_name before mid → WroteAll names.record_name mid after pieces → IsStatusOfStop given →
     EachRest names steps machine mid after (Some given) → Answered names steps randomness before after given
 rest_written {S} {O} {names} {steps} {randomness} {machine} {before} {mid} {after} {pieces} {given} asks begun all some
     each =

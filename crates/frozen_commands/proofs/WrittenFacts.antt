@@ -7,18 +7,18 @@ use Rattle.io_traits.proofs.ToldFacts.{Rose-after, Tells_after}
 use Rattle.command_parts.specs.Outside.{FilesOutside, OnlyRead, Output, Outside}
 use Rattle.command_parts.proofs.FaultFacts.{failed, raised, risen}
 use Rattle.run_command.specs.Outlet.{WroteAll, WroteFront, pieces_left}
-use Rattle.run_command.proofs.BegunFacts.{AreLow, Begun, fault_since, grows_from}
+use Rattle.run_command.proofs.BegunFacts.{AreLow, HasBegunRecord, fault_since, grows_from}
 use Rattle.frozen_commands.specs.Writing.{BeginsNoRecord, HasWritten, IsCutOff}
 
 pub has_written : {S O : Type 0} {name : List ℕ} {before mid after : Outside S O} {pieces : List Piece} →
-    Begun name before mid → WroteAll name mid after pieces → HasWritten pieces name before after
+    HasBegunRecord name before mid → WroteAll name mid after pieces → HasWritten pieces name before after
 has_written {S} {O} {name} {before} {mid} {after} {pieces} begun all = record {
   file = Tells_after (mid.files.held name) (after.files.held name) [] (recorded_bytes pieces) begun.empty all.wrote.file;
   output = grows_from before mid _ _ begun.output all.wrote.output;
 }
 
 pub is_cut_off : {S O : Type 0} {name : List ℕ} {before mid after : Outside S O} {pieces : List Piece} →
-    AreLow before → Begun name before mid → WroteFront name mid after pieces → IsCutOff pieces name before after
+    AreLow before → HasBegunRecord name before mid → WroteFront name mid after pieces → IsCutOff pieces name before after
 is_cut_off {S} {O} {name} {before} {mid} {after} {pieces} low begun front = record {
   cut = front.cut;
   left = record {

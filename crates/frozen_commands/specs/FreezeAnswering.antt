@@ -21,7 +21,7 @@ use Rattle.command_parts.specs.Outside.{FilesOutside, NothingRose, Outside, Rais
 use Rattle.run_command.specs.Answering.{IsLawful}
 use Rattle.run_command.specs.Recording.{FailedSome, GrowsSome}
 use Rattle.run_command.specs.Running.{IsStatusOfStop, NoClashYet, run_status}
-use Rattle.frozen_commands.specs.declared.freezing.Prepared.{Prepared}
+use Rattle.frozen_commands.specs.declared.freezing.PreparedFreeze.{PreparedFreeze}
 use Rattle.frozen_commands.specs.Freezing.{PreparesFrozen, due_frozen, is_stopped, last_joint}
 use Rattle.frozen_commands.specs.Saving.{lacking_line}
 use Rattle.frozen_commands.specs.Writing.{BeginsNoRecord, HasWritten, IsCutOff}
@@ -183,7 +183,7 @@ KeepsFrozenFiles names status.WriteFault held held' = OtherThanFrozen names held
 KeepsFrozenFiles names answer held held' = SameFiles held held'
 
 -- What making a run that was prepared returns, seen from before its files were read.
-abbrev pub FreezesPrepared : {S O : Type 0} → spec.FreezeNames → (steps : ℕ) → spec.Randomness → Prepared →
+abbrev pub FreezesPrepared : {S O : Type 0} → spec.FreezeNames → (steps : ℕ) → spec.Randomness → PreparedFreeze →
     Outside S O → Outside S O → Status → Type 0
 FreezesPrepared {S} {O} names steps randomness prepared now after given =
     (before : FilesOutside S) → PreparesFrozen names steps randomness before now.files (Ok prepared) →

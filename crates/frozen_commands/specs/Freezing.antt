@@ -22,8 +22,8 @@ use Rattle.run_command.specs.Outlet.{Writes}
 use Rattle.run_command.specs.Running.{IsStatusOfStop, moment_behind, run_status}
 use Rattle.frozen_commands.specs.declared.first.First.{First}
 use Rattle.frozen_commands.specs.declared.first.First.TheVariants as first
-use Rattle.frozen_commands.specs.declared.freezing.Left.{Left}
-use Rattle.frozen_commands.specs.declared.freezing.Prepared.{Prepared}
+use Rattle.frozen_commands.specs.declared.freezing.ForSaving.{ForSaving}
+use Rattle.frozen_commands.specs.declared.freezing.PreparedFreeze.{PreparedFreeze}
 
 -- What is due.
 
@@ -46,7 +46,7 @@ due_frozen r = due_if (is_stopped r) r
 -- The machine.
 
 -- what is needed once the steps were made: the digest of the image's file, the vectors, and room for the state
-pub record IsLeft (s : FreezeSources) (left : Left) : Type 0 where
+pub record IsForSaving (s : FreezeSources) (left : ForSaving) : Type 0 where
   pub digest : left.digest ≡ sha256 s.bytes
   pub vectors : left.vectors ≡ s.vectors
   pub room : IsRoomFor s.bundle.kernel (length s.bundle.programs) left.room
@@ -54,20 +54,20 @@ pub record IsLeft (s : FreezeSources) (left : Left) : Type 0 where
 -- The words ask for a run from these sources; it opens so, and the machine is that of its first moment. Image and stream are
 -- of bytes.
 pub record IsPrepared (names : spec.FreezeNames) (randomness : spec.Randomness) (held : List ℕ → Option (List ℕ))
-    (prepared : Prepared) : Type 0 where
+    (prepared : PreparedFreeze) : Type 0 where
   pub sources : FreezeSources
   pub asks : AsksFrozen names randomness held sources
   pub opened : Opened
   pub opens : opening sources.bundle sources.stream ≡ Ok opened
   pub stands : StandsForMoment prepared.machine (first_moment sources.bundle opened.joint)
   pub placings : placings_of prepared.machine ≡ map placing sources.bundle.programs
-  pub left : IsLeft sources prepared.left
+  pub left : IsForSaving sources prepared.left
   pub image_bytes : IsOfBytes sources.bundle
   pub stream_bytes : IsStreamOfBytes sources.stream
 
 -- a run that can begin, or why there is none; the files were at most read
 abbrev pub PreparesFrozen : {S : Type 0} → spec.FreezeNames → ℕ → spec.Randomness → FilesOutside S → FilesOutside S →
-    Result Prepared Refusal → Type 0
+    Result PreparedFreeze Refusal → Type 0
 PreparesFrozen names steps randomness before after (Ok prepared) =
     OnlyRead before after × IsPrepared names randomness before.held prepared
 PreparesFrozen names steps randomness before after (Err refused) =

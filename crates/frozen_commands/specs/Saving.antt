@@ -12,7 +12,7 @@ use Rattle.command_parts.specs.declared.status.Status.{Status}
 use Rattle.command_parts.specs.declared.status.Status.TheVariants as status
 use Rattle.command_parts.specs.Files.{TellsFront}
 use Rattle.command_parts.specs.Outside.{Outside, Output}
-use Rattle.frozen_commands.specs.declared.freezing.Left.{Left}
+use Rattle.frozen_commands.specs.declared.freezing.ForSaving.{ForSaving}
 
 -- the rest of the console's line, and the line that says why
 abbrev pub lacking_line : List ℕ
@@ -54,7 +54,8 @@ Leaves None digest name before after given = ShowsLacking before after given
 Leaves (Some f) digest name before after given = SavesState f digest name before after given
 
 -- Some state was left so, or none; for a machine that stands for a moment it is the one that the vectors give.
-pub record LeavesState {S O : Type 0} (machine : Machine) (left : Left) (name : List ℕ) (before after : Outside S O)
+pub record LeavesState {S O : Type 0} (machine : Machine) (left : ForSaving) (name : List ℕ)
+    (before after : Outside S O)
     (given : Status) : Type 0 where
   pub state : Option Frozen
   pub leaves : Leaves state left.digest name before after given

@@ -6,7 +6,7 @@ ghost use Rattle.command_parts.specs.Outside.{outside};
 ghost use Rattle.frozen_commands.specs.FreezeAnswering.{FreezeAnswers, FreezesPrepared, KeepsFrozenFiles};
 
 use crate::first::{First, record_first};
-use crate::freezing::{Prepared, prepare_frozen};
+use crate::freezing::{PreparedFreeze, prepare_frozen};
 use crate::saving::leave_state;
 use command_parts::{Status, refuse};
 use command_words::FreezeRequest;
@@ -15,7 +15,7 @@ use std::alloc::Global;
 
 /// Makes the steps of a run that is prepared, and freezes it, up to the first call that fails.
 fn record_frozen<S: Shelf, O: Sink>(
-    prepared: Prepared,
+    prepared: PreparedFreeze,
     freeze: &FreezeRequest<'_>,
     shelf: &mut S,
     out: &mut O,
@@ -26,7 +26,7 @@ fn record_frozen<S: Shelf, O: Sink>(
     ensures { FreezesPrepared (freeze_names_of freeze.now.files) freeze.now.steps (randomness_of freeze.now.randomness)
         prepared (outside S.Shelf O.Sink shelf.old out.old) (outside S.Shelf O.Sink shelf.new out.new) result }
 {
-    let Prepared { machine, left } = prepared;
+    let PreparedFreeze { machine, left } = prepared;
     let files = &freeze.files;
     if shelf.begin(files.record_name).is_err() {
         return Status::WriteFault;

@@ -17,7 +17,7 @@ use std::alloc::Global;
 
 /// What is needed once the steps were made.
 #[derive(Drop)]
-pub(crate) struct Left {
+pub(crate) struct ForSaving {
     /// The digest of the image's file.
     pub digest: [u8; 32],
     /// The initialization vectors of programs and owed pages.
@@ -27,9 +27,9 @@ pub(crate) struct Left {
 
 /// A machine before its first step, with all memory that the command needs until its end.
 #[derive(Drop)]
-pub(crate) struct Prepared {
+pub(crate) struct PreparedFreeze {
     pub machine: Machine,
-    pub left: Left,
+    pub left: ForSaving,
 }
 
 /// The machine of the run that is asked for, or why there is none. The files are asked for in this order: bundle, stream,
@@ -38,7 +38,7 @@ pub(crate) fn prepare_frozen<S: Shelf>(
     alloc: Global,
     freeze: &FreezeRequest<'_>,
     shelf: &mut S,
-) -> Result<Prepared, Refusal>
+) -> Result<PreparedFreeze, Refusal>
     requires settled { S.is_settled shelf.old }
     requires reading { S.reading_faults shelf.old < 2 ^ 64 - 1 }
     ensures prepares { PreparesFrozen (freeze_names_of freeze.now.files) freeze.now.steps
@@ -65,13 +65,13 @@ pub(crate) fn prepare_frozen<S: Shelf>(
     let Ok(room) = FrozenRoom::open(alloc, &kernel, count) else {
         return Err(Refusal::NoMemory);
     };
-    let left = Left {
+    let left = ForSaving {
         digest,
         vectors,
         room,
     };
     match Machine::open(alloc, kernel, programs, stream) {
-        Ok(machine) => Ok(Prepared { machine, left }),
+        Ok(machine) => Ok(PreparedFreeze { machine, left }),
         Err(OpenFault::NoKey) => Err(Refusal::NoKey),
         Err(OpenFault::NoRandom) => Err(Refusal::NoPageDraw),
         Err(OpenFault::NoMemory) => Err(Refusal::NoMemory),

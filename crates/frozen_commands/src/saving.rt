@@ -3,7 +3,7 @@ ghost use Rattle.std.specs.Prelude.{◌≡◌, ◌≤◌, length};
 ghost use Rattle.command_parts.specs.Outside.{output, outside};
 ghost use Rattle.frozen_commands.specs.Saving.{LeavesState, SavesState, ShowsLackingLine};
 
-use crate::freezing::Left;
+use crate::freezing::ForSaving;
 use crate::shapes::state_has_shape;
 use cloak_machine::Machine;
 use command_parts::Status;
@@ -43,7 +43,7 @@ fn save_state<S: Shelf, O: Sink>(
 /// Freezes a machine, and writes the file of its state; or shows that there are too few vectors.
 pub(crate) fn leave_state<S: Shelf, O: Sink>(
     machine: Machine,
-    left: Left,
+    left: ForSaving,
     name: &str,
     shelf: &mut S,
     out: &mut O,
@@ -51,7 +51,7 @@ pub(crate) fn leave_state<S: Shelf, O: Sink>(
     ensures { LeavesState machine left name.now
         (outside S.Shelf O.Sink shelf.old out.old) (outside S.Shelf O.Sink shelf.new out.new) result }
 {
-    let Left {
+    let ForSaving {
         digest,
         mut vectors,
         room,

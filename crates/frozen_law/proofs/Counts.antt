@@ -25,7 +25,7 @@ use Rattle.kernel_isolation.proofs.FilesAdded.{IsGiven, given_keeps}
 use Rattle.kernel_isolation.proofs.Opened.{is_opened}
 use Rattle.kernel_isolation.proofs.Turns.{IsSteady, turn_is_alone}
 use Rattle.script_fold.proofs.Folding.{step_keeps}
-use Rattle.script_fold.proofs.Questions.{Kept, keeps_clear}
+use Rattle.script_fold.proofs.Questions.{Kept, settles_of, replies_of, keeps_clear}
 use Rattle.script_fold.proofs.ByQuestions.{kept_by}
 use Rattle.script_fold.proofs.Endings.{keeps_end}
 use Rattle.kernel_isolation.proofs.Shown.{either}
@@ -157,7 +157,7 @@ program_step slot d w = step_keeps Counts slot d (kept_by Counts changes copy_wo
 
 pub clear_count : (domain : ℕ) (marked : List Bool) (n : ℕ) (w : World) → CountIn n w →
     CountIn n (ask_clear domain marked w).world
-clear_count domain marked n w here = (keeps_clear Counts changes domain marked w).by n here
+clear_count domain marked n w here = (keeps_clear Counts (replies_of Counts changes) domain marked w).by n here
 
 count_carries : (n : ℕ) → Carries (HasCount n) (HasCount n)
 count_carries n = record {
@@ -166,7 +166,7 @@ count_carries n = record {
   stepped = λ slot was c places here. (program_step slot was (Cloaked c)).by n here;
   seen = λ s m here. here;
   rooted = λ root m here. here;
-  ended = λ d m here. (keeps_end Counts changes forget_world d _).by n here;
+  ended = λ d m here. (keeps_end Counts (settles_of Counts changes) forget_world d _).by n here;
 }
 
 -- The run.

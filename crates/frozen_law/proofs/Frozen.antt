@@ -49,7 +49,7 @@ use Rattle.frozen_law.specs.Frozen.{FrozenStatesGoOn}
 use Rattle.frozen_law.specs.Harts.{HaveOnly, IsWordOfRam}
 use Rattle.frozen_law.specs.Harts as law
 use Rattle.frozen_law.specs.Held.{IsHeldIn, IsHeldBy}
-use Rattle.frozen_law.specs.Missed.{GoesOn}
+use Rattle.frozen_law.specs.Missed.{NoneStopped}
 use Rattle.frozen_law.specs.Streams.{HasDrawn}
 use Rattle.frozen_law.specs.Violations.{IsViolationOf}
 use Rattle.frozen_law.proofs.DrawRuns.{draws_are_below}
@@ -188,7 +188,7 @@ keys_of b l stream has = by_keys b l (drawn_keys (key_count b.programs) stream) 
 
 module _ (b : Bundle) (stream : Random) (budget : ℕ) (r : Run) (grammar : IsInGrammar b) (bytes : IsOfBytes b)
     (all : IsStreamOfBytes stream) (is : run_from b (Fresh stream) budget ≡ Ok r) (n : ℕ) (few : n ≤ most_steps)
-    (on : GoesOn n r) where
+    (on : NoneStopped n r) where
   limits : (d : ℕ) (program : Domain) → slice_get (joint_until n r).domains d ≡ Some program →
       KeepsLimits program.control
   limits d program e = runs_keep_limits b (Fresh stream) budget r grammar is n d program e

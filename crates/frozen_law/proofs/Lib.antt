@@ -6,7 +6,6 @@ pub mod Walks
 pub mod Ends
 pub mod Memories
 pub mod Counts
-pub mod KernelWalks
 pub mod MarkCounts
 pub mod Placing
 pub mod Marks

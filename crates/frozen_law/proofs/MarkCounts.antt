@@ -28,13 +28,13 @@ use Rattle.kernel_isolation.proofs.FilesAdded.{IsGiven, given_keeps}
 use Rattle.kernel_isolation.proofs.Opened.{is_opened}
 use Rattle.kernel_isolation.proofs.Turns.{IsSteady, turn_is_alone}
 use Rattle.script_fold.proofs.Folding.{step_keeps}
-use Rattle.script_fold.proofs.Questions.{Kept}
+use Rattle.script_fold.proofs.Questions.{Kept, settles_of, opens_of}
 use Rattle.script_fold.proofs.ByQuestions.{kept_by}
 use Rattle.script_fold.proofs.Endings.{keeps_end}
 use Rattle.kernel_isolation.proofs.Shown.{either}
 use Rattle.limit_law.proofs.Moments.{at_every_moment}
 use Rattle.limit_law.proofs.Openings.{begins_by_memory}
-use Rattle.frozen_law.proofs.KernelWalks.{kernel_keeps}
+use Rattle.script_fold.proofs.KernelWalks.{Reaches, kernel_keeps}
 use Rattle.frozen_law.proofs.Memories.{Moves, step_moves}
 
 abbrev HasMarks : ℕ → CloakedMemory → Type 0
@@ -102,61 +102,61 @@ offer_count n q g write m here =
 abbrev MarksIn : ℕ → World → Type 0
 MarksIn n w = length (marks_of w) ≡ n
 
-record Counts (w v : World) : Type 0 where
+record SameMarkCount (w v : World) : Type 0 where
   pub by : (n : ℕ) → MarksIn n w → MarksIn n v
 
-same : (w : World) → Counts w w
+same : (w : World) → SameMarkCount w w
 same w = record { by = λ n here. here }
 
-settled_world : (f : ℕ) (w : World) → Counts w (settled f w)
+settled_world : (f : ℕ) (w : World) → SameMarkCount w (settled f w)
 settled_world f (Flat seen) = same (Flat seen)
 settled_world f (Cloaked c) = record { by = λ n here. settle_count n f c.memory here }
 settled_world f (Alone h) = same (Alone h)
 
-stored_world : (pa width value : ℕ) (w : World) → Counts w (stored_at pa width value w)
+stored_world : (pa width value : ℕ) (w : World) → SameMarkCount w (stored_at pa width value w)
 stored_world pa width value (Flat seen) = record { by = λ n here. stored_count n pa width value seen here }
 stored_world pa width value (Cloaked c) =
     record { by = λ n here. stored_count n pa width value (seen_in c.memory) here }
 stored_world pa width value (Alone h) = same (Alone h)
 
-filled_world : (f : ℕ) (bytes : List ℕ) (w : World) → Counts w (filled_frame f bytes w)
+filled_world : (f : ℕ) (bytes : List ℕ) (w : World) → SameMarkCount w (filled_frame f bytes w)
 filled_world f bytes (Flat seen) = record { by = λ n here. filled_count n f bytes seen here }
 filled_world f bytes (Cloaked c) = record { by = λ n here. filled_count n f bytes (seen_in c.memory) here }
 filled_world f bytes (Alone h) = same (Alone h)
 
-marked_world : (hart : ℕ) (mark : Option ℕ) (w : World) → Counts w (with_marks (with_mark hart mark (marks_of w)) w)
+marked_world : (hart : ℕ) (mark : Option ℕ) (w : World) → SameMarkCount w (with_marks (with_mark hart mark (marks_of w)) w)
 marked_world hart mark (Flat seen) = record { by = λ n here. length-set seen.marks hart mark ∙ here }
 marked_world hart mark (Cloaked c) = record { by = λ n here. length-set c.memory.marks hart mark ∙ here }
 marked_world hart mark (Alone h) = same (Alone h)
 
-noted_world : (events : List Event) (w : World) → Counts w (noted events w)
+noted_world : (events : List Event) (w : World) → SameMarkCount w (noted events w)
 noted_world events (Flat seen) = same (Flat seen)
 noted_world events (Cloaked c) = record { by = λ n here. here }
 noted_world events (Alone h) = same (Alone h)
 
-written_world : (i : Item) (w : World) → Counts w (written i w)
+written_world : (i : Item) (w : World) → SameMarkCount w (written i w)
 written_world i (Flat seen) = same (Flat seen)
 written_world i (Cloaked c) = record { by = λ n here. here }
 written_world i (Alone h) = same (Alone h)
 
-plain_world : (domain : ℕ) (plain : PageId → List ℕ) (w : World) → Counts w (with_plain domain plain w)
+plain_world : (domain : ℕ) (plain : PageId → List ℕ) (w : World) → SameMarkCount w (with_plain domain plain w)
 plain_world domain plain (Flat seen) = same (Flat seen)
 plain_world domain plain (Cloaked c) = record { by = λ n here. here }
 plain_world domain plain (Alone h) = record { by = λ n here. here }
 
-copy_world : (d from to : ℕ) (w : World) → Counts w (ask_copy d from to w).world
+copy_world : (d from to : ℕ) (w : World) → SameMarkCount w (ask_copy d from to w).world
 unfolding ask_copy copy_pages
 copy_world d from to (Flat seen) = same (Flat seen)
 copy_world d from to (Cloaked c) = record { by = λ n here. here }
 copy_world d from to (Alone h) = record { by = λ n here. here }
 
-forget_world : (d n : ℕ) (w : World) → Counts w (ask_forget d n w).world
+forget_world : (d n : ℕ) (w : World) → SameMarkCount w (ask_forget d n w).world
 unfolding ask_forget drop_pages
 forget_world d n (Flat seen) = same (Flat seen)
 forget_world d n (Cloaked c) = record { by = λ k here. here }
 forget_world d n (Alone h) = record { by = λ k here. here }
 
-changes : Kept Counts
+changes : Kept SameMarkCount
 changes = record {
   same = same;
   chained = λ u v w p q. record { by = λ n here. q.by n (p.by n here) };
@@ -170,6 +170,9 @@ changes = record {
   told = λ h rest. record { by = λ n here. here };
   unfit = λ h. record { by = λ n here. here };
 }
+
+reaches : Reaches SameMarkCount
+reaches = record { opens = opens_of SameMarkCount changes; stored_at = stored_world; marked = marked_world; filled = filled_world }
 
 -- the memory that the joint machine takes from a world
 memory_count : (n : ℕ) (w : World) (m : CloakedMemory) → MarksIn n w → HasMarks n m → HasMarks n (memory_of w m)
@@ -189,16 +192,16 @@ moves_count n = record {
   later = λ m here. here;
   stepped = λ slot was c places here m there.
       memory_count n (domain_step slot was (Cloaked c)).world m
-      ((step_keeps Counts slot was (kept_by Counts changes copy_world forget_world was.control.number) (Cloaked c)).by n here)
+      ((step_keeps SameMarkCount slot was (kept_by SameMarkCount changes copy_world forget_world was.control.number) (Cloaked c)).by n here)
       there;
   made = λ h disk m here.
       seen_count n (kernel_step h disk (Flat (seen_in m))).world
-      ((kernel_keeps Counts changes marked_world filled_world h disk (Flat (seen_in m))).by n here);
+      ((kernel_keeps SameMarkCount reaches h disk (Flat (seen_in m))).by n here);
   unmarked = λ number m here. length-set m.marks number None ∙ here;
   rooted = λ root m here. here;
   ended = λ d m here.
       memory_count n (ask_end d (Cloaked (cloak_for m d))).world m
-      ((keeps_end Counts changes forget_world d (Cloaked (cloak_for m d))).by n here) here;
+      ((keeps_end SameMarkCount (settles_of SameMarkCount changes) forget_world d (Cloaked (cloak_for m d))).by n here) here;
 }
 
 -- The run.

@@ -1,23 +1,16 @@
 -- While a run goes on, no draw was missing.
-use Rattle.std.proofs.Common.{◌≡◌, ◌∙◌, ℕ, zero, suc, ◌<◌, Bool, true, false, cond, List, [], ◌∷◌, length, take, Option, Some, None, IfSome, Ok, refl, arith}
-use Rattle.cloak_base.specs.Random.{Random}
+use Rattle.std.proofs.Common.{◌≡◌, ◌∙◌, ℕ, zero, suc, ◌<◌, false, List, [], ◌∷◌, length, take, Option, Some, None, refl, arith}
 use Rattle.cloak_base.specs.declared.causes.Stop.{Stop}
 use Rattle.cloak_base.specs.declared.causes.Stop.TheVariants as stop
-use Rattle.cloak_base.specs.declared.names.PageId.{PageId}
 use Rattle.cloak_model.specs.declared.image.Bundle.{Bundle}
-use Rattle.cloak_model.specs.Beginning.{Beginning, opening_from}
-use Rattle.cloak_model.specs.Cloaking.{CloakedMemory}
-use Rattle.cloak_model.specs.Joint.{Moment, Turn, joint_step, after_turn, stop_without_miss, stop_of}
-use Rattle.cloak_model.specs.Ledger.{Keys}
-use Rattle.cloak_model.specs.Opening.{Opened, started_joint, started_ledger, started_memory}
-use Rattle.cloak_model.specs.PageMoves.{place_with}
+use Rattle.cloak_model.specs.Beginning.{opening_from}
+use Rattle.cloak_model.specs.Joint.{Moment, Turn, joint_step, after_turn, stop_of}
+use Rattle.cloak_model.specs.Opening.{Opened}
 use Rattle.cloak_model.specs.Parts.{Joint}
 use Rattle.cloak_model.specs.Run.{Run, run_of, unless_stopped, turns_from, first_moment, joint_after, last_stop}
-use Rattle.cloak_model.specs.StoredFiles.{FileContents}
-use Rattle.kernel_isolation.proofs.FilesAdded.{IsGiven, given_keeps}
 use Rattle.kernel_isolation.proofs.Isolated.{of_opened}
-use Rattle.limit_law.proofs.Openings.{begins_by_memory}
-use Rattle.frozen_law.specs.Missed.{GoesOn, OnlyLastStops, NothingIsMissed}
+use Rattle.limit_law.proofs.Drawn.{stop_tells, JointDrawn, opened_drawn}
+use Rattle.frozen_law.specs.Missed.{NoneStopped, OnlyLastStops, NothingIsMissed}
 
 -- Steps but the last stop nothing.
 
@@ -40,7 +33,7 @@ goes (suc budget) (suc n) s m none less =
     (λ low is. goes budget n (stop_of t) (after_turn m t) is low)
 
 abbrev GoesAll : Run → Type 0
-GoesAll r = (n : ℕ) → n < length r.turns → GoesOn n r
+GoesAll r = (n : ℕ) → n < length r.turns → NoneStopped n r
 
 run_goes : (b : Bundle) (budget : ℕ) (o : Opened) → GoesAll (run_of b budget o)
 unfolding run_of
@@ -52,11 +45,6 @@ only_last_stops b from budget r is =
 
 -- A step that misses a draw stops the run.
 
-stop_tells : (missed : Bool) (halt : Option ℕ) → cond missed (Some stop.NoRandom) (stop_without_miss halt) ≡ None →
-    missed ≡ false
-stop_tells true halt is = absurd cc
-stop_tells false halt is = refl
-
 none_missed : (s : Option Stop) (j : Joint) (turns : List Turn) → (s ≡ None → j.memory.ledger.missed ≡ false) →
     last_stop s turns ≡ None → (joint_after j turns).memory.ledger.missed ≡ false
 unfolding last_stop joint_after
@@ -64,36 +52,8 @@ none_missed s j [] tells is = tells is
 none_missed s j (t ∷ turns) tells is =
     none_missed (stop_of t) t.joint turns (stop_tells t.joint.memory.ledger.missed t.halt) is
 
--- The opening misses none.
-
-abbrev IsDrawn : CloakedMemory → Type 0
-IsDrawn m = m.ledger.missed ≡ false
-
-place_drawn : (q : PageId) (f : ℕ) (bytes : List ℕ) (draw : Option (List ℕ × Random)) (m : CloakedMemory) → IsDrawn m →
-    IfSome (place_with q f bytes draw m) IsDrawn
-unfolding place_with
-place_drawn q f bytes None m drawn = tt
-place_drawn q f bytes (Some draw) m drawn = drawn
-
-started_drawn : (b : Bundle) (keys : Keys) (rest : Random) → IsDrawn (started_memory b.kernel keys rest)
-unfolding started_memory started_ledger
-started_drawn b keys rest = refl
-
-abbrev JointDrawn : Joint → Type 0
-JointDrawn j = IsDrawn j.memory
-
-joint_drawn : (b : Bundle) (m : CloakedMemory) → IsDrawn m → JointDrawn (started_joint b m)
-unfolding started_joint
-joint_drawn b m drawn = drawn
-
-given_drawn : (f : FileContents) (x y : Joint) → IsGiven f x y → JointDrawn x → JointDrawn y
-given_drawn f x y given drawn = (given_keeps f x y given).memory.missed ∙ drawn
-
-opened_drawn : (b : Bundle) (from : Beginning) (o : Opened) → opening_from b from ≡ Ok o → JointDrawn o.joint
-opened_drawn b from = begins_by_memory IsDrawn JointDrawn b from place_drawn (started_drawn b) (joint_drawn b) given_drawn
-
 abbrev DrawnAll : Run → Type 0
-DrawnAll r = (n : ℕ) → GoesOn n r → (joint_after r.opened.joint (take n r.turns)).memory.ledger.missed ≡ false
+DrawnAll r = (n : ℕ) → NoneStopped n r → (joint_after r.opened.joint (take n r.turns)).memory.ledger.missed ≡ false
 
 run_drawn : (b : Bundle) (budget : ℕ) (o : Opened) → JointDrawn o.joint → DrawnAll (run_of b budget o)
 unfolding run_of

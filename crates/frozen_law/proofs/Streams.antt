@@ -26,7 +26,7 @@ use Rattle.kernel_isolation.proofs.FilesAdded.{HasKeys, added_keep, files_of, op
 use Rattle.kernel_isolation.proofs.Opened.{is_opened}
 use Rattle.kernel_isolation.proofs.Turns.{IsSteady, turn_is_alone}
 use Rattle.script_fold.proofs.Folding.{step_keeps}
-use Rattle.script_fold.proofs.Questions.{Kept}
+use Rattle.script_fold.proofs.Questions.{Kept, settles_of}
 use Rattle.script_fold.proofs.ByQuestions.{kept_by}
 use Rattle.script_fold.proofs.Endings.{keeps_end}
 use Rattle.kernel_isolation.proofs.Shown.{either}
@@ -213,7 +213,7 @@ module _ (keys : Keys) (rest : Random) where
     stepped = λ slot was c places here. (program_step slot was (Cloaked c)).by here;
     seen = λ s m here. as_before m _ refl refl refl here;
     rooted = λ root m here. as_before m _ refl refl refl here;
-    ended = λ d m here. (keeps_end Stays changes forget_world d _).by here;
+    ended = λ d m here. (keeps_end Stays (settles_of Stays changes) forget_world d _).by here;
   }
 
   step_follows : (m : Moment) → IsSteady m.joint → Fits m.joint.memory → Fits (joint_step m).joint.memory

@@ -31,7 +31,7 @@ use Rattle.cause_law.proofs.Runs.{end_has_cause}
 use Rattle.kernel_isolation.specs.Isolation.{joint_until}
 use Rattle.kernel_isolation.proofs.Isolated.{of_opened}
 use Rattle.kernel_isolation.proofs.Leading.{leads_inside}
-use Rattle.script_fold.proofs.Questions.{Kept, keeps_reach, keeps_get, keeps_inside_address}
+use Rattle.script_fold.proofs.Questions.{Kept, opens_of, replies_of, keeps_reach, keeps_get, keeps_inside_address}
 use Rattle.limit_law.proofs.Pages.{IsPage, pages_there}
 use Rattle.limit_law.proofs.Runs.{runs_keep_limits}
 use Rattle.chain_law.proofs.Zeros.{settle_fresh, offer_offered}
@@ -170,7 +170,7 @@ asks_frames n d c begun va kind w (CopiesFrom done phase more at plain is same) 
     subst (HasFrames n) (sym same) here
 asks_frames n d c begun va kind w (CopiesTo done total byte phase more at plain got is) here =
     subst (λ (t : Told Answer). HasFrames n t.world) got
-    ((keeps_get Frames changes (byte_address (area c) done) 1 begun).by n here)
+    ((keeps_get Frames (replies_of Frames changes) (byte_address (area c) done) 1 begun).by n here)
 
 -- The law.
 
@@ -193,7 +193,7 @@ module _ (b : Bundle) (from : Beginning) (budget : ℕ) (r : Run) (grammar : IsI
         let at = asks_frames n s.domain s.context (world_inside (moment_at b r before) s) p.va p.kind (Cloaked p.at) p.asks
         counted.frames in
         let found = subst (λ (t : Told (Result ℕ ℕ)). HasFrames n t.world) p.finds.leads
-        ((keeps_inside_address Frames changes p.va p.kind (Cloaked p.at)).by n at) in
+        ((keeps_inside_address Frames (opens_of Frames changes) p.va p.kind (Cloaked p.at)).by n at) in
         let led = ((leads_inside p.va p.kind (Cloaked p.at)).inside p.finds.pa
         (ap (λ (t : Told (Result ℕ ℕ)). t.answer) p.finds.leads)).0 in
         let inside : is_in_ram p.finds.found.memory.ram p.finds.pa ≡ true =

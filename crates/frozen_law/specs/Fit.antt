@@ -10,7 +10,7 @@ use Rattle.cloak_model.specs.Cloaking.{CloakedMemory, ciphertext_of, owing_frame
 use Rattle.cloak_model.specs.Run.{Run, run_from}
 use Rattle.range_law.specs.Writing.{IsOfBytes, IsBeginningOfBytes}
 use Rattle.kernel_isolation.specs.Isolation.{joint_until}
-use Rattle.frozen_law.specs.Missed.{GoesOn}
+use Rattle.frozen_law.specs.Missed.{NoneStopped}
 
 -- Each page has 4096 bytes, and a vector exactly if a ciphertext of it is recorded. Of a page that no frame is owed,
 -- the recorded ciphertext is that of its newest bytes under this vector. Without one it is zeros.
@@ -25,4 +25,4 @@ pub record FitPages (m : CloakedMemory) : Type 0 where
 abbrev pub RunsFitPages : Type 0
 RunsFitPages =
     (b : Bundle) (from : Beginning) (budget : ℕ) (r : Run) → IsInGrammar b → IsOfBytes b → IsBeginningOfBytes b from →
-    run_from b from budget ≡ Ok r → (n : ℕ) → GoesOn n r → FitPages (joint_until n r).memory
+    run_from b from budget ≡ Ok r → (n : ℕ) → NoneStopped n r → FitPages (joint_until n r).memory

@@ -11,7 +11,7 @@ use Rattle.frozen_state.specs.Ranges.{IsInRange}
 use Rattle.frozen_state.specs.Thawing.{CanGoOn}
 use Rattle.range_law.specs.Writing.{IsOfBytes, IsStreamOfBytes}
 use Rattle.kernel_isolation.specs.Isolation.{joint_until}
-use Rattle.frozen_law.specs.Missed.{GoesOn}
+use Rattle.frozen_law.specs.Missed.{NoneStopped}
 
 -- The law, of the fresh run of an image in the grammar, with bytes in the image and in the stream: at each moment to which
 -- no step stopped it and no two pages clashed, up to the most steps that a run may have, whatever vectors it is frozen
@@ -19,7 +19,7 @@ use Rattle.frozen_law.specs.Missed.{GoesOn}
 abbrev pub FrozenStatesGoOn : Type 0
 FrozenStatesGoOn =
     (b : Bundle) (stream : Random) (budget : ℕ) (r : Run) → IsInGrammar b → IsOfBytes b → IsStreamOfBytes stream →
-    run_from b (Fresh stream) budget ≡ Ok r → (n : ℕ) → n ≤ most_steps → GoesOn n r →
+    run_from b (Fresh stream) budget ≡ Ok r → (n : ℕ) → n ≤ most_steps → NoneStopped n r →
     (joint_until n r).memory.ledger.clashed ≡ false → (ivs : Random) (f : Frozen) →
     frozen_of (joint_until n r) n ivs ≡ Some f →
     IsInRange b.kernel (length b.programs) f × CanGoOn b stream f (joint_until n r)

@@ -10,7 +10,7 @@ use Rattle.io_traits.specs.declared.shelf.Shelf as shelves
 use Rattle.io_traits.specs.Told.{Tells, Grows, GrowsByFront, Rose, Counts, SameFiles, OtherFiles}
 use Rattle.io_traits.proofs.ToldFacts.{Grows-append, Grows-none, GrowsByFront-append, GrowsByFront-first, Rose-after}
 use Rattle.frozen_run.specs.declared.pen.Pen.{Pen}
-use Rattle.frozen_run.specs.Writing.{Adds, HasAdded, Gives, Saves, TellsFront}
+use Rattle.frozen_run.specs.Writing.{Adds, HasAdded, AddsMore, Saves, TellsFront}
 
 -- Shelves.
 
@@ -79,7 +79,7 @@ adds_none of_shelf failed name s well = record {
 
 -- Pens.
 
-pub gives_none : {S : Type 0} (of_shelf : shelves.Ghosts S) (pen : Pen S) → Gives of_shelf pen pen []
+pub gives_none : {S : Type 0} (of_shelf : shelves.Ghosts S) (pen : Pen S) → AddsMore of_shelf pen pen []
 gives_none of_shelf pen = record {
   name = refl;
   more = λ start before had. subst (λ (l : List ℕ). HasAdded of_shelf start pen l) (sym (append-nil before)) had;
@@ -87,7 +87,7 @@ gives_none of_shelf pen = record {
 
 -- a pen that failed adds nothing of what comes
 pub gives_nothing : {S : Type 0} (of_shelf : shelves.Ghosts S) (pen : Pen S) (bytes : List ℕ) → pen.failed ≡ true →
-    Gives of_shelf pen pen bytes
+    AddsMore of_shelf pen pen bytes
 gives_nothing of_shelf pen bytes ill = record {
   name = refl;
   more = λ start before had. record {
@@ -99,7 +99,7 @@ gives_nothing of_shelf pen bytes ill = record {
 -- one that did not adds a piece
 pub gives_piece : {S : Type 0} (of_shelf : shelves.Ghosts S) (old new : Pen S) (bytes : List ℕ) → old.failed ≡ false →
     new.name ≡ old.name → Adds of_shelf new.failed new.name.now old.shelf.now new.shelf.now bytes →
-    ((m : List ℕ) → Holds256 old.digest m → Holds256 new.digest (m ++ bytes)) → Gives of_shelf old new bytes
+    ((m : List ℕ) → Holds256 old.digest m → Holds256 new.digest (m ++ bytes)) → AddsMore of_shelf old new bytes
 gives_piece of_shelf old new bytes well name adds digest = record {
   name = name;
   more = λ start before had. record {
@@ -111,7 +111,7 @@ gives_piece of_shelf old new bytes well name adds digest = record {
 
 -- bytes, and then more
 pub gives_then : {S : Type 0} {of_shelf : shelves.Ghosts S} {old mid new : Pen S} {xs ys : List ℕ} →
-    Gives of_shelf old mid xs → Gives of_shelf mid new ys → Gives of_shelf old new (xs ++ ys)
+    AddsMore of_shelf old mid xs → AddsMore of_shelf mid new ys → AddsMore of_shelf old new (xs ++ ys)
 gives_then {S} {of_shelf} {old} {mid} {new} {xs} {ys} one two = record {
   name = two.name ∙ one.name;
   more = λ start before had.
@@ -121,10 +121,10 @@ gives_then {S} {of_shelf} {old} {mid} {new} {xs} {ys} one two = record {
 
 -- the next of some values
 pub gives_each : {S X : Type 0} {of_shelf : shelves.Ghosts S} {old mid new : Pen S} (bytes : X → List ℕ) (xs : List X)
-    (i : ℕ) (x : X) → i < length xs → x ≡ get_or xs i x → Gives of_shelf old mid (flat_map bytes (take i xs)) →
-    Gives of_shelf mid new (bytes x) → Gives of_shelf old new (flat_map bytes (take (i + 1) xs))
+    (i : ℕ) (x : X) → i < length xs → x ≡ get_or xs i x → AddsMore of_shelf old mid (flat_map bytes (take i xs)) →
+    AddsMore of_shelf mid new (bytes x) → AddsMore of_shelf old new (flat_map bytes (take (i + 1) xs))
 gives_each {S} {X} {of_shelf} {old} {mid} {new} bytes xs i x low is one two =
-    subst (λ (l : List ℕ). Gives of_shelf old new l)
+    subst (λ (l : List ℕ). AddsMore of_shelf old new l)
     (flat_map_more bytes [] (take i xs) x
     ∙ ap (λ (l : List X). flat_map bytes l)
     (ap (λ (y : X). take i xs ++ y ∷ []) is ∙ sym (take_more xs i x low)))

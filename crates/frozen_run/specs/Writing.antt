@@ -38,7 +38,7 @@ pub record HasAdded {S : Type 0} (of_shelf : shelves.Ghosts S) (start : S) (pen 
   pub digest : pen.failed ≡ false → Holds256 pen.digest bytes
 
 -- Whatever a pen has added, it has then added these bytes too.
-pub record Gives {S : Type 0} (of_shelf : shelves.Ghosts S) (old new : Pen S) (bytes : List ℕ) : Type 0 where
+pub record AddsMore {S : Type 0} (of_shelf : shelves.Ghosts S) (old new : Pen S) (bytes : List ℕ) : Type 0 where
   pub name : new.name ≡ old.name
   pub more : (start : S) (before : List ℕ) → HasAdded of_shelf start old before →
       HasAdded of_shelf start new (before ++ bytes)

@@ -15,12 +15,12 @@ pub(crate) struct Pen<'s, 'n, S: Shelf> {
 }
 
 impl<'s, 'n, S: Shelf> Pen<'s, 'n, S> {
-    ghost use Rattle.frozen_run.specs.Writing.{Gives};
+    ghost use Rattle.frozen_run.specs.Writing.{AddsMore};
 
     /// Adds a piece.
     pub(crate) fn put(&mut self, bytes: &[u8])
         ensures same_shelf { self.new.shelf.ghost_name ≡ self.old.shelf.ghost_name }
-        ensures gives { Gives S.Shelf self.old self.new bytes.now }
+        ensures gives { AddsMore S.Shelf self.old self.new bytes.now }
     {
         if self.failed {
             return;

@@ -41,7 +41,7 @@ const DRAWS_END: u64 = 1 << 60;
 
 /// The numbers that a state begins with.
 #[derive(Clone, Copy)]
-struct Header {
+struct StateHeader {
     steps: u32,
     draws: u64,
     refused: u64,
@@ -92,7 +92,7 @@ fn opened<'a>(b: &'a [u8], bundle: &[u8; 32]) -> Result<&'a [u8], FrozenFault>
 }
 
 /// The numbers after the first eight bytes.
-fn read_header(body: &[u8]) -> Result<Header, FrozenFault>
+fn read_header(body: &[u8]) -> Result<StateHeader, FrozenFault>
     requires { 8 ≤ length body.now }
     ensures fault { fault_of result ≡ first_in body.now (format.header body.now) }
     ensures steps { IfOk result (λ h. h.steps ≡ spec.number body.now 8) }
@@ -113,7 +113,7 @@ fn read_header(body: &[u8]) -> Result<Header, FrozenFault>
     if refused > steps as u64 {
         return Err(FrozenFault::Form(52));
     }
-    Ok(Header {
+    Ok(StateHeader {
         steps,
         draws,
         refused,

@@ -3,7 +3,7 @@ ghost use Rattle.std.specs.Prelude.{◌≡◌, List, ℕ};
 ghost use Rattle.std.specs.List.{flat_map};
 ghost use Rattle.cloak_model.specs.Bits.{word};
 ghost use Rattle.frozen_state.specs.FrozenState as spec;
-ghost use Rattle.frozen_run.specs.Writing.{Gives};
+ghost use Rattle.frozen_run.specs.Writing.{AddsMore};
 
 use crate::pen::Pen;
 use cloak_base::{Meta, Mode, PageId, Violation};
@@ -16,13 +16,13 @@ pub(crate) trait Spelled {
 
     fn put_to<S: Shelf>(&self, pen: &mut Pen<'_, '_, S>)
         ensures same_shelf { pen.new.shelf.ghost_name ≡ pen.old.shelf.ghost_name }
-        ensures gives { Gives S.Shelf pen.old pen.new (spelled self.now) };
+        ensures gives { AddsMore S.Shelf pen.old pen.new (spelled self.now) };
 }
 
 /// Writes these, one after another.
 pub(crate) fn put_each<T: Spelled, S: Shelf>(items: &[T], pen: &mut Pen<'_, '_, S>)
     ensures same_shelf { pen.new.shelf.ghost_name ≡ pen.old.shelf.ghost_name }
-    ensures gives { Gives S.Shelf pen.old pen.new (flat_map T.spelled items.now) }
+    ensures gives { AddsMore S.Shelf pen.old pen.new (flat_map T.spelled items.now) }
 {
     for item in items {
         item.put_to(pen);

@@ -1,7 +1,7 @@
 //! The file of a frozen state is written.
 ghost use Rattle.std.specs.Prelude.{◌≡◌, ◌<◌, ◌^◌, length, is_err, OnOk};
 ghost use Rattle.frozen_state.specs.FrozenState.{body_bytes, frozen_bytes};
-ghost use Rattle.frozen_run.specs.Writing.{Adds, Gives, Saves};
+ghost use Rattle.frozen_run.specs.Writing.{Adds, AddsMore, Saves};
 
 use crate::pen::Pen;
 use crate::spelling::{Spelled, put_each};
@@ -14,7 +14,7 @@ use sha2::{Digest, Sha256};
 fn put_body<S: Shelf>(f: &Frozen, bundle: &[u8; 32], pen: &mut Pen<'_, '_, S>)
     requires { length f.now.recorded < 2 ^ 32 }
     ensures same_shelf { pen.new.shelf.ghost_name ≡ pen.old.shelf.ghost_name }
-    ensures gives { Gives S.Shelf pen.old pen.new (body_bytes f.now bundle.now) }
+    ensures gives { AddsMore S.Shelf pen.old pen.new (body_bytes f.now bundle.now) }
 {
     pen.put(b"CLOAKFRZ");
     f.steps.put_to(pen);

@@ -18,7 +18,7 @@ use std::alloc::Global;
 
 /// Where the parts of a file stand.
 #[derive(Drop)]
-struct Parts {
+struct PartPlaces {
     schedule: Vec<u8>,
     segments: Vec<SegmentPlace>,
     disk_start: usize,
@@ -27,7 +27,7 @@ struct Parts {
 }
 
 /// The bundle of these parts of a file.
-fn gather(alloc: Global, file: Vec<u8>, h: Header, parts: Parts) -> Result<Bundle, NoMemory>
+fn gather(alloc: Global, file: Vec<u8>, h: Header, parts: PartPlaces) -> Result<Bundle, NoMemory>
     requires segments { AreSegmentPlaces 0 parts.segments.items parts.disk_start }
     requires disk { parts.disk_start ≤ parts.disk_end }
     requires programs { AreProgramPlaces parts.disk_end parts.programs.items (length file.items) }
@@ -38,7 +38,7 @@ fn gather(alloc: Global, file: Vec<u8>, h: Header, parts: Parts) -> Result<Bundl
         (map (program_of file.items) parts.programs.items)) }
 {
     let mut file = file;
-    let Parts {
+    let PartPlaces {
         schedule,
         segments,
         disk_start,
@@ -79,7 +79,7 @@ fn bundle(alloc: Global, file: Vec<u8>) -> Result<Bundle, BundleFault>
     if end != bytes.len() {
         return Err(BundleFault::Extra(end as u64));
     }
-    let parts = Parts {
+    let parts = PartPlaces {
         schedule,
         segments,
         disk_start,

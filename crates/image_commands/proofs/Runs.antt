@@ -7,7 +7,7 @@ use Rattle.cloak_base.specs.declared.causes.Stop.TheVariants as stop
 use Rattle.io_traits.specs.Told.{Grows, GrowsByFront}
 use Rattle.cloak_model.specs.Opening.{Lack, Opened, opening}
 use Rattle.cloak_model.specs.Run.{Run, run_of}
-use Rattle.cloak_machine.specs.declared.end.End.{End}
+use Rattle.cloak_machine.specs.declared.end.RunEnd.{RunEnd}
 use Rattle.cloak_machine.specs.declared.machine.Machine.{Machine}
 use Rattle.cloak_machine.specs.Ending.{end_is_refused, end_short_report}
 use Rattle.cloak_machine.specs.Standing.{OpensMachine}
@@ -22,7 +22,7 @@ use Rattle.image_commands.specs.Demonstrating.{DemoAnswers, HasDemonstrated, dem
 use Rattle.image_commands.specs.Showing.{IsShownInPart}
 
 -- the lines of a run, from the end of its machine
-lines_of_end : (n : ℕ) (end : End) (r : Run) → IsEndOf end r → summary_line n ++ end_short_report end ≡ demo_lines n r
+lines_of_end : (n : ℕ) (end : RunEnd) (r : Run) → IsEndOf end r → summary_line n ++ end_short_report end ≡ demo_lines n r
 lines_of_end n end r is = ap (λ (text : List ℕ). summary_line n ++ text) is.short
 
 answers_unless : {O : Type 0} {n steps : ℕ} {before after : Output O} (refused : Bool) →
@@ -46,7 +46,7 @@ run_is n {machine} steps opens =
     ap (λ (opened : Result Opened Lack). result_map_both (run_of (generated n) steps) (λ lack. lack) opened) opens.opens
 
 -- all lines were shown
-pub shows_all : {O : Type 0} (n : ℕ) {machine : Machine} (end : End) (before after : Output O) {given : Status}
+pub shows_all : {O : Type 0} (n : ℕ) {machine : Machine} (end : RunEnd) (before after : Output O) {given : Status}
     (steps : ℕ) (opens : OpensMachine (generated n) (numbered n) machine) →
     (NoClash (run_of (generated n) steps opens.opened) → IsEndOf end (run_of (generated n) steps opens.opened)) →
     Grows before.taken after.taken (summary_line n ++ end_short_report end) → after.faults ≡ before.faults →
@@ -65,7 +65,7 @@ shows_all {O} n {machine} end before after {given} steps opens is grows faults a
     }))
 
 -- a front of the lines was shown
-pub shows_front : {O : Type 0} (n : ℕ) {machine : Machine} (end : End) (before after : Output O)
+pub shows_front : {O : Type 0} (n : ℕ) {machine : Machine} (end : RunEnd) (before after : Output O)
     (steps : ℕ) (opens : OpensMachine (generated n) (numbered n) machine) →
     (NoClash (run_of (generated n) steps opens.opened) → IsEndOf end (run_of (generated n) steps opens.opened)) →
     IsShownInPart before after (summary_line n ++ end_short_report end) →

@@ -15,7 +15,7 @@ ghost use Rattle.image_commands.specs.Demonstrating.{DemoAnswers};
 ghost use Rattle.run_command.specs.Running.{IsEndOf, MadeAll, NoClash, NoClashYet};
 
 use cloak_base::{Failed, NoMemory, Stop};
-use cloak_machine::{End, Machine, OpenFault};
+use cloak_machine::{Machine, OpenFault, RunEnd};
 use cloak_model::Bundle;
 use command_parts::{Refusal, Status, refuse};
 use guest_kernel::{generate, put_summary};
@@ -55,7 +55,7 @@ fn run_unheard(machine: &mut Machine, steps: u32) -> Option<Stop>
 }
 
 /// Makes the run of a machine, of which nothing is written.
-fn end_of_run(machine: Machine, steps: u32) -> End
+fn end_of_run(machine: Machine, steps: u32) -> RunEnd
     requires fresh { steps_made machine ≡ 0 }
     requires few { steps ≤ most_steps }
     ensures { (b : AnyBundle) (stream : Random) (o : Opened) → opening b stream ≡ Ok o →
@@ -68,7 +68,7 @@ fn end_of_run(machine: Machine, steps: u32) -> End
 }
 
 /// Shows the line of a number's image, and what its run came to. One that failed has shown a front of it.
-fn show_demo<O: Sink>(out: &mut O, number: u64, end: &End) -> Result<(), Failed>
+fn show_demo<O: Sink>(out: &mut O, number: u64, end: &RunEnd) -> Result<(), Failed>
     ensures { PutsTo O.Sink out.old out.new (summary_line number ++ end_short_report end.now) result }
 {
     put_summary(out, number)?;

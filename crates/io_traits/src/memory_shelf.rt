@@ -5,7 +5,7 @@ ghost use Rattle.io_traits.specs.Memory.{one_more, bytes_of, IsThere};
 
 use crate::copied::copy_from;
 use crate::planned::Planned;
-use crate::table::Table;
+use crate::table::FilesByName;
 use crate::{Shelf, table};
 use cloak_base::{Failed, NoMemory};
 use std::alloc::Global;
@@ -17,7 +17,7 @@ use std::marker::Model;
 #[derive(Drop)]
 pub struct MemoryShelf {
     alloc: Global,
-    files: Table,
+    files: FilesByName,
     planned: Planned,
     reading_faults: u64,
     writing_faults: u64,

@@ -8,10 +8,10 @@ use cloak_base::NoMemory;
 use std::alloc::Global;
 use std::collections::BTreeMap;
 
-pub type Table = BTreeMap<String, Vec<u8>>;
+pub type FilesByName = BTreeMap<String, Vec<u8>>;
 
 /// The bytes of a name, none if it is not there.
-pub fn bytes<'a>(files: &'a Table, name: &str) -> &'a [u8]
+pub fn bytes<'a>(files: &'a FilesByName, name: &str) -> &'a [u8]
     ensures { result.now ≡ bytes_of (files_of files.now) name.now }
 {
     match files.get(name) {
@@ -21,7 +21,12 @@ pub fn bytes<'a>(files: &'a Table, name: &str) -> &'a [u8]
 }
 
 /// Puts a file of these bytes there, instead of any of this name.
-pub fn replace(alloc: Global, files: &mut Table, name: &str, bytes: &[u8]) -> Result<(), NoMemory>
+pub fn replace(
+    alloc: Global,
+    files: &mut FilesByName,
+    name: &str,
+    bytes: &[u8],
+) -> Result<(), NoMemory>
     ensures ok { OnOk result (files_of files.new ≡ insert (files_of files.old) name.now bytes.now) }
     ensures err { OnErr result (files_of files.new ≡ files_of files.old) }
 {
@@ -32,7 +37,7 @@ pub fn replace(alloc: Global, files: &mut Table, name: &str, bytes: &[u8]) -> Re
 }
 
 /// Empties a file, or makes it if it is missing.
-pub fn empty(alloc: Global, files: &mut Table, name: &str) -> Result<(), NoMemory>
+pub fn empty(alloc: Global, files: &mut FilesByName, name: &str) -> Result<(), NoMemory>
     ensures ok { OnOk result (files_of files.new ≡ insert (files_of files.old) name.now []) }
     ensures err { OnErr result (files_of files.new ≡ files_of files.old) }
     ensures there { IsThere (files_of files.old) name.now → IsOk result }
@@ -48,7 +53,12 @@ pub fn empty(alloc: Global, files: &mut Table, name: &str) -> Result<(), NoMemor
 
 /// Adds a piece at the end of a file, which it makes if it is missing. No bytes for a file that is there need no
 /// memory.
-pub fn extend(alloc: Global, files: &mut Table, name: &str, bytes: &[u8]) -> Result<(), NoMemory>
+pub fn extend(
+    alloc: Global,
+    files: &mut FilesByName,
+    name: &str,
+    bytes: &[u8],
+) -> Result<(), NoMemory>
     ensures ok { let old = files_of files.old in
         OnOk result (files_of files.new ≡ insert old name.now (bytes_of old name.now ++ bytes.now)) }
     ensures err { OnErr result (files_of files.new ≡ files_of files.old) }

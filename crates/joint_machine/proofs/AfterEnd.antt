@@ -37,9 +37,9 @@ use Rattle.hypercalls.specs.Standing.{StandsFor}
 use Rattle.shadow_fold.specs.Agreement.{IsMapped}
 use Rattle.shadow_fold.specs.Events as events
 use Rattle.shadow_fold.specs.Fold.{Fold, after_events}
-use Rattle.shadow_fold.specs.Reads.{Asked, reads_due}
+use Rattle.shadow_fold.specs.Reads.{AskedByStep, reads_due}
 use Rattle.thread_context.specs.Recorded.{root_at}
-use Rattle.joint_machine.specs.declared.ended.Ended.{Ended}
+use Rattle.joint_machine.specs.declared.ended_step.EndedStep.{EndedStep}
 use Rattle.joint_machine.specs.declared.joint.Joint.{Joint}
 use Rattle.joint_machine.specs.declared.turned.Turned.{Turned}
 use Rattle.joint_machine.specs.Standing.{AreDomains, StandsForJoint, TakesTurn, shown_byte}
@@ -205,7 +205,7 @@ resumed_refuses xs ds d v t are is = refused_if (slice_get ds d) d v t (sym (lef
 
 -- what it asks
 
-pub asked_ends : (xs : List Domain) (ds : List program.Domain) (d : ℕ) (m : CloakedMemory) (a : Asked) →
+pub asked_ends : (xs : List Domain) (ds : List program.Domain) (d : ℕ) (m : CloakedMemory) (a : AskedByStep) →
     AreDomains xs ds → has_left (slice_get xs d) ≡ true →
     (was : program.Domain) ×
     ((slice_get ds d ≡ Some was) × (events.ended_resumed (slice_get ds d) d m a ≡ events.with_end d was m a))
@@ -219,12 +219,12 @@ asked_ends xs ds d m a are is =
       ),
     )
 
-unasked_if : (o : Option program.Domain) (d : ℕ) (m : CloakedMemory) (a : Asked) → left_of o ≡ false →
+unasked_if : (o : Option program.Domain) (d : ℕ) (m : CloakedMemory) (a : AskedByStep) → left_of o ≡ false →
     events.ended_resumed o d m a ≡ a
 unasked_if None d m a is = refl
 unasked_if (Some was) d m a is = ap (λ (b : Bool). events.ended_once b d was m a) (not_false was.control.ended is)
 
-pub asked_refuses : (xs : List Domain) (ds : List program.Domain) (d : ℕ) (m : CloakedMemory) (a : Asked) →
+pub asked_refuses : (xs : List Domain) (ds : List program.Domain) (d : ℕ) (m : CloakedMemory) (a : AskedByStep) →
     AreDomains xs ds → has_left (slice_get xs d) ≡ false →
     events.ended_resumed (slice_get ds d) d m a ≡ a
 asked_refuses xs ds d m a are is = unasked_if (slice_get ds d) d m a (sym (left_there xs ds d are) ∙ is)
@@ -282,8 +282,8 @@ goes_both old mid new space es fs is js changed first second =
       gone = second.gone;
     }
 
-module _ (old mid new : Memory) (a : Asked) (same : a.changed ≡ []) (first : GoesBy old mid a) where
-  abbrev without : Asked
+module _ (old mid new : Memory) (a : AskedByStep) (same : a.changed ≡ []) (first : GoesBy old mid a) where
+  abbrev without : AskedByStep
   without = record { space = a.space; events = a.events; items = a.items; changed = [] }
 
   unchanged : GoesBy old mid without
@@ -394,7 +394,7 @@ met_unchanged j number h (Some ctx) v met = inside_unchanged j number (ticked h)
 -- The whole step.
 
 -- a turn, and what follows it
-pub takes_step : {E : Type 0} (gave : E → E → List Piece → Type 0) (e e' e'' : E) (mid new : Joint) (given : Ended)
+pub takes_step : {E : Type 0} (gave : E → E → List Piece → Type 0) (e e' e'' : E) (mid new : Joint) (given : EndedStep)
     (result : Turned) (t after : Turn) →
     EndsTurn gave e e' mid given t → EndsAfter gave e' e'' new t after → result.console ≡ given.console →
     result.stop ≡ (if new.memory.missed then Some stop.NoRandom else stop_without_miss given.halt) →
@@ -430,7 +430,7 @@ pub goes_step : (old mid new : Memory) (j after : model.Joint) (number : ℕ) (h
     (events.asked_of j number h h.inside))
 goes_step old mid new j after number h inside met same is first none more = by met is none more
   where
-    a : Asked
+    a : AskedByStep
     a = events.asked_of j number h h.inside
 
     by : (met : Option Violation) → met ≡ (turn_of j number h h.inside).violation → (met ≡ None → new ≡ mid) →

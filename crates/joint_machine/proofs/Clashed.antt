@@ -22,7 +22,7 @@ use Rattle.cloak_model.specs.Run.{closing, settled_below}
 use Rattle.cloak_model.specs.World.{World, Cloak, items_of}
 use Rattle.cloak_model.proofs.Clashes.{settle_clashed}
 use Rattle.settling_ahead.proofs.Laws.{keeps_rest}
-use Rattle.hypercalls.proofs.StepLater.{later_domain_step}
+use Rattle.script_fold.proofs.Later.{later_domain_step}
 use Rattle.joint_machine.specs.Standing.{step_in, turn_in}
 use Rattle.joint_machine.proofs.Ends.{answer_leaves}
 use Rattle.joint_machine.proofs.Insides.{interrupt_clashed, told_of}

@@ -25,7 +25,7 @@ use Rattle.shadow_law.specs.Agreeing.{present}
 use Rattle.cloaked_side.specs.Holding.{Holds}
 use Rattle.cloaked_side.specs.declared.memory.Memory.{Memory}
 use Rattle.cloaked_side.proofs.Translating.{agrees_rights}
-use Rattle.joint_machine.specs.Filing.{KeepsOthers, StandsContinued, StandFiled}
+use Rattle.joint_machine.specs.Filing.{KeepsOtherPages, StandsContinued, StandFiled}
 
 -- The memory.
 
@@ -150,7 +150,7 @@ stays_unknown p q known is fresh = record {
 pub held_same : (old new : PagerState) → new.rights ≡ old.rights → (k : ℕ) → held_in new k ≡ held_in old k
 held_same old new rights k = ap (λ (hs : List FrameRight). page_of (slice_index_or hs k Spent)) rights
 
-pub others_none : (d resource : ℕ) (p : PagerState) → KeepsOthers d resource p p
+pub others_none : (d resource : ℕ) (p : PagerState) → KeepsOtherPages d resource p p
 others_none d resource p = record { frames = refl; rights = refl; domains = refl; metas = λ q other. refl }
 
 other_page : (d resource : ℕ) (q o : PageId) → q.domain ≡ d → q.resource ≡ resource → is_of d resource o ≡ false →
@@ -161,8 +161,8 @@ other_page d resource q o domain here other same =
     cc
 
 pub others_next : (d resource : ℕ) (q : PageId) (known : Option Meta) (a b c : PagerState) → q.domain ≡ d →
-    q.resource ≡ resource → KeepsOthers d resource a b → MetasTurn b c (with_page (meta_at b.table) q known) →
-    KeepsOthers d resource a c
+    q.resource ≡ resource → KeepsOtherPages d resource a b → MetasTurn b c (with_page (meta_at b.table) q known) →
+    KeepsOtherPages d resource a c
 others_next d resource q known a b c domain here keeps turns = record {
   frames = turns.frames_are ∙ keeps.frames;
   rights = turns.rights_are ∙ keeps.rights;

@@ -10,12 +10,12 @@ use Rattle.cloak_model.specs.Opening.{drawn_keys, filled_up, key_count}
 -- How many keys there are.
 
 -- of the programs that were looked at the count is the greatest, and at least 1
-pub record Counts (i count : ℕ) (programs : List Program) : Type 0 where
+pub record CountsKeys (i count : ℕ) (programs : List Program) : Type 0 where
   pub all : max count (key_count (drop i programs)) ≡ key_count programs
   pub some : 1 ≤ count
   pub few : count ≤ 4
 
-pub counts_none : (programs : List Program) → Counts 0 1 programs
+pub counts_none : (programs : List Program) → CountsKeys 0 1 programs
 counts_none [] = record { all = refl; some = omega arith; few = omega arith }
 counts_none (p ∷ programs) = record { all = omega arith; some = omega arith; few = omega arith }
 

@@ -1,24 +1,24 @@
 -- What the end of a domain asks, and what it leaves of the ledger.
-use Rattle.std.proofs.Common.{◌≡◌, ◌∙◌, ◌+◌, ℕ, zero, suc, Bool, true, false, List, [], ◌∷◌, ◌++◌, Option, Some, None, length, refl, ap, if◌then◌else◌}
+use Rattle.std.proofs.Common.{◌≡◌, ◌∙◌, ℕ, Bool, true, false, List, [], ◌∷◌, ◌++◌, Option, Some, None, refl, ap}
 use Rattle.cloak_base.specs.declared.causes.Violation.{Violation}
 use Rattle.cloak_base.specs.declared.names.SpaceId.{SpaceId}
-use Rattle.cloak_model.specs.AskPages.{settled_if_marked, ask_forget}
+use Rattle.cloak_model.specs.AskPages.{ask_forget}
 use Rattle.cloak_model.specs.Cloaking.{CloakedMemory}
 use Rattle.cloak_model.specs.DomainState as program
-use Rattle.cloak_model.specs.Ending.{all_marked, ask_end, cloak_for, settled_for}
+use Rattle.cloak_model.specs.Ending.{ask_end, cloak_for}
 use Rattle.cloak_model.specs.Events.{Event, Look, Touch, Offer, Born, Read, Write, Drop, Space}
-use Rattle.cloak_model.specs.Fork.{ask_forgets}
 use Rattle.cloak_model.specs.Joint.{Turn, answers_violation, end_domain, ends_asked, ends_once, ends_resumed, memory_of}
-use Rattle.cloak_model.specs.Opening.{numbers_below}
 use Rattle.cloak_model.specs.PageMoves.{drop_pages}
-use Rattle.cloak_model.specs.World.{World, Flat, Cloaked, Alone, events_of, is_clashed, ram_of, settled}
+use Rattle.cloak_model.specs.World.{World, Flat, Cloaked, Alone, events_of, is_clashed, settled}
 use Rattle.cloak_model.proofs.Clashes.{settle_clashed}
 use Rattle.cloaked_side.specs.Ending.{ended_world}
 use Rattle.shadow_fold.specs.Births.{MakeAll}
 use Rattle.shadow_fold.specs.declared.entry.Entry.{Entry}
 use Rattle.shadow_fold.specs.Fold.{Fold, after_event, after_events}
 use Rattle.joint_machine.proofs.Insides.{root_in}
-use Rattle.joint_machine.proofs.RootedPages.{root_of, settle_root}
+use Rattle.script_fold.specs.Tables.{recorded_tables}
+use Rattle.script_fold.proofs.Endings.{keeps_end}
+use Rattle.script_fold.proofs.Rooted.{settle_root}
 
 -- Its events.
 
@@ -76,7 +76,7 @@ plain_makes P a (Space s ∷ es) plain = (tt, plain_makes P a es plain.1)
 pub record Leaves (w v : World) : Type 0 where
   pub plain : ArePlain (events_of w) → ArePlain (events_of v)
   pub clashed : is_clashed v ≡ is_clashed w
-  pub root : root_of v ≡ root_of w
+  pub root : recorded_tables v ≡ recorded_tables w
 
 leaves_refl : (w : World) → Leaves w w
 leaves_refl w = record { plain = λ are. are; clashed = refl; root = refl }
@@ -97,21 +97,6 @@ leaves_settled f (Cloaked c) = record {
 }
 leaves_settled f (Alone h) = leaves_refl (Alone h)
 
-leaves_either : (b : Bool) (w v : World) → Leaves w v → Leaves w (if b then v else w)
-leaves_either true w v later = later
-leaves_either false w v later = leaves_refl w
-
-leaves_if_marked : (domain : ℕ) (marked : List Bool) (f : ℕ) (w : World) →
-    Leaves w (settled_if_marked domain marked f w)
-unfolding settled_if_marked
-leaves_if_marked domain marked f w = leaves_either _ w (settled f w) (leaves_settled f w)
-
-leaves_settled_for : (domain f n : ℕ) (w : World) → Leaves w (settled_for domain f n w)
-unfolding settled_for
-leaves_settled_for domain f zero w = leaves_refl w
-leaves_settled_for domain f (suc n) w =
-    leaves_trans w _ _ (leaves_if_marked domain all_marked f w) (leaves_settled_for domain (f + 1) n _)
-
 leaves_forget : (domain resource : ℕ) (w : World) → Leaves w (ask_forget domain resource w).world
 unfolding ask_forget drop_pages
 leaves_forget domain resource (Flat ram) = leaves_refl (Flat ram)
@@ -122,16 +107,10 @@ leaves_forget domain resource (Cloaked c) = record {
 }
 leaves_forget domain resource (Alone h) = record { plain = λ are. are; clashed = refl; root = refl }
 
-leaves_forgets : (domain : ℕ) (numbers : List ℕ) (w : World) → Leaves w (ask_forgets domain numbers w).world
-unfolding ask_forgets
-leaves_forgets domain [] w = leaves_refl w
-leaves_forgets domain (n ∷ rest) w = leaves_trans w _ _ (leaves_forget domain n w) (leaves_forgets domain rest _)
-
 leaves_end : (domain : ℕ) (w : World) → Leaves w (ask_end domain w).world
-unfolding ask_end
 leaves_end domain w =
-    leaves_trans w _ _ (leaves_settled_for domain 0 (length (ram_of w)) w)
-    (leaves_forgets domain (numbers_below 16) _)
+    keeps_end Leaves (record { same = leaves_refl; chained = leaves_trans; settled = leaves_settled }) leaves_forget
+    domain w
 
 pub end_plain : (m : CloakedMemory) (d : ℕ) → ArePlain (events_of (ended_world m d))
 end_plain m d = (leaves_end d (Cloaked (cloak_for m d))).plain tt

@@ -36,7 +36,7 @@ use Rattle.cloaked_side.specs.Holding.{Holds}
 use Rattle.cloaked_side.specs.declared.memory.Memory.{Memory}
 use Rattle.hypercalls.specs.declared.domain.Domain.{Domain}
 use Rattle.hypercalls.specs.Standing.{StandsFor, control_of}
-use Rattle.joint_machine.specs.Filing.{AddsTo, AreFreeUnshown, Differs, HasAdded, HasNoFile, IsNewFile, IsSameBut, KeepsOthers, StandFiled}
+use Rattle.joint_machine.specs.Filing.{AddsTo, AreFreeUnshown, AreTwoFiles, HasAddedFiles, HasNoFile, IsNewFile, IsSameBut, KeepsOtherPages, StandFiled}
 use Rattle.joint_machine.specs.Standing.{AreDomains}
 use Rattle.joint_machine.proofs.Continued.{IsSameMemory, contents_continue, continued_keys, continued_roots, holds_continued}
 use Rattle.joint_machine.proofs.Places.{domain_at, domains_set, none_past}
@@ -44,7 +44,7 @@ use Rattle.joint_machine.proofs.Places.{domain_at, domains_set, none_past}
 -- A file that is made.
 
 -- A resource was made for the file: its number was free, and nothing else changed.
-pub record MadeFile (r after : Resources) (number pages n : ℕ) : Type 0 where
+pub record MakesFile (r after : Resources) (number pages n : ℕ) : Type 0 where
   pub free : resource_at r n ≡ None
   pub inside : n < length r.held
   pub held : after.held ≡ slice_set r.held n (Some (record { owner = File number; pages = pages }))
@@ -77,7 +77,7 @@ free_at xs n is =
 
 made_by : (number pages : ℕ) (free : Option ℕ) (r : Resources) (n : ℕ) → first_free r.held ≡ free →
     (made_at (File number) pages free r).answer ≡ Ok n →
-    MadeFile r (made_at (File number) pages free r).resources number pages n
+    MakesFile r (made_at (File number) pages free r).resources number pages n
 unfolding made_at
 made_by number pages None r n found is = absurd (cc)
 made_by number pages (Some k) r n found is =
@@ -90,25 +90,25 @@ made_by number pages (Some k) r n found is =
 new_by : (number pages n : ℕ) (r : Resources) (bad full : Bool) →
     (if bad then refused BadArg r else if full then refused Full r else
     made_at (File number) pages (first_free r.held) r).answer ≡ Ok n →
-    MadeFile r (if bad then refused BadArg r else if full then refused Full r else
+    MakesFile r (if bad then refused BadArg r else if full then refused Full r else
     made_at (File number) pages (first_free r.held) r).resources number pages n
 new_by number pages n r true full is = absurd (cc)
 new_by number pages n r false true is = absurd (cc)
 new_by number pages n r false false is = made_by number pages (first_free r.held) r n refl is
 
 new_made : (number pages n : ℕ) (r : Resources) → (new_resource (File number) pages r).answer ≡ Ok n →
-    MadeFile r (new_resource (File number) pages r).resources number pages n
+    MakesFile r (new_resource (File number) pages r).resources number pages n
 unfolding new_resource
 new_made number pages n r is = new_by number pages n r _ _ is
 
 found_by : (number pages n : ℕ) (r : Resources) (found : Option ℕ) → found ≡ None →
-    (file_found number pages found r).answer ≡ Ok n → MadeFile r (file_found number pages found r).resources number pages n
+    (file_found number pages found r).answer ≡ Ok n → MakesFile r (file_found number pages found r).resources number pages n
 unfolding file_found
 found_by number pages n r None none is = new_made number pages n r is
 found_by number pages n r (Some k) none is = absurd (cc)
 
 pub file_made : (number pages n : ℕ) (r : Resources) → HasNoFile r number → (file_resource number pages r).answer ≡ Ok n →
-    MadeFile r (file_resource number pages r).resources number pages n
+    MakesFile r (file_resource number pages r).resources number pages n
 unfolding file_resource
 file_made number pages n r none is = found_by number pages n r _ (not_found r number none) is
 
@@ -122,7 +122,7 @@ there_or_past xs n x = elim (cases_lt n (length xs)) [
 ]
 
 -- a file of another number is still not there
-pub still_new : (r after : Resources) (number pages n other : ℕ) → MadeFile r after number pages n → number ≢ other →
+pub still_new : (r after : Resources) (number pages n other : ℕ) → MakesFile r after number pages n → number ≢ other →
     HasNoFile r other → HasNoFile after other
 still_new r after number pages n other made differ none k =
     let x : Option Resource = Some (record { owner = File number; pages = pages }) in
@@ -139,7 +139,7 @@ still_new r after number pages n other made differ none k =
     ])
 
 -- a number that is free was free, and is another one
-pub still_free : (r after : Resources) (number pages n k : ℕ) → MadeFile r after number pages n →
+pub still_free : (r after : Resources) (number pages n k : ℕ) → MakesFile r after number pages n →
     resource_at after k ≡ None → (resource_at r k ≡ None) × (k ≢ n)
 still_free r after number pages n k made free =
     let x : Option Resource = Some (record { owner = File number; pages = pages }) in
@@ -170,7 +170,7 @@ at_other (o ∷ ys) (suc i) (suc j) y z n is = at_other ys i j y z (λ e. n (ap 
 -- what was new and differs is still new
 pub others_new : (xs : List Domain) (d : ℕ) (x x' : Domain) (number pages n : ℕ) (f : StoredFile) →
     slice_get xs d ≡ Some x →
-    MadeFile (control_of x).resources (control_of x').resources number pages n →
+    MakesFile (control_of x).resources (control_of x').resources number pages n →
     (d ≡ f.domain → number ≢ f.number) → IsNewFile xs f → IsNewFile (slice_set xs d x') f
 others_new xs d x x' number pages n f there made differ is z at = elim (same_or_not f.domain d) [
   | inl same ↦
@@ -182,8 +182,8 @@ others_new xs d x x' number pages n f there made differ is z at = elim (same_or_
 ]
 
 pub unshown_after : (xs : List Domain) (d : ℕ) (x x' : Domain) (number pages n : ℕ) (old new : PagerState) →
-    slice_get xs d ≡ Some x → MadeFile (control_of x).resources (control_of x').resources number pages n →
-    KeepsOthers d n old new → AreFreeUnshown xs old →
+    slice_get xs d ≡ Some x → MakesFile (control_of x).resources (control_of x').resources number pages n →
+    KeepsOtherPages d n old new → AreFreeUnshown xs old →
     AreFreeUnshown (slice_set xs d x') new
 unshown_after xs d x x' number pages n old new there made keeps unshown k m z at free q domain here =
     elim (same_or_not k d) [
@@ -204,11 +204,11 @@ pub same_rest : (j : Joint) → IsSameBut j j
 same_rest j = record { harts = refl; disk = refl; ended = refl; refused = refl; keys = refl; roots = λ s. refl }
 
 pub has_none : (memory : Memory) (domains : List Domain) (j : Joint) → AreDomains domains j.domains →
-    HasAdded memory memory domains j j
+    HasAddedFiles memory memory domains j j
 has_none memory domains j are = record { domains = are; memory = λ holds. holds; rest = same_rest j }
 
-pub has_then : (a b c : Memory) (domains domains' : List Domain) (j k l : Joint) → HasAdded a b domains j k →
-    HasAdded b c domains' k l → HasAdded a c domains' j l
+pub has_then : (a b c : Memory) (domains domains' : List Domain) (j k l : Joint) → HasAddedFiles a b domains j k →
+    HasAddedFiles b c domains' k l → HasAddedFiles a c domains' j l
 has_then a b c domains domains' j k l first second = record {
   domains = second.domains;
   memory = λ holds. second.memory (first.memory holds);
@@ -339,10 +339,10 @@ file_absent xs f j d number pages is past are =
 
 -- The machine's numbers of a file of the table.
 
-abbrev pub Told : ℕ × ℕ × ℕ → StoredFile → Type 0
-Told t file = t ≡ (file.domain, file.number, length file.pages)
+abbrev pub AreNumbersOf : ℕ × ℕ × ℕ → StoredFile → Type 0
+AreNumbersOf t file = t ≡ (file.domain, file.number, length file.pages)
 
-pub is_of_contents : (t : ℕ × ℕ × ℕ) (file : StoredFile) (f : FileContents) → Told t file → file ≡ stored_file f →
+pub is_of_contents : (t : ℕ × ℕ × ℕ) (file : StoredFile) (f : FileContents) → AreNumbersOf t file → file ≡ stored_file f →
     IsOf f t.0 t.1 t.2
 is_of_contents t file f told is = record {
   domain = ap (λ (x : ℕ × ℕ × ℕ). x.0) told ∙ ap (λ (s : StoredFile). s.domain) is;
@@ -351,16 +351,16 @@ is_of_contents t file f told is = record {
       ∙ (ap (λ (s : StoredFile). length s.pages) is ∙ length-map f.pages (option_map meta_of));
 }
 
-pub made_here : (xs : List Domain) (x x' : Domain) (t : ℕ × ℕ × ℕ) (file : StoredFile) (n : ℕ) → Told t file →
+pub made_here : (xs : List Domain) (x x' : Domain) (t : ℕ × ℕ × ℕ) (file : StoredFile) (n : ℕ) → AreNumbersOf t file →
     slice_get xs t.0 ≡ Some x → IsNewFile xs file → (file_resource t.1 t.2 (control_of x).resources).answer ≡ Ok n →
     control_of x' ≡ record (control_of x) { resources = (file_resource t.1 t.2 (control_of x).resources).resources } →
-    MadeFile (control_of x).resources (control_of x').resources t.1 t.2 n
+    MakesFile (control_of x).resources (control_of x').resources t.1 t.2 n
 made_here xs x x' t file n told there is answer control =
     let domain = ap (λ (x : ℕ × ℕ × ℕ). x.0) told in
     let number = ap (λ (x : ℕ × ℕ × ℕ). x.1) told in
     let none : HasNoFile (control_of x).resources t.1 =
     subst (HasNoFile (control_of x).resources) (sym number) (is x (ap (slice_get xs) (sym domain) ∙ there)) in
-    subst (λ (r : Resources). MadeFile (control_of x).resources r t.1 t.2 n)
+    subst (λ (r : Resources). MakesFile (control_of x).resources r t.1 t.2 n)
     (sym (ap (λ (c : model.Control). c.resources) control))
     (file_made t.1 t.2 n (control_of x).resources none answer)
 
@@ -369,7 +369,7 @@ made_here xs x x' t file n told there is answer control =
 -- Of these files the first ones, up to this many, were added: the rest, added to what is there, is all.
 pub record AddsFrom (old new : Memory) (domains : List Domain) (i : ℕ) (contents : List FileContents) (j : Joint) : Type 0 where
   pub so_far : Joint
-  pub has : HasAdded old new domains j so_far
+  pub has : HasAddedFiles old new domains j so_far
   pub left : files_added (drop i contents) so_far ≡ files_added contents j
 
 pub adds_none : (memory : Memory) (domains : List Domain) (contents : List FileContents) (j : Joint) →
@@ -384,7 +384,7 @@ unfolding files_added
 next_file i contents j f low = at_drop_more (λ (l : List FileContents). files_added l j) contents i f low
 
 with_file : (old new : Memory) (domains : List Domain) (j : Joint) (made : Result Joint Lack) →
-    AddsTo old new domains j (Ok tt) made → (after : Joint) × ((made ≡ Ok after) × HasAdded old new domains j after)
+    AddsTo old new domains j (Ok tt) made → (after : Joint) × ((made ≡ Ok after) × HasAddedFiles old new domains j after)
 with_file old new domains j (Ok after) adds = (after, (refl, adds))
 with_file old new domains j (Err lack) adds = absurd adds
 
@@ -428,7 +428,7 @@ adds_all a b domains i contents j past so_far =
 -- Tables.
 
 -- of two files of a table the first stands before the second, so they differ
-pub differs : (f g : StoredFile) → Precedes f g → Differs f g
+pub differs : (f g : StoredFile) → Precedes f g → AreTwoFiles f g
 differs f g (inl less) domain number = absurd (omega (arith, less, domain))
 differs f g (inr same) domain number = absurd (let less = same.1 in omega (arith, less, number))
 

@@ -13,7 +13,7 @@ use Rattle.cloak_model.specs.Chain.{cbc}
 use Rattle.cloak_model.specs.Cloaking.{CloakedMemory, owed_in}
 use Rattle.cloak_model.specs.Ledger.{Keys, key_in}
 use Rattle.cloak_model.specs.Opening.{numbers_below}
-use Rattle.protect_meta.specs.Table.{Table, domains_of, meta_at}
+use Rattle.protect_meta.specs.Table.{MetaRow, domains_of, meta_at}
 use Rattle.cloak_base.specs.declared.causes.Violation.{Violation}
 use Rattle.cloak_base.specs.declared.names.SpaceId.{SpaceId}
 use Rattle.cloak_model.specs.DomainState as program
@@ -331,15 +331,15 @@ freezes_all old p ivs left i frames so_far past m tells =
 
 -- Pages.
 
-pub known_one : (t : Table) (q : PageId) → pages_known t (q ∷ []) ≡ page_known q (meta_at t q)
+pub known_one : (t : MetaRow) (q : PageId) → pages_known t (q ∷ []) ≡ page_known q (meta_at t q)
 unfolding pages_known
 known_one t q = append-nil (page_known q (meta_at t q))
 
-pub known_append : (t : Table) (xs ys : List PageId) → pages_known t (xs ++ ys) ≡ pages_known t xs ++ pages_known t ys
+pub known_append : (t : MetaRow) (xs ys : List PageId) → pages_known t (xs ++ ys) ≡ pages_known t xs ++ pages_known t ys
 unfolding pages_known
 known_append t xs ys = flat_map-append (λ (q : PageId). page_known q (meta_at t q)) xs ys
 
-pub known_none : (t : Table) (d r : ℕ) → pages_known t (pages_of_resource d r 0) ≡ []
+pub known_none : (t : MetaRow) (d r : ℕ) → pages_known t (pages_of_resource d r 0) ≡ []
 unfolding pages_known pages_of_resource
 known_none t d r = refl
 
@@ -364,14 +364,14 @@ all_next n =
     ∙ ap (λ (l : List PageId). flat_map (λ (d : ℕ). pages_of_resources d 16) (numbers_below n) ++ l) (append-nil (pages_of_resources n 16)))
 
 -- these pages were added, of which the next ones are those
-grown : (t : Table) (old now new : List FrozenPage) (pages more pages' : List PageId) → now ≡ old ++ pages_known t pages →
+grown : (t : MetaRow) (old now new : List FrozenPage) (pages more pages' : List PageId) → now ≡ old ++ pages_known t pages →
     new ≡ now ++ pages_known t more → pages' ≡ pages ++ more → new ≡ old ++ pages_known t pages'
 grown t old now new pages more pages' so_far added is =
     added ∙ (ap (λ (l : List FrozenPage). l ++ pages_known t more) so_far
     ∙ (append_assoc old (pages_known t pages) (pages_known t more)
     ∙ ap (λ (l : List FrozenPage). old ++ l) (sym (known_append t pages more) ∙ ap (pages_known t) (sym is))))
 
-pub page_added : (t : Table) (d r n : ℕ) (old now new : List FrozenPage) →
+pub page_added : (t : MetaRow) (d r n : ℕ) (old now new : List FrozenPage) →
     now ≡ old ++ pages_known t (pages_of_resource d r n) →
     new ≡ now ++ page_known (page_named d r n) (meta_at t (page_named d r n)) →
     new ≡ old ++ pages_known t (pages_of_resource d r (n + 1))
@@ -379,28 +379,28 @@ page_added t d r n old now new so_far added =
     grown t old now new (pages_of_resource d r n) (page_named d r n ∷ []) (pages_of_resource d r (n + 1)) so_far
     (added ∙ ap (λ (l : List FrozenPage). now ++ l) (sym (known_one t (page_named d r n)))) (resource_next d r n)
 
-pub resource_added : (t : Table) (d n : ℕ) (old now new : List FrozenPage) →
+pub resource_added : (t : MetaRow) (d n : ℕ) (old now new : List FrozenPage) →
     now ≡ old ++ pages_known t (pages_of_resources d n) → new ≡ now ++ pages_known t (pages_of_resource d n 1024) →
     new ≡ old ++ pages_known t (pages_of_resources d (n + 1))
 resource_added t d n old now new so_far added =
     grown t old now new (pages_of_resources d n) (pages_of_resource d n 1024) (pages_of_resources d (n + 1)) so_far added
     (resources_next d n)
 
-pub domain_added : (t : Table) (n : ℕ) (now new : List FrozenPage) →
+pub domain_added : (t : MetaRow) (n : ℕ) (now new : List FrozenPage) →
     now ≡ pages_known t (pages_of_domains n) → new ≡ now ++ pages_known t (pages_of_resources n 16) →
     new ≡ pages_known t (pages_of_domains (n + 1))
 domain_added t n now new so_far added =
     grown t [] now new (pages_of_domains n) (pages_of_resources n 16) (pages_of_domains (n + 1)) so_far added (all_next n)
 
-pub none_of_resource : (t : Table) (d r : ℕ) (old : List FrozenPage) → old ≡ old ++ pages_known t (pages_of_resource d r 0)
+pub none_of_resource : (t : MetaRow) (d r : ℕ) (old : List FrozenPage) → old ≡ old ++ pages_known t (pages_of_resource d r 0)
 unfolding pages_known pages_of_resource
 none_of_resource t d r old = sym (append-nil old)
 
-pub none_of_resources : (t : Table) (d : ℕ) (old : List FrozenPage) → old ≡ old ++ pages_known t (pages_of_resources d 0)
+pub none_of_resources : (t : MetaRow) (d : ℕ) (old : List FrozenPage) → old ≡ old ++ pages_known t (pages_of_resources d 0)
 unfolding pages_known pages_of_resources
 none_of_resources t d old = sym (append-nil old)
 
-pub none_of_all : (t : Table) → [] ≡ pages_known t (pages_of_domains 0)
+pub none_of_all : (t : MetaRow) → [] ≡ pages_known t (pages_of_domains 0)
 unfolding pages_known pages_of_domains
 none_of_all t = refl
 

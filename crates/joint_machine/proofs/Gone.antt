@@ -26,7 +26,7 @@ use Rattle.cloaked_side.specs.Holding.{Holds}
 use Rattle.cloaked_side.specs.declared.memory.Memory.{Memory}
 use Rattle.cloaked_side.proofs.Emitting.{emits_none}
 use Rattle.thread_context.specs.Recorded.{root_at}
-use Rattle.joint_machine.specs.Turning.{AreRoots, GoesOn, Unmarks}
+use Rattle.joint_machine.specs.Turning.{AreRoots, IsCarriedOut, Unmarks}
 
 frame_rooted : (p : PagerState) (wiped : PageId → Bool) (m : CloakedMemory) (root : SpaceId → Option ℕ) (f : ℕ) (r : FrameRight) → FrameStands p wiped m f r → FrameStands p wiped (with_roots root m) f r
 frame_rooted p wiped m root f (Outside r) stands = stands
@@ -63,9 +63,9 @@ holds_rooted memory m root h = record {
 }
 
 module _ {E : Type 0} (gave : E → E → List Piece → Type 0) (e : E) (h : Hart) (d : ℕ) (roots : List (List (Option ℕ))) (memory : Memory) (given : Option Violation) (j : model.Joint) (number : ℕ) (w : World) (ended : Went) where
-  pub goes_stay : ended ≡ went.Stay → given ≡ None → AreRoots roots j.memory.ledger.root → GoesOn gave e e h roots memory memory given j number (items_of w) (domain_ended j number h d w ended)
+  pub goes_stay : ended ≡ went.Stay → given ≡ None → AreRoots roots j.memory.ledger.root → IsCarriedOut gave e e h roots memory memory given j number (items_of w) (domain_ended j number h d w ended)
   unfolding domain_ended
-  goes_stay is none same = subst (λ (x : Went). GoesOn gave e e h roots memory memory given j number (items_of w) (domain_ended j number h d w x)) (sym is) (record {
+  goes_stay is none same = subst (λ (x : Went). IsCarriedOut gave e e h roots memory memory given j number (items_of w) (domain_ended j number h d w x)) (sym is) (record {
     more = [];
     items_are = sym (append-nil (items_of w));
     emits = emits_none gave e;
@@ -80,9 +80,9 @@ module _ {E : Type 0} (gave : E → E → List Piece → Type 0) (e : E) (h : Ha
     holds = λ holds. holds;
   })
 
-  pub goes_remapped : (space : ℕ) → ended ≡ went.Remapped space → given ≡ None → AreRoots roots j.memory.ledger.root → GoesOn gave e e h roots memory memory given j number (items_of w) (domain_ended j number h d w ended)
+  pub goes_remapped : (space : ℕ) → ended ≡ went.Remapped space → given ≡ None → AreRoots roots j.memory.ledger.root → IsCarriedOut gave e e h roots memory memory given j number (items_of w) (domain_ended j number h d w ended)
   unfolding domain_ended
-  goes_remapped space is none same = subst (λ (x : Went). GoesOn gave e e h roots memory memory given j number (items_of w) (domain_ended j number h d w x)) (sym is) (record {
+  goes_remapped space is none same = subst (λ (x : Went). IsCarriedOut gave e e h roots memory memory given j number (items_of w) (domain_ended j number h d w x)) (sym is) (record {
     more = [];
     items_are = sym (append-nil (items_of w));
     emits = emits_none gave e;
@@ -97,15 +97,15 @@ module _ {E : Type 0} (gave : E → E → List Piece → Type 0) (e : E) (h : Ha
     holds = λ holds. holds;
   })
 
-  pub goes_inside : ((ended ≡ went.Stay) ⊎ ((space : ℕ) × (ended ≡ went.Remapped space))) → given ≡ None → AreRoots roots j.memory.ledger.root → GoesOn gave e e h roots memory memory given j number (items_of w) (domain_ended j number h d w ended)
+  pub goes_inside : ((ended ≡ went.Stay) ⊎ ((space : ℕ) × (ended ≡ went.Remapped space))) → given ≡ None → AreRoots roots j.memory.ledger.root → IsCarriedOut gave e e h roots memory memory given j number (items_of w) (domain_ended j number h d w ended)
   goes_inside is none same = elim is [
     | inl stay ↦ goes_stay stay none same
     | inr remapped ↦ goes_remapped remapped.0 remapped.1 none same
   ]
 
-  pub goes_stopped : ended ≡ went.Stopped → given ≡ violation_of w → AreRoots roots j.memory.ledger.root → GoesOn gave e e h roots memory memory given j number (items_of w) (domain_ended j number h d w ended)
+  pub goes_stopped : ended ≡ went.Stopped → given ≡ violation_of w → AreRoots roots j.memory.ledger.root → IsCarriedOut gave e e h roots memory memory given j number (items_of w) (domain_ended j number h d w ended)
   unfolding domain_ended
-  goes_stopped is met same = subst (λ (x : Went). GoesOn gave e e h roots memory memory given j number (items_of w) (domain_ended j number h d w x)) (sym is) (record {
+  goes_stopped is met same = subst (λ (x : Went). IsCarriedOut gave e e h roots memory memory given j number (items_of w) (domain_ended j number h d w x)) (sym is) (record {
     more = [];
     items_are = sym (append-nil (items_of w));
     emits = emits_none gave e;
@@ -121,9 +121,9 @@ module _ {E : Type 0} (gave : E → E → List Piece → Type 0) (e : E) (h : Ha
   })
 
   pub goes_out : (s : Shown) (e' : E) (h' : Hart) (memory' : Memory) → Unmarks number memory memory' → ended ≡ went.Leave s → given ≡ None → AreRoots roots j.memory.ledger.root → h' ≡ leave h s → Emits gave e e' (item_pieces (item.Leave s ∷ [])) →
-      GoesOn gave e e' h' roots memory memory' given j number (items_of w) (domain_ended j number h d w ended)
+      IsCarriedOut gave e e' h' roots memory memory' given j number (items_of w) (domain_ended j number h d w ended)
   unfolding domain_ended
-  goes_out s e' h' memory' unmarks is none same left emits = subst (λ (x : Went). GoesOn gave e e' h' roots memory memory' given j number (items_of w) (domain_ended j number h d w x)) (sym is) (subst (λ (y : Hart). GoesOn gave e e' y roots memory memory' given j number (items_of w) (domain_ended j number h d w (went.Leave s))) (sym left) (record {
+  goes_out s e' h' memory' unmarks is none same left emits = subst (λ (x : Went). IsCarriedOut gave e e' h' roots memory memory' given j number (items_of w) (domain_ended j number h d w x)) (sym is) (subst (λ (y : Hart). IsCarriedOut gave e e' y roots memory memory' given j number (items_of w) (domain_ended j number h d w (went.Leave s))) (sym left) (record {
     more = item.Leave s ∷ [];
     items_are = refl;
     emits = emits;
@@ -139,9 +139,9 @@ module _ {E : Type 0} (gave : E → E → List Piece → Type 0) (e : E) (h : Ha
   }))
 
   pub goes_away : (space : ℕ) (s : Shown) (e' : E) (h' : Hart) (memory' : Memory) → Unmarks number memory memory' → ended ≡ went.SpaceGone space s → given ≡ None → AreRoots roots (forget_root (record { domain = d; number = space }) j.memory.ledger.root) → h' ≡ leave h s → Emits gave e e' (item_pieces (item.Leave s ∷ [])) →
-      GoesOn gave e e' h' roots memory memory' given j number (items_of w) (domain_ended j number h d w ended)
+      IsCarriedOut gave e e' h' roots memory memory' given j number (items_of w) (domain_ended j number h d w ended)
   unfolding domain_ended
-  goes_away space s e' h' memory' unmarks is none gone left emits = subst (λ (x : Went). GoesOn gave e e' h' roots memory memory' given j number (items_of w) (domain_ended j number h d w x)) (sym is) (subst (λ (y : Hart). GoesOn gave e e' y roots memory memory' given j number (items_of w) (domain_ended j number h d w (went.SpaceGone space s))) (sym left) (record {
+  goes_away space s e' h' memory' unmarks is none gone left emits = subst (λ (x : Went). IsCarriedOut gave e e' h' roots memory memory' given j number (items_of w) (domain_ended j number h d w x)) (sym is) (subst (λ (y : Hart). IsCarriedOut gave e e' y roots memory memory' given j number (items_of w) (domain_ended j number h d w (went.SpaceGone space s))) (sym left) (record {
     more = item.Leave s ∷ [];
     items_are = refl;
     emits = emits;

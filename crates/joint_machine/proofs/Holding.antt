@@ -14,7 +14,7 @@ use Rattle.cloak_model.specs.Opening.{numbers_below}
 use Rattle.cloak_model.specs.Parts.{Joint as Machine}
 use Rattle.cloak_model.specs.StoredFiles.{FileContents, HasSealedPages, IsSealedIfShown, PageContent, StandsForFiles, StoredFile, meta_of, stored_file, table_of}
 use Rattle.cloak_model.specs.StoredRun.{content_of, contents_from, contents_of, file_in, file_owned, files_in, inserted, sorted}
-use Rattle.protect_meta.specs.Table.{Table, meta_at}
+use Rattle.protect_meta.specs.Table.{MetaRow, meta_at}
 use Rattle.cloak_pager.specs.State.{PagerState, held_in, owed_under, page_of, right_at}
 use Rattle.cloak_pager.specs.Relation.{IsUnowed, StandsForMemory}
 use Rattle.cloak_pager.specs.declared.frame_right.FrameRight.{FrameRight}
@@ -84,10 +84,10 @@ domain_contents m d x was stands =
 -- What is known of them.
 
 -- the metadata of each page tells of its content
-abbrev Tells : CloakedMemory → Table → Type 0
+abbrev Tells : CloakedMemory → MetaRow → Type 0
 Tells m t = (q : PageId) → option_map meta_of (content_of m q) ≡ meta_at t q
 
-pages_known : (m : CloakedMemory) (t : Table) (d resource : ℕ) → Tells m t → (numbers : List ℕ) →
+pages_known : (m : CloakedMemory) (t : MetaRow) (d resource : ℕ) → Tells m t → (numbers : List ℕ) →
     map (option_map meta_of) (map (λ (page : ℕ). content_of m (record { domain = d; resource = resource; page = page })) numbers)
     ≡ map (λ (page : ℕ). meta_at t (record { domain = d; resource = resource; page = page })) numbers
 pages_known m t d resource tells [] = refl
@@ -97,21 +97,21 @@ pages_known m t d resource tells (n ∷ numbers) =
     ∙ ap (λ (l : List (Option Meta)). meta_at t (record { domain = d; resource = resource; page = n }) ∷ l)
     (pages_known m t d resource tells numbers)
 
-file_known : (m : CloakedMemory) (t : Table) (d : ℕ) (f : FilePlace) → Tells m t →
+file_known : (m : CloakedMemory) (t : MetaRow) (d : ℕ) (f : FilePlace) → Tells m t →
     stored_file (content_at m d f) ≡ known_file t d f
 unfolding content_at
 file_known m t d f tells =
     ap (λ (l : List (Option Meta)). record { domain = d; number = f.number; pages = l })
     (pages_known m t d f.resource tells (numbers_below f.pages))
 
-files_known : (m : CloakedMemory) (t : Table) (d : ℕ) → Tells m t → (places : List FilePlace) →
+files_known : (m : CloakedMemory) (t : MetaRow) (d : ℕ) → Tells m t → (places : List FilePlace) →
     map stored_file (map (content_at m d) places) ≡ map (known_file t d) places
 files_known m t d tells [] = refl
 files_known m t d tells (f ∷ places) =
     ap (λ (s : StoredFile). s ∷ map stored_file (map (content_at m d) places)) (file_known m t d f tells)
     ∙ ap (λ (l : List StoredFile). known_file t d f ∷ l) (files_known m t d tells places)
 
-pub tells_all : (m : CloakedMemory) (t : Table) (d : ℕ) (xs : List Domain) (ds : List model.Domain) → AreDomains xs ds →
+pub tells_all : (m : CloakedMemory) (t : MetaRow) (d : ℕ) (xs : List Domain) (ds : List model.Domain) → AreDomains xs ds →
     Tells m t → known_files t d xs ≡ table_of (contents_from m d ds)
 unfolding contents_from
 tells_all m t d [] [] are tells = refl

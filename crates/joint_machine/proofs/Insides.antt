@@ -26,10 +26,10 @@ use Rattle.cloaked_side.specs.declared.memory.Memory.{Memory}
 use Rattle.cloaked_side.proofs.Emitting.{emits_items}
 use Rattle.hypercalls.specs.declared.domain.Domain.{Domain}
 use Rattle.hypercalls.specs.Standing.{EndsAs}
-use Rattle.joint_machine.specs.declared.stepping.Stepped.{Stepped}
-use Rattle.joint_machine.specs.Turning.{AreRoots, GoesOn, InterruptsIn, StepsDomain, TurnsIn, Unmarks, begun}
-use Rattle.joint_machine.proofs.RootedPages.{root_of}
-use Rattle.joint_machine.proofs.RootedSteps.{rooted_domain_step}
+use Rattle.joint_machine.specs.declared.stepping.SteppedProgram.{SteppedProgram}
+use Rattle.joint_machine.specs.Turning.{AreRoots, IsCarriedOut, InterruptsIn, StepsDomain, TurnsIn, Unmarks, begun}
+use Rattle.script_fold.specs.Tables.{recorded_tables}
+use Rattle.script_fold.proofs.Rooted.{rooted_domain_step}
 
 -- The memory of a world.
 
@@ -38,7 +38,7 @@ holds_memory memory (Flat ram) m holds = absurd holds
 holds_memory memory (Alone handed) m holds = absurd holds
 holds_memory memory (Cloaked c) m holds = holds
 
-pub root_in : (w : World) (m : CloakedMemory) → root_of w ≡ m.ledger.root → (memory_of w m).ledger.root ≡ m.ledger.root
+pub root_in : (w : World) (m : CloakedMemory) → recorded_tables w ≡ m.ledger.root → (memory_of w m).ledger.root ≡ m.ledger.root
 root_in (Flat ram) m same = refl
 root_in (Cloaked c) m same = same
 root_in (Alone handed) m same = refl
@@ -97,9 +97,9 @@ begun_is m regime slot was h d satp sum mxr domain = λ i. record {
 }
 
 -- A program's step, and what followed.
-pub turns_stepped : {E : Type 0} (gave : E → E → List Piece → Type 0) (e e' e'' : E) (h h' : Hart) (domain : Domain) (roots' : List (List (Option ℕ))) (memory memory' : Memory) (stepped : Stepped) (given : Option Violation) (j : model.Joint) (number d slot : ℕ) (was : program.Domain) →
+pub turns_stepped : {E : Type 0} (gave : E → E → List Piece → Type 0) (e e' e'' : E) (h h' : Hart) (domain : Domain) (roots' : List (List (Option ℕ))) (memory memory' : Memory) (stepped : SteppedProgram) (given : Option Violation) (j : model.Joint) (number d slot : ℕ) (was : program.Domain) →
     StepsDomain gave e e' memory domain stepped (told_of j h d slot was) →
-    GoesOn gave e' e'' h' roots' memory memory' given (stepped_joint j d (told_of j h d slot was)) number (items_of (told_of j h d slot was).world)
+    IsCarriedOut gave e' e'' h' roots' memory memory' given (stepped_joint j d (told_of j h d slot was)) number (items_of (told_of j h d slot was).world)
     (domain_ended (stepped_joint j d (told_of j h d slot was)) number h d (told_of j h d slot was).world (told_of j h d slot was).answer.went) →
     TurnsIn gave e e'' h' domain roots' memory' given j number d (by_interrupt false j number h d slot was)
 unfolding by_interrupt after_domain_step
@@ -175,21 +175,21 @@ world_on old new (Flat ram) keeps holds = absurd holds
 world_on old new (Alone handed) keeps holds = absurd holds
 world_on old new (Cloaked c) keeps holds = keeps c.memory holds
 
-pub steps_on : {E : Type 0} (gave : E → E → List Piece → Type 0) (e e' : E) (old new : Memory) (domain : Domain) (given : Stepped) (told : Told DomainStepped) →
+pub steps_on : {E : Type 0} (gave : E → E → List Piece → Type 0) (e e' : E) (old new : Memory) (domain : Domain) (given : SteppedProgram) (told : Told DomainStepped) →
     ((m : CloakedMemory) → Holds old m → Holds new m) → StepsDomain gave e e' old domain given told → StepsDomain gave e e' new domain given told
 steps_on gave e e' old new domain given told keeps s =
     record { went = s.went; violation = s.violation; emits = s.emits; holds = world_on old new told.world keeps s.holds; stands = s.stands }
 
 -- A program's step over the memory as it begins, and what followed.
-pub turns_stepping : {E : Type 0} (gave : E → E → List Piece → Type 0) (e e' e'' : E) (h h' : Hart) (domain : Domain) (roots roots' : List (List (Option ℕ))) (memory memory' : Memory) (stepped : Stepped) (given : Option Violation) (j : model.Joint) (number d slot : ℕ) (was : program.Domain) (regime : InsideRegime) →
+pub turns_stepping : {E : Type 0} (gave : E → E → List Piece → Type 0) (e e' e'' : E) (h h' : Hart) (domain : Domain) (roots roots' : List (List (Option ℕ))) (memory memory' : Memory) (stepped : SteppedProgram) (given : Option Violation) (j : model.Joint) (number d slot : ℕ) (was : program.Domain) (regime : InsideRegime) →
     begun j.memory regime slot was ≡ cloak_of j.memory h d (pages_for was (context_at was.control.contexts slot)) → AreRoots roots j.memory.ledger.root →
     (is_clashed (domain_step slot was (Cloaked (begun j.memory regime slot was))).world ≡ false → StepsDomain gave e e' memory domain stepped (domain_step slot was (Cloaked (begun j.memory regime slot was)))) →
-    ((after : model.Joint) (w : World) → stepped.violation ≡ violation_of w → AreRoots roots after.memory.ledger.root → GoesOn gave e' e'' h' roots' memory memory' given after number (items_of w) (domain_ended after number h d w stepped.went)) →
+    ((after : model.Joint) (w : World) → stepped.violation ≡ violation_of w → AreRoots roots after.memory.ledger.root → IsCarriedOut gave e' e'' h' roots' memory memory' given after number (items_of w) (domain_ended after number h d w stepped.went)) →
     (by_interrupt false j number h d slot was).joint.memory.ledger.clashed ≡ false → TurnsIn gave e e'' h' domain roots' memory' given j number d (by_interrupt false j number h d slot was)
 turns_stepping gave e e' e'' h h' domain roots roots' memory memory' stepped given j number d slot was regime begins are steps goes none =
     let told = told_of j h d slot was in
     let after = stepped_joint j d told in
     let s : StepsDomain gave e e' memory domain stepped told = subst (λ (c : Cloak). is_clashed (domain_step slot was (Cloaked c)).world ≡ false → StepsDomain gave e e' memory domain stepped (domain_step slot was (Cloaked c))) begins steps (step_unclashed j number h d slot was none) in
     turns_stepped gave e e' e'' h h' domain roots' memory memory' stepped given j number d slot was s
-    (subst (λ (x : Went). GoesOn gave e' e'' h' roots' memory memory' given after number (items_of told.world) (domain_ended after number h d told.world x)) s.went
+    (subst (λ (x : Went). IsCarriedOut gave e' e'' h' roots' memory memory' given after number (items_of told.world) (domain_ended after number h d told.world x)) s.went
     (goes after told.world s.violation (roots_stepped roots j h d slot was are)))

@@ -8,7 +8,7 @@ use Rattle.cloak_base.specs.declared.names.PageId.{PageId}
 use Rattle.cloak_model.specs.Opening.{numbers_below}
 use Rattle.cloak_model.specs.StoredFiles.{StoredFile, IsFile, IsMetaIfKnown, IsTable, Precedes, Rise, page_count}
 use Rattle.protect_meta.specs.FileTable.{file_at, with_meta}
-use Rattle.protect_meta.specs.Table.{Table, meta_at}
+use Rattle.protect_meta.specs.Table.{MetaRow, meta_at}
 use Rattle.hypercalls.specs.declared.domain.Domain.{Domain}
 use Rattle.joint_machine.specs.Storing.{HasLowerNumber, known_file, known_files, known_pages, pages_at, places_of}
 use Rattle.joint_machine.specs.declared.storing.FilePlace.{FilePlace}
@@ -22,11 +22,11 @@ count_below (suc n) =
     let b = count_below n in
     omega (arith, a, b)
 
-pub count_known : (t : Table) (d resource n : ℕ) → length (known_pages t d resource n) ≡ n
+pub count_known : (t : MetaRow) (d resource n : ℕ) → length (known_pages t d resource n) ≡ n
 count_known t d resource n = length-map (numbers_below n) _ ∙ count_below n
 
 -- one more page
-pub known_more : (t : Table) (d resource n : ℕ) →
+pub known_more : (t : MetaRow) (d resource n : ℕ) →
     known_pages t d resource (n + 1)
     ≡ known_pages t d resource n ++ meta_at t (record { domain = d; resource = resource; page = n }) ∷ []
 known_more t d resource n =
@@ -34,13 +34,13 @@ known_more t d resource n =
     ∙ map-append (λ (page : ℕ). meta_at t (record { domain = d; resource = resource; page = page })) (numbers_below n) (n ∷ [])
 
 -- the pages of a file of which the first n are told
-abbrev pub told_pages : Table → ℕ → FilePlace → ℕ → List (Option Meta)
+abbrev pub told_pages : MetaRow → ℕ → FilePlace → ℕ → List (Option Meta)
 told_pages t d f n = known_pages t d f.resource n ++ replicate (f.pages - n) None
 
-abbrev pub told_file : Table → ℕ → FilePlace → ℕ → StoredFile
+abbrev pub told_file : MetaRow → ℕ → FilePlace → ℕ → StoredFile
 told_file t d f n = record { domain = d; number = f.number; pages = told_pages t d f n }
 
-pub count_told : (t : Table) (d : ℕ) (f : FilePlace) (n : ℕ) → n ≤ f.pages → length (told_pages t d f n) ≡ f.pages
+pub count_told : (t : MetaRow) (d : ℕ) (f : FilePlace) (n : ℕ) → n ≤ f.pages → length (told_pages t d f n) ≡ f.pages
 count_told t d f n low =
     let a = length-append (known_pages t d f.resource n) (replicate (f.pages - n) (let none : Option Meta = None in none)) in
     let b = count_known t d f.resource n in
@@ -53,7 +53,7 @@ rest_next : (none : Option Meta) (n pages : ℕ) → n < pages →
 rest_next none n pages low =
     ap (λ (k : ℕ). replicate k none) (let e : pages - n ≡ suc (pages - (n + 1)) = omega (arith, low) in e)
 
-pub told_next : (t : Table) (d : ℕ) (f : FilePlace) (n : ℕ) → n < f.pages →
+pub told_next : (t : MetaRow) (d : ℕ) (f : FilePlace) (n : ℕ) → n < f.pages →
     slice_set (told_pages t d f n) n (meta_at t (record { domain = d; resource = f.resource; page = n }))
     ≡ told_pages t d f (n + 1)
 told_next t d f n low =
@@ -64,7 +64,7 @@ told_next t d f n low =
     ∙ (sym (append_assoc known (v ∷ []) (replicate (f.pages - (n + 1)) None))
     ∙ ap (λ (l : List (Option Meta)). l ++ replicate (f.pages - (n + 1)) None) (sym (known_more t d f.resource n))))
 
-pub told_all : (t : Table) (d : ℕ) (f : FilePlace) (n : ℕ) → n ≡ f.pages → told_file t d f n ≡ known_file t d f
+pub told_all : (t : MetaRow) (d : ℕ) (f : FilePlace) (n : ℕ) → n ≡ f.pages → told_file t d f n ≡ known_file t d f
 told_all t d f n same = ap (λ (l : List (Option Meta)). record { domain = d; number = f.number; pages = l })
     (ap (told_pages t d f) same
     ∙ (ap (λ (k : ℕ). known_pages t d f.resource f.pages ++ replicate k None) (let e : f.pages - f.pages ≡ 0 = omega arith in e)
@@ -113,13 +113,13 @@ table_push old f table file follows few low = record {
   rise = rise_push old f table.rise follows;
 }
 
-pub metas_push : (t : Table) (d resource n : ℕ) → All IsMetaIfKnown (known_pages t d resource n) →
+pub metas_push : (t : MetaRow) (d resource n : ℕ) → All IsMetaIfKnown (known_pages t d resource n) →
     IsMetaIfKnown (meta_at t (record { domain = d; resource = resource; page = n })) →
     All IsMetaIfKnown (known_pages t d resource (n + 1))
 metas_push t d resource n all here =
     subst (All IsMetaIfKnown) (sym (known_more t d resource n)) (all_push IsMetaIfKnown (known_pages t d resource n) _ all here)
 
-pub known_is_file : (t : Table) (d : ℕ) (f : FilePlace) (n : ℕ) → n ≡ f.pages → d < 4 → f.number < 2 ^ 32 →
+pub known_is_file : (t : MetaRow) (d : ℕ) (f : FilePlace) (n : ℕ) → n ≡ f.pages → d < 4 → f.number < 2 ^ 32 →
     1 ≤ f.pages → f.pages ≤ 1024 → All IsMetaIfKnown (known_pages t d f.resource n) → IsFile (known_file t d f)
 known_is_file t d f n same domain number some few metas =
     let count = count_known t d f.resource f.pages in record {
@@ -158,7 +158,7 @@ lower_before places i f rise low is k d less =
     omega (arith, pair, a, b)
 
 -- all that were told stand before the next one
-pub all_precede : (t : Table) (d : ℕ) (old : List StoredFile) (places : List FilePlace) (i : ℕ) (f : FilePlace) →
+pub all_precede : (t : MetaRow) (d : ℕ) (old : List StoredFile) (places : List FilePlace) (i : ℕ) (f : FilePlace) →
     All (λ (g : StoredFile). g.domain < d) old → AllPairs HasLowerNumber places → i < length places →
     f ≡ slice_index_or places i f →
     All (λ (g : StoredFile). Precedes g (known_file t d f)) (old ++ map (known_file t d) (take i places))
@@ -168,7 +168,7 @@ all_precede t d old places i f below rise low is =
     (all_map (λ (g : StoredFile). Precedes g (known_file t d f)) (known_file t d) (take i places)
     (λ k e less. inr (refl, lower_before places i f rise low is k e less)))
 
-pub sum_known : (t : Table) (d : ℕ) (places : List FilePlace) →
+pub sum_known : (t : MetaRow) (d : ℕ) (places : List FilePlace) →
     sum_by page_count (map (known_file t d) places) ≡ sum_by pages_at places
 sum_known t d [] = refl
 sum_known t d (f ∷ places) =
@@ -178,20 +178,20 @@ sum_known t d (f ∷ places) =
     let e = count_known t d f.resource f.pages in
     omega (arith, a, b, c, e)
 
-pub sum_told : (t : Table) (d : ℕ) (old : List StoredFile) (places : List FilePlace) →
+pub sum_told : (t : MetaRow) (d : ℕ) (old : List StoredFile) (places : List FilePlace) →
     sum_by page_count (old ++ map (known_file t d) places) ≡ sum_by page_count old + sum_by pages_at places
 sum_told t d old places =
     sum_by-append page_count old (map (known_file t d) places)
     ∙ ap (λ (n : ℕ). sum_by page_count old + n) (sum_known t d places)
 
-pub length_told : (t : Table) (d : ℕ) (old : List StoredFile) (places : List FilePlace) →
+pub length_told : (t : MetaRow) (d : ℕ) (old : List StoredFile) (places : List FilePlace) →
     length (old ++ map (known_file t d) places) ≡ length old + length places
 length_told t d old places =
     length-append old (map (known_file t d) places)
     ∙ ap (λ (n : ℕ). length old + n) (length-map places (known_file t d))
 
 -- one more file
-pub places_next : (t : Table) (d : ℕ) (old : List StoredFile) (places : List FilePlace) (i : ℕ) (f : FilePlace) →
+pub places_next : (t : MetaRow) (d : ℕ) (old : List StoredFile) (places : List FilePlace) (i : ℕ) (f : FilePlace) →
     i < length places → f ≡ slice_index_or places i f →
     (old ++ map (known_file t d) (take i places)) ++ known_file t d f ∷ []
     ≡ old ++ map (known_file t d) (take (i + 1) places)
@@ -201,7 +201,7 @@ places_next t d old places i f low is =
     (ap (λ (x : FilePlace). map (known_file t d) (take i places) ++ known_file t d x ∷ []) is
     ∙ sym (map_more (known_file t d) places i f low))
 
-pub below_next : (t : Table) (d : ℕ) (old : List StoredFile) (places : List FilePlace) →
+pub below_next : (t : MetaRow) (d : ℕ) (old : List StoredFile) (places : List FilePlace) →
     All (λ (g : StoredFile). g.domain < d) old →
     All (λ (g : StoredFile). g.domain < d + 1) (old ++ map (known_file t d) places)
 below_next t d old places below =
@@ -211,7 +211,7 @@ below_next t d old places below =
 
 -- Domains.
 
-known_last : (t : Table) (n : ℕ) (domains : List Domain) (x : Domain) →
+known_last : (t : MetaRow) (n : ℕ) (domains : List Domain) (x : Domain) →
     known_files t n (domains ++ x ∷ [])
     ≡ known_files t n domains ++ map (known_file t (n + length domains)) (places_of x)
 known_last t n [] x =
@@ -224,7 +224,7 @@ known_last t n (y ∷ domains) x =
     (let e : n + 1 + length domains ≡ n + suc (length domains) = omega arith in e))
     ∙ sym (append_assoc (map (known_file t n) (places_of y)) (known_files t (n + 1) domains) _)
 
-pub domains_next : (t : Table) (domains : List Domain) (i : ℕ) (x : Domain) → i < length domains →
+pub domains_next : (t : MetaRow) (domains : List Domain) (i : ℕ) (x : Domain) → i < length domains →
     x ≡ slice_index_or domains i x →
     known_files t 0 (take i domains) ++ map (known_file t i) (places_of x) ≡ known_files t 0 (take (i + 1) domains)
 domains_next t domains i x low is =

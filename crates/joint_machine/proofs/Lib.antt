@@ -6,8 +6,6 @@ pub mod Started
 pub mod Showing
 pub mod Opens
 pub mod Closed
-pub mod RootedPages
-pub mod RootedSteps
 pub mod Sides
 pub mod Gone
 pub mod Insides

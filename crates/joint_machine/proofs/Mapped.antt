@@ -22,7 +22,7 @@ use Rattle.hypercalls.specs.Standing.{StandsFor}
 use Rattle.shadow_fold.specs.Agreement.{HasInSpace, IsMapped}
 use Rattle.shadow_fold.specs.Entries.{is_of_space, sees_space}
 use Rattle.shadow_fold.specs.Events as events
-use Rattle.shadow_fold.specs.Reads.{Asked}
+use Rattle.shadow_fold.specs.Reads.{AskedByStep}
 use Rattle.shadow_fold.specs.declared.entry.Entry.{Entry}
 use Rattle.shadow_fold.specs.declared.entry.Regime.{Regime}
 use Rattle.shadow_fold.specs.declared.entry.Regime.TheVariants.{Outside, Inside}
@@ -61,8 +61,8 @@ makes_stepped mapped due j h d slot was c is there whole same =
 
 -- A hart inside.
 
-pub makes_stopped : (mapped : SpaceId → ℕ → Option PageId) (a : Asked) → a ≡ events.nothing_asked → MakesIn mapped a
-makes_stopped mapped a nothing = subst (λ (x : Asked). MakesIn mapped x) (sym nothing) tt
+pub makes_stopped : (mapped : SpaceId → ℕ → Option PageId) (a : AskedByStep) → a ≡ events.nothing_asked → MakesIn mapped a
+makes_stopped mapped a nothing = subst (λ (x : AskedByStep). MakesIn mapped x) (sym nothing) tt
 
 pub makes_there : (mapped : SpaceId → ℕ → Option PageId) (j : model.Joint) (number : ℕ) (h at_start : Hart) (ctx : ℕ) (was : program.Domain) → h ≡ at_start →
     slice_get j.domains (domain_of ctx) ≡ Some was → runs_on number (context_at was.control.contexts (slot_of ctx)) ≡ true →
@@ -71,7 +71,7 @@ pub makes_there : (mapped : SpaceId → ℕ → Option PageId) (j : model.Joint)
 makes_there mapped j number h at_start ctx was same there runs makes =
     let o = slice_get j.domains (domain_of ctx) in
     subst (λ (y : Hart). MakesIn mapped (events.asked_inside j number y (domain_of ctx) (slot_of ctx) o)) same
-    (subst (λ (a : Asked). MakesIn mapped a) (sym (run_asks j number h (domain_of ctx) ctx o was there runs)) makes)
+    (subst (λ (a : AskedByStep). MakesIn mapped a) (sym (run_asks j number h (domain_of ctx) ctx o was there runs)) makes)
 
 -- a domain has its pages where they are mapped
 pub mapped_there : (j : model.Joint) (d : ℕ) (was : program.Domain) → slice_get j.domains d ≡ Some was → (space va : ℕ) →

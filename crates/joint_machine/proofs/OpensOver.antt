@@ -28,7 +28,7 @@ use Rattle.cloaked_side.specs.declared.memory.Memory.{Memory}
 use Rattle.hypercalls.specs.declared.domain.Domain.{Domain}
 use Rattle.hypercalls.specs.Standing.{StandsFor, control_of}
 use Rattle.joint_machine.specs.declared.joint.Joint.{Joint}
-use Rattle.joint_machine.specs.Filing.{AddsTo, AreFreeUnshown, HasAdded, HasNoFile, IsNewFile}
+use Rattle.joint_machine.specs.Filing.{AddsTo, AreFreeUnshown, HasAddedFiles, HasNoFile, IsNewFile}
 use Rattle.joint_machine.specs.Standing.{AreDomains, OpensOver, StandsForJoint}
 use Rattle.joint_machine.specs.Starting.{IsReady, KeepsUnplaced, PlacesTo}
 use Rattle.joint_machine.proofs.Opens.{no_roots}
@@ -184,7 +184,7 @@ pub record HasFiled (joint : Joint) (b : Bundle) (keys : Keys) (stream : Random)
 stands_filed : (joint : Joint) (b : Bundle) (keys : Keys) (stream : Random) (contents : List FileContents)
     (memory : Memory) (m : CloakedMemory) (after : Machine) → HasFiled joint b keys stream contents memory →
     Holds memory m → KeepsFixed (started_memory b.kernel keys stream) m →
-    HasAdded memory joint.memory joint.domains.items (started_joint b m) after → StandsForJoint joint after
+    HasAddedFiles memory joint.memory joint.domains.items (started_joint b m) after → StandsForJoint joint after
 unfolding started_joint started_kernel
 stands_filed joint b keys stream contents memory m after filed holds fixed has = record {
   harts = filed.harts ∙ sym has.rest.harts;

@@ -24,7 +24,7 @@ use Rattle.cloaked_side.specs.declared.memory.Memory.{Memory}
 use Rattle.cloaked_side.specs.declared.side.Side.{Side}
 use Rattle.hypercalls.specs.declared.domain.Domain.{Domain}
 use Rattle.hypercalls.specs.Standing.{StepsTo, HasPagesOf}
-use Rattle.joint_machine.specs.declared.stepping.Stepped.{Stepped}
+use Rattle.joint_machine.specs.declared.stepping.SteppedProgram.{SteppedProgram}
 use Rattle.joint_machine.specs.Turning.{HoldsNoFree, HoldsNoOthers, StepsDomain, begun}
 
 -- a domain that the memory has is served under its number
@@ -47,7 +47,7 @@ violation_world gave first now (Alone handed) sees = absurd sees
 violation_world gave first now (Cloaked c) sees = sees.violation
 
 -- the step over a side, of the memory and the emitter that it gave back
-pub steps_told : {E : Type 0} (gave : E → E → List Piece → Type 0) (first now : Side E) (domain : Domain) (given : Stepped) (went : Went) (told : Told DomainStepped) (memory : Memory) (e : E) →
+pub steps_told : {E : Type 0} (gave : E → E → List Piece → Type 0) (first now : Side E) (domain : Domain) (given : SteppedProgram) (went : Went) (told : Told DomainStepped) (memory : Memory) (e : E) →
     memory ≡ now.memory.now → e ≡ now.emitter.now → given.violation ≡ now.violation → given.went ≡ went →
     StepsTo (λ side w. SeesInside gave first side w) now domain went told → StepsDomain gave first.emitter.now e memory domain given told
 steps_told gave first now domain given went told memory e same_memory same_emitter same_violation same_went steps = record {

@@ -20,7 +20,7 @@ use Rattle.cloak_model.specs.declared.regime.InsideRegime.{InsideRegime}
 use Rattle.cloaked_side.specs.Tracking.{AreAll, Tracks, TracksBy, GoesBy, IsGone, spent_in}
 use Rattle.cloak_model.specs.Opening.{numbers_below}
 use Rattle.cloaked_side.proofs.Spending.{ending_misses, maps_ending, maps_still, spends_more, spends_none, spends_still, spends_then}
-use Rattle.shadow_fold.specs.Reads.{Asked, reads_due}
+use Rattle.shadow_fold.specs.Reads.{AskedByStep, reads_due}
 use Rattle.shadow_fold.proofs.Agreeing.{keeps_ending}
 use Rattle.cloak_model.specs.declared.item.Item.{Item}
 use Rattle.cloaked_side.specs.declared.memory.Memory.{Memory}
@@ -66,7 +66,7 @@ goes_still memory space = record {
 abbrev seeing : Memory → PagerState → Table → Bool → Memory
 seeing memory pager shadows counting = record memory { pager = pager; shadows = shadows; counting = counting }
 
-pub goes_same : (old mid new : Memory) (a : Asked) → IsSameButMarks mid new → GoesBy old mid a → GoesBy old new a
+pub goes_same : (old mid new : Memory) (a : AskedByStep) → IsSameButMarks mid new → GoesBy old mid a → GoesBy old new a
 goes_same old mid new a same goes =
     let first : GoesBy old (seeing old mid.pager mid.shadows mid.counting) a =
     record { tracks = goes.tracks; spends = goes.spends; maps = goes.maps; gone = all_gone mid (seeing old mid.pager mid.shadows mid.counting) refl a.changed goes.gone } in
@@ -123,7 +123,7 @@ goes_more : (old mid new : Memory) (x : SpaceId) (changed : List SpaceId) (space
     GoesBy old new (record { space = space; events = []; items = []; changed = changed ++ x ∷ [] })
 goes_more old mid new x changed space is first =
     let second = goes_ended mid new x is space in
-    let nothing : Asked = record { space = space; events = []; items = []; changed = changed } in
+    let nothing : AskedByStep = record { space = space; events = []; items = []; changed = changed } in
     record {
       tracks = subst (λ (xs : List Event). TracksBy old new (after_events space xs)) (sym (map-append (λ s. Space s) changed (x ∷ [])))
           (tracks_on old mid new space (map (λ s. Space s) changed) (map (λ s. Space s) (x ∷ [])) first.tracks second.tracks);
@@ -152,8 +152,8 @@ pub goes_then : (old mid new : Memory) (space : Option SpaceId) (es : List Event
     GoesBy mid new (record { space = space; events = []; items = []; changed = changed }) →
     GoesBy old new (record { space = space; events = es; items = is; changed = changed })
 goes_then old mid new space es is changed first second =
-    let a : Asked = record { space = space; events = es; items = is; changed = [] } in
-    let b : Asked = record { space = space; events = []; items = []; changed = changed } in
+    let a : AskedByStep = record { space = space; events = es; items = is; changed = [] } in
+    let b : AskedByStep = record { space = space; events = []; items = []; changed = changed } in
     record {
       tracks = tracks_on old mid new space es (map (λ s. Space s) changed)
           (subst (λ (xs : List Event). TracksBy old mid (after_events space xs)) (append-nil es) first.tracks) second.tracks;
@@ -202,9 +202,9 @@ goes_stepped old mid new due j number h d slot was c space regime ended is there
         (subst (λ (x : Went). GoesBy mid new (record { space = Some space; events = []; items = []; changed = events.changed_by d x })) made.0 (ends (Some space))))
 
 -- the context does not run on the hart
-pub goes_stopped : (old new : Memory) (a : Asked) → IsSameButMarks old new → a ≡ events.nothing_asked → GoesBy old new a
+pub goes_stopped : (old new : Memory) (a : AskedByStep) → IsSameButMarks old new → a ≡ events.nothing_asked → GoesBy old new a
 goes_stopped old new a same nothing =
-    goes_same old old new a same (subst (λ (x : Asked). GoesBy old old x) (sym nothing) (goes_still old None))
+    goes_same old old new a same (subst (λ (x : AskedByStep). GoesBy old old x) (sym nothing) (goes_still old None))
 
 -- the step of a program in its place
 pub goes_turned : (old new : Memory) (j : model.Joint) (number : ℕ) (h at_start : Hart) (ctx : ℕ) (was : program.Domain) → h ≡ at_start → slice_get j.domains (domain_of ctx) ≡ Some was →
@@ -218,7 +218,7 @@ goes_turned old new j number h at_start ctx was same at runs goes unclashed =
     let o = slice_get j.domains d in
     let unclashed_h = subst (λ (y : Hart). (inside_step j number y ctx o).joint.memory.ledger.clashed ≡ false) (sym same) unclashed in
     subst (λ (y : Hart). GoesBy old new (events.asked_inside j number y d (slot_of ctx) o)) same
-    (subst (λ (a : Asked). GoesBy old new a) (sym (run_asks j number h d ctx o was at runs))
+    (subst (λ (a : AskedByStep). GoesBy old new a) (sym (run_asks j number h d ctx o was at runs))
     (goes (subst (λ (t : Turn). t.joint.memory.ledger.clashed ≡ false) (run_step j number h ctx o was at runs) unclashed_h)))
 
 -- A hart, by the context that it runs.

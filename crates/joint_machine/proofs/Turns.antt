@@ -28,7 +28,7 @@ use Rattle.cloaked_side.proofs.Emitting.{emits_items}
 use Rattle.hypercalls.specs.declared.domain.Domain.{Domain}
 use Rattle.hypercalls.specs.Standing.{StandsFor}
 use Rattle.settling_ahead.proofs.Laws.{keeps_rest}
-use Rattle.joint_machine.specs.declared.ended.Ended.{Ended}
+use Rattle.joint_machine.specs.declared.ended_step.EndedStep.{EndedStep}
 use Rattle.joint_machine.specs.declared.joint.Joint.{Joint}
 use Rattle.joint_machine.specs.Standing.{AreDomains, StandsForJoint, shown_byte, turn_in}
 use Rattle.joint_machine.specs.Turning.{AreRoots, EndsTurn, ResumesJoint, StepsPlainly, TurnsIn, Unmarks, running_in}
@@ -44,7 +44,7 @@ hart_is hs js n h same inside is =
 -- A hart inside.
 
 -- the context does not run on the hart, which leaves it
-pub ends_stopped : {E : Type 0} (gave : E → E → List Piece → Type 0) (e e' : E) (old new : Joint) (given : Ended) (j : model.Joint) (number : ℕ) (h at_start : Hart) (ctx : ℕ) → h ≡ at_start →
+pub ends_stopped : {E : Type 0} (gave : E → E → List Piece → Type 0) (e e' : E) (old new : Joint) (given : EndedStep) (j : model.Joint) (number : ℕ) (h at_start : Hart) (ctx : ℕ) → h ≡ at_start →
     StandsForJoint old j → running_in number ctx (slice_get old.domains.items (domain_of ctx)) ≡ None →
     new.harts.items ≡ slice_set old.harts.items number (leave h (not_running ctx)) → new.disk ≡ old.disk → Unmarks number old.memory new.memory → new.domains.items ≡ old.domains.items → new.roots ≡ old.roots →
     new.ended ≡ old.ended → new.refused ≡ old.refused →
@@ -56,9 +56,9 @@ ends_stopped gave e e' old new given j number h at_start ctx same s unrun harts 
     (subst (λ (t : Turn). EndsTurn gave e e' new given t)
     (sym (unrun_step j number h ctx (slice_get j.domains (domain_of ctx)) (not_run old.domains.items j.domains number ctx s.domains unrun))) (record {
       emits = emits;
-      console = ap (λ (x : Ended). shown_byte x.console) none;
-      violation = ap (λ (x : Ended). x.violation) none;
-      halt = ap (λ (x : Ended). x.halt) none;
+      console = ap (λ (x : EndedStep). shown_byte x.console) none;
+      violation = ap (λ (x : EndedStep). x.violation) none;
+      halt = ap (λ (x : EndedStep). x.halt) none;
       stands = record {
         harts = harts ∙ ap (λ (hs : List Hart). slice_set hs number (leave h (not_running ctx))) s.harts;
         disk = disk ∙ s.disk;
@@ -71,7 +71,7 @@ ends_stopped gave e e' old new given j number h at_start ctx same s unrun harts 
     }))
 
 -- the step of a program in its place
-pub ends_turned : {E : Type 0} (gave : E → E → List Piece → Type 0) (e e' : E) (old new : Joint) (met : Option Violation) (given : Ended) (j : model.Joint) (number : ℕ) (h h' at_start : Hart) (ctx space : ℕ) (x x' : Domain) → h ≡ at_start →
+pub ends_turned : {E : Type 0} (gave : E → E → List Piece → Type 0) (e e' : E) (old new : Joint) (met : Option Violation) (given : EndedStep) (j : model.Joint) (number : ℕ) (h h' at_start : Hart) (ctx space : ℕ) (x x' : Domain) → h ≡ at_start →
     StandsForJoint old j → slice_get old.domains.items (domain_of ctx) ≡ Some x → running_in number ctx (slice_get old.domains.items (domain_of ctx)) ≡ Some space →
     new.harts.items ≡ slice_set old.harts.items number h' → new.disk ≡ old.disk → new.domains.items ≡ slice_set old.domains.items (domain_of ctx) x' →
     new.ended ≡ old.ended → new.refused ≡ old.refused →
@@ -89,9 +89,9 @@ ends_turned gave e e' old new met given j number h h' at_start ctx space x x' sa
     let t = turns was there.stands (subst (λ (u : Turn). u.joint.memory.ledger.clashed ≡ false) stepped unclashed_h) in
     subst (λ (y : Hart). EndsTurn gave e e' new given (inside_step j number y ctx (slice_get j.domains d))) same (subst (λ (u : Turn). EndsTurn gave e e' new given u) (sym stepped) (record {
       emits = t.emits;
-      console = ap (λ (y : Ended). shown_byte y.console) is ∙ sym t.console;
-      violation = ap (λ (y : Ended). y.violation) is ∙ t.violation;
-      halt = ap (λ (y : Ended). y.halt) is ∙ sym t.halt;
+      console = ap (λ (y : EndedStep). shown_byte y.console) is ∙ sym t.console;
+      violation = ap (λ (y : EndedStep). y.violation) is ∙ t.violation;
+      halt = ap (λ (y : EndedStep). y.halt) is ∙ sym t.halt;
       stands = record {
         harts = harts ∙ ap (λ (hs : List Hart). slice_set hs number h') s.harts ∙ sym t.harts;
         disk = disk ∙ s.disk ∙ sym t.disk;
@@ -142,14 +142,14 @@ steps_plainly gave e e' old new given j number h h' s is harts domains roots end
 pub stands_shown : (joint : Joint) (j : model.Joint) (console : List ℕ) → StandsForJoint joint j → StandsForJoint joint (record j { console = console })
 stands_shown joint j console s = record { harts = s.harts; disk = s.disk; memory = s.memory; domains = s.domains; roots = s.roots; ended = s.ended; refused = s.refused }
 
-module _ {E : Type 0} (gave : E → E → List Piece → Type 0) (e e' : E) (joint : Joint) (given : Kernel) (ended : Ended) (j : model.Joint) (number : ℕ) (told : Told SteppedKernel) (s : StepsPlainly gave e e' joint given j number told) where
+module _ {E : Type 0} (gave : E → E → List Piece → Type 0) (e e' : E) (joint : Joint) (given : Kernel) (ended : EndedStep) (j : model.Joint) (number : ℕ) (told : Told SteppedKernel) (s : StepsPlainly gave e e' joint given j number told) where
   pub ends_stay : given ≡ kernel.Stay → ended ≡ record { console = None; violation = None; halt = None } → EndsTurn gave e e' joint ended (after_outside j number told)
   unfolding after_outside outside_ended
   ends_stay is none = subst (λ (k : Kernel). EndsTurn gave e e' joint ended (outside_ended (after_kernel_step j number told) number (items_of told.world) k)) (sym is ∙ s.answer) (record {
     emits = s.emits;
-    console = ap (λ (x : Ended). shown_byte x.console) none;
-    violation = ap (λ (x : Ended). x.violation) none;
-    halt = ap (λ (x : Ended). x.halt) none;
+    console = ap (λ (x : EndedStep). shown_byte x.console) none;
+    violation = ap (λ (x : EndedStep). x.violation) none;
+    halt = ap (λ (x : EndedStep). x.halt) none;
     stands = s.stands;
   })
 
@@ -157,9 +157,9 @@ module _ {E : Type 0} (gave : E → E → List Piece → Type 0) (e e' : E) (joi
   unfolding after_outside outside_ended
   ends_trapped is none = subst (λ (k : Kernel). EndsTurn gave e e' joint ended (outside_ended (after_kernel_step j number told) number (items_of told.world) k)) (sym is ∙ s.answer) (record {
     emits = s.emits;
-    console = ap (λ (x : Ended). shown_byte x.console) none;
-    violation = ap (λ (x : Ended). x.violation) none;
-    halt = ap (λ (x : Ended). x.halt) none;
+    console = ap (λ (x : EndedStep). shown_byte x.console) none;
+    violation = ap (λ (x : EndedStep). x.violation) none;
+    halt = ap (λ (x : EndedStep). x.halt) none;
     stands = s.stands;
   })
 
@@ -167,9 +167,9 @@ module _ {E : Type 0} (gave : E → E → List Piece → Type 0) (e e' : E) (joi
   unfolding after_outside outside_ended
   ends_put b is none = subst (λ (k : Kernel). EndsTurn gave e e' joint ended (outside_ended (after_kernel_step j number told) number (items_of told.world) k)) (sym is ∙ s.answer) (record {
     emits = s.emits;
-    console = ap (λ (x : Ended). shown_byte x.console) none;
-    violation = ap (λ (x : Ended). x.violation) none;
-    halt = ap (λ (x : Ended). x.halt) none;
+    console = ap (λ (x : EndedStep). shown_byte x.console) none;
+    violation = ap (λ (x : EndedStep). x.violation) none;
+    halt = ap (λ (x : EndedStep). x.halt) none;
     stands = stands_shown joint (after_kernel_step j number told) (j.console ++ b ∷ []) s.stands;
   })
 
@@ -177,9 +177,9 @@ module _ {E : Type 0} (gave : E → E → List Piece → Type 0) (e e' : E) (joi
   unfolding after_outside outside_ended
   ends_halt value is none = subst (λ (k : Kernel). EndsTurn gave e e' joint ended (outside_ended (after_kernel_step j number told) number (items_of told.world) k)) (sym is ∙ s.answer) (record {
     emits = s.emits;
-    console = ap (λ (x : Ended). shown_byte x.console) none;
-    violation = ap (λ (x : Ended). x.violation) none;
-    halt = ap (λ (x : Ended). x.halt) none;
+    console = ap (λ (x : EndedStep). shown_byte x.console) none;
+    violation = ap (λ (x : EndedStep). x.violation) none;
+    halt = ap (λ (x : EndedStep). x.halt) none;
     stands = s.stands;
   })
 
@@ -188,9 +188,9 @@ module _ {E : Type 0} (gave : E → E → List Piece → Type 0) (e e' : E) (joi
   unfolding after_outside outside_ended
   ends_resumed ctx answer e'' joint' met is none r = subst (λ (k : Kernel). EndsTurn gave e e'' joint' ended (outside_ended (after_kernel_step j number told) number (items_of told.world) k)) (sym is ∙ s.answer) (record {
     emits = emits_items (items_of told.world) _ s.emits r.emits;
-    console = ap (λ (x : Ended). shown_byte x.console) none;
-    violation = ap (λ (x : Ended). x.violation) none ∙ r.violation;
-    halt = ap (λ (x : Ended). x.halt) none;
+    console = ap (λ (x : EndedStep). shown_byte x.console) none;
+    violation = ap (λ (x : EndedStep). x.violation) none ∙ r.violation;
+    halt = ap (λ (x : EndedStep). x.halt) none;
     stands = r.stands;
   })
 

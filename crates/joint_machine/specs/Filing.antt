@@ -38,7 +38,7 @@ StandFiled old new domain resource known =
     StandsForMemory new wiped (with_contents domain resource 0 contents m)
 
 -- Frames stay, and what is known of the pages of other resources.
-pub record KeepsOthers (domain resource : ℕ) (old new : PagerState) : Type 0 where
+pub record KeepsOtherPages (domain resource : ℕ) (old new : PagerState) : Type 0 where
   pub frames : new.frames ≡ old.frames
   pub rights : new.rights ≡ old.rights
   pub domains : domains_of new.table ≡ domains_of old.table
@@ -55,8 +55,8 @@ abbrev pub IsNewFile : List Domain → StoredFile → Type 0
 IsNewFile domains f = ForSome (slice_get domains f.domain) (λ domain. HasNoFile (control_of domain).resources f.number)
 
 -- one of two files has another domain or another number
-abbrev pub Differs : StoredFile → StoredFile → Type 0
-Differs f g = f.domain ≡ g.domain → f.number ≢ g.number
+abbrev pub AreTwoFiles : StoredFile → StoredFile → Type 0
+AreTwoFiles f g = f.domain ≡ g.domain → f.number ≢ g.number
 
 -- nothing is known of the pages of a number that is free
 abbrev pub AreFreeUnshown : List Domain → PagerState → Type 0
@@ -76,7 +76,7 @@ pub record IsSameBut (j after : model.Joint) : Type 0 where
   pub roots : (s : SpaceId) → after.memory.ledger.root s ≡ j.memory.ledger.root s
 
 -- This came of the state: the domains are its domains, and the memory holds its memory if it held that before.
-pub record HasAdded (old new : Memory) (xs : List Domain) (j after : model.Joint) : Type 0 where
+pub record HasAddedFiles (old new : Memory) (xs : List Domain) (j after : model.Joint) : Type 0 where
   pub domains : AreDomains xs after.domains
   pub memory : Holds old j.memory → Holds new after.memory
   pub rest : IsSameBut j after
@@ -84,6 +84,6 @@ pub record HasAdded (old new : Memory) (xs : List Domain) (j after : model.Joint
 -- what comes of the state, or the domain that has no room
 abbrev pub AddsTo :
     Memory → Memory → List Domain → model.Joint → Result (Unit {0}) ℕ → Result model.Joint Lack → Type 0
-AddsTo old new xs j (Ok done) (Ok after) = HasAdded old new xs j after
+AddsTo old new xs j (Ok done) (Ok after) = HasAddedFiles old new xs j after
 AddsTo old new xs j (Ok done) (Err lack) = ⊥
 AddsTo old new xs j (Err d) made = made ≡ Err (NoRoom d)

@@ -8,7 +8,7 @@ use Rattle.cloak_base.specs.declared.names.PageId.{PageId}
 use Rattle.cloak_model.specs.Cloaking.{CloakedMemory, owed_in}
 use Rattle.cloak_model.specs.DomainState as program
 use Rattle.cloak_model.specs.Parts as model
-use Rattle.protect_meta.specs.Table.{Table, meta_at}
+use Rattle.protect_meta.specs.Table.{MetaRow, meta_at}
 use Rattle.cloak_pager.specs.State.{PagerState, bytes_in, held_in, owed_at}
 use Rattle.frozen_state.specs.FrozenState.{Drawn}
 use Rattle.frozen_state.specs.declared.frozen.FrozenPage.{FrozenPage}
@@ -53,7 +53,7 @@ page_known q None = []
 page_known q (Some t) = record { page = q; meta = t } ∷ []
 
 -- those of these pages of which something is known
-unfoldable pub pages_known : Table → List PageId → List FrozenPage
+unfoldable pub pages_known : MetaRow → List PageId → List FrozenPage
 pages_known t pages = flat_map (λ (q : PageId). page_known q (meta_at t q)) pages
 
 -- Domains.

@@ -7,7 +7,7 @@ use Rattle.cloak_model.specs.declared.resource.Owner.TheVariants.{Space, File}
 use Rattle.cloak_model.specs.declared.resource.Resource.{Resource}
 use Rattle.cloak_model.specs.Opening.{numbers_below}
 use Rattle.cloak_model.specs.StoredFiles.{StoredFile}
-use Rattle.protect_meta.specs.Table.{Table, meta_at}
+use Rattle.protect_meta.specs.Table.{MetaRow, meta_at}
 use Rattle.hypercalls.specs.declared.domain.Domain.{Domain}
 use Rattle.hypercalls.specs.Standing.{control_of}
 use Rattle.joint_machine.specs.declared.storing.FilePlace.{FilePlace}
@@ -56,15 +56,15 @@ pages_at f = f.pages
 -- What they hold.
 
 -- what is known of the first pages of a resource, up to this many
-abbrev pub known_pages : Table → ℕ → ℕ → ℕ → List (Option Meta)
+abbrev pub known_pages : MetaRow → ℕ → ℕ → ℕ → List (Option Meta)
 known_pages t d resource pages =
     map (λ (page : ℕ). meta_at t (record { domain = d; resource = resource; page = page })) (numbers_below pages)
 
 -- a file of a domain
-abbrev pub known_file : Table → ℕ → FilePlace → StoredFile
+abbrev pub known_file : MetaRow → ℕ → FilePlace → StoredFile
 known_file t d f = record { domain = d; number = f.number; pages = known_pages t d f.resource f.pages }
 
 -- those of domains, of which the first has this number
-abbrev pub known_files : Table → ℕ → List Domain → List StoredFile
+abbrev pub known_files : MetaRow → ℕ → List Domain → List StoredFile
 known_files t d [] = []
 known_files t d (domain ∷ domains) = map (known_file t d) (places_of domain) ++ known_files t (d + 1) domains

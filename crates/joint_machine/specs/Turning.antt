@@ -27,17 +27,17 @@ use Rattle.cloaked_fork.specs.Marks.{AreUnused}
 use Rattle.cloaked_side.specs.Holding.{Holds}
 use Rattle.cloaked_side.specs.Telling.{HoldsWorld}
 use Rattle.cloaked_side.specs.declared.memory.Memory.{Memory}
-use Rattle.shadow_fold.specs.Reads.{Asked}
+use Rattle.shadow_fold.specs.Reads.{AskedByStep}
 use Rattle.hypercalls.specs.declared.domain.Domain.{Domain}
 use Rattle.hypercalls.specs.Standing.{StandsFor, control_of}
 use Rattle.joint_machine.specs.declared.joint.Joint.{Joint}
-use Rattle.joint_machine.specs.declared.ended.Ended.{Ended}
-use Rattle.joint_machine.specs.declared.stepping.Stepped.{Stepped}
+use Rattle.joint_machine.specs.declared.ended_step.EndedStep.{EndedStep}
+use Rattle.joint_machine.specs.declared.stepping.SteppedProgram.{SteppedProgram}
 use Rattle.joint_machine.specs.Standing.{StandsForJoint, shown_byte}
 
 -- A step has come about, but for why it stops the run.
 pub record EndsTurn {E : Type 0} (gave : E → E → List Piece → Type 0) (e e' : E) (joint : Joint)
-    (given : Ended) (t : Turn) : Type 0 where
+    (given : EndedStep) (t : Turn) : Type 0 where
   pub emits : Emits gave e e' (item_pieces t.items)
   pub console : shown_byte given.console ≡ t.console
   pub violation : given.violation ≡ t.violation
@@ -124,7 +124,7 @@ begun m regime slot d = record {
 
 -- the step of a program has come about
 pub record StepsDomain {E : Type 0} (gave : E → E → List Piece → Type 0) (e e' : E) (memory : Memory)
-    (domain : Domain) (given : Stepped) (told : Told DomainStepped) : Type 0 where
+    (domain : Domain) (given : SteppedProgram) (told : Told DomainStepped) : Type 0 where
   pub went : given.went ≡ told.answer.went
   pub violation : given.violation ≡ violation_of told.world
   pub emits : Emits gave e e' (item_pieces (items_of told.world))
@@ -143,7 +143,7 @@ pub record Unmarks (number : ℕ) (old new : Memory) : Type 0 where
   pub holds : (m : CloakedMemory) → Holds old m → Holds new (without_mark number m)
 
 -- The end of a program's step has come about in the hart, in the recorded page tables and in memory.
-pub record GoesOn {E : Type 0} (gave : E → E → List Piece → Type 0) (e e' : E) (h : Hart)
+pub record IsCarriedOut {E : Type 0} (gave : E → E → List Piece → Type 0) (e e' : E) (h : Hart)
     (roots : List (List (Option ℕ))) (memory memory' : Memory) (given : Option Violation) (j : model.Joint) (number : ℕ)
     (items : List Item) (t : Turn) : Type 0 where
   pub more : List Item
@@ -210,7 +210,7 @@ has_left None = false
 has_left (Some d) = not (control_of d).ended
 
 -- nothing was asked, for a context of this space, or outside
-abbrev pub nothing_in : Option SpaceId → Asked
+abbrev pub nothing_in : Option SpaceId → AskedByStep
 nothing_in space = record { space = space; events = []; items = []; changed = [] }
 
 -- the spaces of a domain whose numbers are below n

@@ -11,7 +11,7 @@ ghost use Rattle.protect_meta.specs.Table.{meta_at, domains_of};
 ghost use Rattle.cloak_pager.specs.State.{IsFresh, held_in};
 ghost use Rattle.cloak_pager.specs.Turns.{MetasTurn};
 ghost use Rattle.cloaked_side.specs.Holding.{SameSize, domains_in};
-ghost use Rattle.joint_machine.specs.Filing.{AddsTo, AreFreeUnshown, IsNewFile, KeepsOthers, StandsContinued, StandFiled, Differs};
+ghost use Rattle.joint_machine.specs.Filing.{AddsTo, AreFreeUnshown, IsNewFile, KeepsOtherPages, StandsContinued, StandFiled, AreTwoFiles};
 ghost use Rattle.joint_machine.specs.Programs.{AreNumbered};
 ghost use Rattle.joint_machine.specs.Standing.{AreDomains};
 
@@ -40,7 +40,7 @@ fn restore_pages(pager: &mut Pager, domain: u32, resource: u32, files: &FileTabl
     requires domain { domain < domains_of pager.old.table }
     requires resource { resource < 16 }
     requires fresh { (q : AnyPage) → q.domain ≡ domain → q.resource ≡ resource → IsFresh pager.old q }
-    ensures others { KeepsOthers domain resource pager.old pager.new }
+    ensures others { KeepsOtherPages domain resource pager.old pager.new }
     ensures go_on { StandFiled pager.old pager.new domain resource (file_at files.now file).pages }
 {
     let (_, _, pages) = files.file(file);
@@ -72,7 +72,7 @@ fn add_file(
     ensures outside { (k : ℕ) → held_in memory.new.pager k ≡ None }
     ensures numbered { AreNumbered domains.old → AreNumbered domains.new }
     ensures unshown { AreFreeUnshown domains.new memory.new.pager }
-    ensures others { (f : StoredFile) → Differs (file_at files.now file) f → IsNewFile domains.old f →
+    ensures others { (f : StoredFile) → AreTwoFiles (file_at files.now file) f → IsNewFile domains.old f →
         IsNewFile domains.new f }
     ensures shadows { memory.new.shadows ≡ memory.old.shadows }
     ensures adds { (f : FileContents) (j : parts.Joint) → file_at files.now file ≡ stored_file f →

@@ -6,9 +6,9 @@ ghost use Rattle.cloak_model.specs.Leaving as spec;
 ghost use Rattle.cloak_model.specs.Parts as model;
 ghost use Rattle.cloak_model.specs.World.{World, items_of, violation_of};
 ghost use Rattle.cloak_model.specs.declared.item.Item.TheVariants as item;
-ghost use Rattle.joint_machine.specs.Turning.{AreRoots, GoesOn, IsSameButMarks, Unmarks};
+ghost use Rattle.joint_machine.specs.Turning.{AreRoots, IsCarriedOut, IsSameButMarks, Unmarks};
 
-use crate::stepping::Stepped;
+use crate::stepping::SteppedProgram;
 use cloak_base::{Shown, SpaceId, Violation};
 use cloak_model::{Emit, Item, Went};
 use cloaked_side::Memory;
@@ -53,7 +53,7 @@ pub fn go_on<E: Emit>(
     number: u32,
     domain: u32,
     roots: &mut Roots,
-    stepped: &Stepped,
+    stepped: &SteppedProgram,
     memory: &mut Memory,
     e: &mut E,
 ) -> Option<Violation>
@@ -62,7 +62,7 @@ pub fn go_on<E: Emit>(
     ensures same { IsSameButMarks memory.old memory.new }
     ensures goes_on { (j : model.Joint) (w : World) → stepped.now.violation ≡ violation_of w →
         AreRoots roots.old j.memory.ledger.root →
-        GoesOn E.gave e.old e.new h.new roots.new memory.old memory.new result j number (items_of w)
+        IsCarriedOut E.gave e.old e.new h.new roots.new memory.old memory.new result j number (items_of w)
         (domain_ended j number h.old domain w stepped.now.went) }
 {
     match &stepped.went {

@@ -20,13 +20,13 @@ ghost use Rattle.space_law.specs.Mapping.{mapped_in, page_of};
 ghost use Rattle.hypercalls.specs.Standing.{StandsFor, control_of, number_of};
 ghost use Rattle.joint_machine.specs.Turning.{AreRoots, HoldsNoFree, HoldsNoOthers, InterruptsIn, TurnsIn, Unmarks, running_in};
 
-use crate::ended::Ended;
+use crate::ended_step::EndedStep;
 use crate::going::{go_on, leave_context, leave_stopped};
 use crate::joint::Joint;
-use crate::stepping::{Stepped, step_domain};
+use crate::stepping::{SteppedProgram, step_domain};
 use cloak_base::{SpaceId, Violation};
 use cloak_model::{Emit, Item, Went};
-use cloaked_side::{KeptItems, Memory, regime_of};
+use cloaked_side::{KeptPut, Memory, regime_of};
 use host_calls::{Hart, tick};
 use hypercalls::Domain;
 use thread_context::Roots;
@@ -103,7 +103,7 @@ fn step_context<E: Emit>(
     domain: &mut Domain,
     roots: &mut Roots,
     memory: &mut Memory,
-    items: &mut KeptItems,
+    items: &mut KeptPut,
     e: &mut E,
 ) -> Option<Violation>
     requires few { d < 4 }
@@ -144,7 +144,7 @@ fn step_context<E: Emit>(
         domain: d as u32,
         number: space,
     };
-    let mut stepped = Stepped {
+    let mut stepped = SteppedProgram {
         went: Went::Stay,
         violation: None,
     };
@@ -162,7 +162,7 @@ impl Joint {
 
     /// Makes the step of a hart inside this context: its timer falls. If the context does not run on it, it leaves with
     /// cause 24. Otherwise the context leaves for the interrupt that is due, or makes a step.
-    pub(crate) fn inside<E: Emit>(&mut self, number: usize, ctx: u32, e: &mut E) -> Ended
+    pub(crate) fn inside<E: Emit>(&mut self, number: usize, ctx: u32, e: &mut E) -> EndedStep
         requires { number < harts_of self.old }
         ensures harts { harts_of self.new ≡ harts_of self.old }
         ensures emits_some { EmitsSome E.gave e.old e.new }
@@ -186,11 +186,11 @@ impl Joint {
         tick(h);
         let Some(space) = running_space(&self.domains, number, ctx) else {
             leave_stopped(h, number as u32, ctx, &mut self.memory, e);
-            return Ended::met(None);
+            return EndedStep::met(None);
         };
         let d = (ctx / 8) as usize;
         let domain = &mut self.domains[d];
-        Ended::met(step_context(
+        EndedStep::met(step_context(
             h,
             number as u32,
             d as u8,

@@ -13,7 +13,7 @@
 
 mod closing;
 mod drawing;
-mod ended;
+mod ended_step;
 mod ending;
 mod filing;
 mod freezing;

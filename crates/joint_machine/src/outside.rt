@@ -8,7 +8,7 @@ ghost use Rattle.cloak_model.specs.Parts as parts;
 ghost use Rattle.cloaked_side.specs.Tracking.{GoesBy};
 ghost use Rattle.shadow_fold.specs.Events as events;
 
-use crate::ended::Ended;
+use crate::ended_step::EndedStep;
 use crate::joint::Joint;
 use cloak_model::Emit;
 use cloaked_side::outside_step;
@@ -40,7 +40,7 @@ impl Joint {
     }
 
     /// Makes the step of a hart outside: its plain step, which may resume a context.
-    pub(crate) fn outside<E: Emit>(&mut self, number: usize, e: &mut E) -> Ended
+    pub(crate) fn outside<E: Emit>(&mut self, number: usize, e: &mut E) -> EndedStep
         requires { number < harts_of self.old }
         ensures harts { harts_of self.new ≡ harts_of self.old }
         ensures emits_some { EmitsSome E.gave e.old e.new }
@@ -51,19 +51,19 @@ impl Joint {
             GoesBy self.old.memory self.new.memory (events.asked_outside j (hart_in j number)) }
     {
         match self.step_plainly(number, e) {
-            Kernel::Stay => Ended::met(None),
-            Kernel::Trapped => Ended::met(None),
-            Kernel::Put(b) => Ended {
+            Kernel::Stay => EndedStep::met(None),
+            Kernel::Trapped => EndedStep::met(None),
+            Kernel::Put(b) => EndedStep {
                 console: Some(b),
                 violation: None,
                 halt: None,
             },
-            Kernel::Halt(value) => Ended {
+            Kernel::Halt(value) => EndedStep {
                 console: None,
                 violation: None,
                 halt: Some(value),
             },
-            Kernel::Resume { ctx, answer } => Ended::met(self.resume(number, ctx, answer, e)),
+            Kernel::Resume { ctx, answer } => EndedStep::met(self.resume(number, ctx, answer, e)),
         }
     }
 }

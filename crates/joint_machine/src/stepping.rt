@@ -13,12 +13,12 @@ ghost use Rattle.joint_machine.specs.Turning.{HoldsNoFree, HoldsNoOthers, StepsD
 
 use cloak_base::{Frame, SpaceId, Violation};
 use cloak_model::{Emit, InsideRegime, Went};
-use cloaked_side::{KeptItems, Memory, Side};
+use cloaked_side::{KeptPut, Memory, Side};
 use hypercalls::Domain;
 
 /// How the step of a program ended.
 #[derive(Clone, Copy)]
-pub struct Stepped {
+pub struct SteppedProgram {
     pub went: Went,
     /// What the kernel presented in place of what is recorded.
     pub violation: Option<Violation>,
@@ -43,9 +43,9 @@ pub fn step_domain<E: Emit>(
     regime: InsideRegime,
     space: SpaceId,
     memory: &mut Memory,
-    items: &mut KeptItems,
+    items: &mut KeptPut,
     e: &mut E,
-    stepped: &mut Stepped,
+    stepped: &mut SteppedProgram,
 )
     requires staying { stepped.old ≡ record { went = Went.Stay; violation = None } }
     requires runs { IsSome (context_at (control_of domain.old).contexts slot) }

@@ -38,7 +38,7 @@ use crate::thaw_fault::ThawFault;
 use cloak_base::{Frame, Meta, NoMemory, PageId, SpaceId, Violation};
 use cloak_model::{Bundle, has_bit};
 use cloak_pager::Pager;
-use cloaked_side::{KeptItems, Memory};
+use cloaked_side::{KeptPut, Memory};
 use frozen_state::{Frozen, FrozenDomain, FrozenFrame, FrozenHart, FrozenPage};
 use host_calls::{Disk, Hart, Reservations};
 use hypercalls::Domain;
@@ -480,7 +480,7 @@ fn thaw_under(
         domains,
         roots,
         disk: Disk::of(disk.into_vec()),
-        items: KeptItems::new(),
+        items: KeptPut::new(),
         ended,
         refused,
     })

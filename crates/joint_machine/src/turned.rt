@@ -7,7 +7,7 @@ ghost use Rattle.joint_machine.specs.Mapping.{MakesIn};
 ghost use Rattle.space_law.specs.Mapping.{mapped_in};
 ghost use Rattle.shadow_fold.specs.Events.{asked_of, asked_with_end};
 
-use crate::ended::Ended;
+use crate::ended_step::EndedStep;
 use crate::joint::Joint;
 use cloak_base::Stop;
 use cloak_model::Emit;
@@ -27,7 +27,7 @@ impl Joint {
 
     /// Makes the next step of a hart, by the context that it is inside, but for the end of a domain.
     #[inline(always)]
-    fn step<E: Emit>(&mut self, number: usize, e: &mut E) -> Ended
+    fn step<E: Emit>(&mut self, number: usize, e: &mut E) -> EndedStep
         requires { number < harts_of self.old }
         ensures harts { harts_of self.new ≡ harts_of self.old }
         ensures emits_some { EmitsSome E.gave e.old e.new }

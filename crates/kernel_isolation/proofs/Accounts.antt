@@ -1,27 +1,27 @@
 -- What a program's questions write into the exchange accounts for RAM: it is then what the items say.
-use Rattle.std.proofs.Common.{◌≡◌, ◌∙◌, ℕ, zero, suc, ◌+◌, ◌*◌, ◌%◌, ◌^◌, Bool, true, false, cond, List, [], ◌∷◌, ◌++◌, length, Result, Ok, Err, refl, sym, ap, append_assoc}
+use Rattle.std.proofs.Common.{◌≡◌, ◌∙◌, ℕ, ◌+◌, ◌*◌, ◌%◌, ◌^◌, Bool, true, false, List, [], ◌∷◌, ◌++◌, length, Result, Ok, Err, refl, sym, ap, append_assoc}
 use Rattle.std.specs.Prelude.{◌==◌}
 use Rattle.std.proofs.lemmas.Bool.{false≢true, and_from}
 use Rattle.std.proofs.lemmas.List.{append-nil, length-set}
-use Rattle.cloak_base.specs.declared.names.Kind.{Kind}
-use Rattle.cloak_base.specs.declared.names.Kind.TheVariants.{Load, Store}
+use Rattle.cloak_base.specs.declared.names.Kind.TheVariants.{Store}
 use Rattle.cloak_base.specs.declared.names.PageId.{PageId}
 use Rattle.cloak_model.specs.declared.access.Access.{Access}
 use Rattle.cloak_model.specs.declared.answer.Answer.{Answer}
 use Rattle.cloak_model.specs.declared.answer.Answer.TheVariants as answer
 use Rattle.cloak_model.specs.declared.item.Item.{Item}
 use Rattle.cloak_model.specs.declared.item.Item.TheVariants as item
-use Rattle.cloak_model.specs.Ask.{ask_word, ask_second, ask_after, ask_first, ask_walk, ask_inside, ask_translate, ask_led, opened}
-use Rattle.cloak_model.specs.AskPages.{answer_item, is_store, replies, if_drawn, ask_inside_address, offered_by, ask_offer, reached, reach_by_table, get_at, got, get_by_table, put_at, stored_inside, put_by_table, settled_if_marked, clear_from, ask_reach, ask_read, ask_write, ask_get, ask_put, ask_clear, ask_copy, ask_forget}
-use Rattle.cloak_model.specs.Asking.{Told, Asking}
-use Rattle.cloak_model.specs.Cloaking.{Offer, Ready, Mismatch, Missed, offer, settle, seen_in}
+use Rattle.cloak_model.specs.Ask.{opened}
+use Rattle.cloak_model.specs.AskPages.{answer_item, replies, if_drawn, ask_inside_address, put_at, stored_inside, put_by_table, ask_write, ask_put, ask_copy, ask_forget}
+use Rattle.cloak_model.specs.Asking.{Told}
+use Rattle.cloak_model.specs.Cloaking.{offer, settle, seen_in}
 use Rattle.cloak_model.specs.Effect.{IsWidth}
 use Rattle.cloak_model.specs.Events.{Event}
 use Rattle.cloak_base.specs.Constants.{frame_of}
 use Rattle.cloak_model.specs.Memory.{is_in_ram, Seen, stored}
 use Rattle.cloak_model.specs.PageMoves.{copy_pages, drop_pages}
-use Rattle.cloak_model.specs.Walk.{Walk, FirstWord, Ends, GoesOn, first_entry}
 use Rattle.cloak_model.specs.World.{World, Cloak, Flat, Cloaked, Alone, Handed, ram_of, seen_of, owed_of, items_of, noted, settled, cipher_items}
+use Rattle.script_fold.proofs.ByQuestions.{StepKept}
+use Rattle.script_fold.proofs.Questions.{Opens, Replies, opens_by, keeps_drawn, keeps_inside_address}
 use Rattle.kernel_isolation.proofs.Items.{AreWithin, with_items, with_items-append, length-with_items, within_stays, within-append, ciphers_within, with_ciphers}
 use Rattle.kernel_isolation.proofs.Settlings.{ShownBy, settle_shown, offer_shown}
 use Rattle.kernel_isolation.proofs.Leading.{LeadsInside, leads_inside, low_bytes_stored, is_aligned}
@@ -47,7 +47,7 @@ pub record Account (w v : World) : Type 0 where
 pub record Accounts (w v : World) : Type 0 where
   pub by : IsJointWorld w → Account w v
 
-pub Accounts-refl : (w : World) → Accounts w w
+Accounts-refl : (w : World) → Accounts w w
 Accounts-refl w = record {
   by = λ joint. record {
     items = [];
@@ -82,15 +82,10 @@ Account-trans u v w p q = record {
   joint = q.joint;
 }
 
-pub Accounts-trans : (u v w : World) → Accounts u v → Accounts v w → Accounts u w
+Accounts-trans : (u v w : World) → Accounts u v → Accounts v w → Accounts u w
 Accounts-trans u v w p q = record {
   by = λ joint. let first = p.by joint in Account-trans u v w first (q.by first.joint);
 }
-
-pub Accounts-either : {A : Type 0} (b : Bool) (m n : Told A) (w : World) → Accounts w m.world → Accounts w n.world →
-    Accounts w (cond b m n).world
-Accounts-either true m n w p q = p
-Accounts-either false m n w p q = q
 
 -- nothing must be said of any other world
 no_flat : (ram : Seen) (v : World) → Accounts (Flat ram) v
@@ -128,7 +123,7 @@ shown_account c c' ciphers items shown = record {
 
 -- Memory.
 
-pub Accounts-settled : (f : ℕ) (w : World) → Accounts w (settled f w)
+Accounts-settled : (f : ℕ) (w : World) → Accounts w (settled f w)
 Accounts-settled f (Flat ram) = no_flat ram _
 Accounts-settled f (Cloaked c) = record {
   by = λ joint. shown_account c _ (settle f c.memory).ciphers refl (settle_shown f c.memory joint.places);
@@ -136,47 +131,15 @@ Accounts-settled f (Cloaked c) = record {
 Accounts-settled f (Alone h) = no_alone h _
 
 -- events are no part of what is accounted for
-pub Accounts-noted : (events : List Event) (w : World) → Accounts w (noted events w)
+Accounts-noted : (events : List Event) (w : World) → Accounts w (noted events w)
 Accounts-noted events (Flat ram) = no_flat ram _
 Accounts-noted events (Cloaked c) = same_account c _ refl refl refl
 Accounts-noted events (Alone h) = no_alone h _
 
-Accounts-opened : (satp : ℕ) (a : Access) (pa : ℕ) (w : World) → Accounts w (opened satp a pa w)
-Accounts-opened satp a pa w = Accounts-trans _ _ _ (Accounts-settled (frame_of pa) w) (Accounts-noted _ _)
-
-accounts_word : (pa : ℕ) (w : World) → Accounts w (ask_word pa w).world
-unfolding ask_word
-accounts_word pa w = Accounts-either _ _ _ w (Accounts-settled (frame_of pa) w) (Accounts-refl w)
-
-accounts_second : (a : Access) (at1 at0 : ℕ) (w : World) → Accounts w (ask_second a at1 at0 w).world
-unfolding ask_second
-accounts_second a at1 at0 w = accounts_word at0 w
-
-accounts_after : (a : Access) (at1 : ℕ) (word : FirstWord) (w : World) → Accounts w (ask_after a at1 word w).world
-unfolding ask_after
-accounts_after a at1 (Ends walk) w = Accounts-refl w
-accounts_after a at1 (GoesOn at0) w = accounts_second a at1 at0 w
-
-accounts_first : (a : Access) (at1 : ℕ) (w : World) → Accounts w (ask_first a at1 w).world
-unfolding ask_first
-accounts_first a at1 w = Accounts-trans _ _ _ (accounts_word at1 w) (accounts_after a at1 _ _)
-
-accounts_walk : (satp : ℕ) (a : Access) (w : World) → Accounts w (ask_walk satp a w).world
-unfolding ask_walk
-accounts_walk satp a w = Accounts-either _ _ _ w (accounts_first a (first_entry satp a.va) w) (Accounts-refl w)
-
-accounts_inside : (a : Access) (walk : Walk) (w : World) → Accounts w (ask_inside a walk w).world
-unfolding ask_inside
-accounts_inside a (Err cause) w = Accounts-refl w
-accounts_inside a (Ok walked) w = Accounts-refl w
-
-accounts_translate : (satp : ℕ) (a : Access) (w : World) → Accounts w (ask_translate satp a w).world
-unfolding ask_translate
-accounts_translate satp a w = Accounts-trans _ _ _ (accounts_walk satp a w) (accounts_inside a _ _)
-
-accounts_led : (satp : ℕ) (a : Access) (w : World) → Accounts w (ask_led satp a w).world
-unfolding ask_led
-accounts_led satp a w = Accounts-trans _ _ _ (Accounts-noted _ w) (accounts_translate satp a _)
+account_opens : Opens Accounts
+account_opens =
+    opens_by Accounts (record { same = Accounts-refl; chained = Accounts-trans; settled = Accounts-settled })
+    Accounts-noted
 
 -- Answers.
 
@@ -225,23 +188,13 @@ accounts_replies a (Flat ram) = no_flat ram _
 accounts_replies a (Cloaked c) = inward_account c c.regime.domain a
 accounts_replies a (Alone h) = no_alone h _
 
-accounts_drawn : (ask : Asking Answer) (w : World) → Accounts w (ask w).world → Accounts w (if_drawn ask w).world
-unfolding if_drawn
-accounts_drawn ask w next = Accounts-either _ _ _ w (accounts_replies _ w) next
-
-accounts_inside_address : (va : ℕ) (kind : Kind) (w : World) → Accounts w (ask_inside_address va kind w).world
-unfolding ask_inside_address
-accounts_inside_address va kind w = accounts_led _ _ w
-
-accounts_offered : (q : PageId) (va : ℕ) (kind : Kind) (g : ℕ) (o : Offer) (w : World) →
-    Accounts w (offered_by q va kind g o w).world
-unfolding offered_by
-accounts_offered q va kind g Ready w = Accounts-trans _ _ _ (Accounts-noted _ w) (accounts_replies _ _)
-accounts_offered q va kind g Missed w = accounts_replies _ w
-accounts_offered q va kind g Mismatch (Flat ram) = no_flat ram _
-accounts_offered q va kind g Mismatch (Cloaked c) =
-    Accounts-trans _ (Cloaked _) _ (same_account c _ refl refl refl) (accounts_replies _ _)
-accounts_offered q va kind g Mismatch (Alone h) = no_alone h _
+account_replies : Replies Accounts
+account_replies = record {
+  opens = account_opens;
+  replied = accounts_replies;
+  told = λ h rest. no_alone h _;
+  unfit = λ h. no_alone h _;
+}
 
 offer_account : (q : PageId) (g : ℕ) (write : Bool) (events : List Event) (c : Cloak) →
     let o = offer q g write c.memory in
@@ -250,41 +203,6 @@ offer_account : (q : PageId) (g : ℕ) (write : Bool) (events : List Event) (c :
 offer_account q g write events c = record {
   by = λ joint. shown_account c _ (offer q g write c.memory).ciphers refl (offer_shown q g write c.memory joint.places);
 }
-
-accounts_offer : (q : PageId) (va : ℕ) (kind : Kind) (g : ℕ) (w : World) →
-    Accounts w (ask_offer q va kind g w).world
-unfolding ask_offer
-accounts_offer q va kind g (Flat ram) = no_flat ram _
-accounts_offer q va kind g (Cloaked c) =
-    Accounts-trans _ (Cloaked _) _ (offer_account q g (is_store kind) _ c) (accounts_offered q va kind g _ _)
-accounts_offer q va kind g (Alone h) = no_alone h _
-
-accounts_reached : (q : PageId) (va : ℕ) (kind : Kind) (to : Result ℕ ℕ) (w : World) →
-    Accounts w (reached q va kind to w).world
-unfolding reached
-accounts_reached q va kind (Err cause) w = accounts_replies _ w
-accounts_reached q va kind (Ok pa) w = accounts_offer q va kind _ w
-
-accounts_reach_by_table : (q : PageId) (va : ℕ) (kind : Kind) (w : World) →
-    Accounts w (reach_by_table q va kind w).world
-unfolding reach_by_table
-accounts_reach_by_table q va kind w =
-    Accounts-trans _ _ _ (accounts_inside_address va kind w) (accounts_drawn _ _ (accounts_reached q va kind _ _))
-
-accounts_get_at : (pa width : ℕ) (w : World) → Accounts w (get_at pa width w).world
-unfolding get_at
-accounts_get_at pa width w = Accounts-trans _ _ _ (Accounts-noted _ w) (accounts_replies _ _)
-
-accounts_got : (va width : ℕ) (to : Result ℕ ℕ) (w : World) → Accounts w (got va width to w).world
-unfolding got
-accounts_got va width (Err cause) w = accounts_replies _ w
-accounts_got va width (Ok pa) w =
-    Accounts-trans _ _ _ (Accounts-opened _ _ pa w) (accounts_drawn _ _ (accounts_get_at pa width _))
-
-accounts_get_by_table : (va width : ℕ) (w : World) → Accounts w (get_by_table va width w).world
-unfolding get_by_table
-accounts_get_by_table va width w =
-    Accounts-trans _ _ _ (accounts_inside_address va Load w) (accounts_drawn _ _ (accounts_got va width _ _))
 
 -- Stores.
 
@@ -318,10 +236,10 @@ opened_put : (satp : ℕ) (a : Access) (pa width value : ℕ) (w : World) → is
 opened_put satp a pa width value w inside aligned is = record {
   by = λ joint.
       let v : World = opened satp a pa w in
-      let first = Accounts-opened satp a pa w in
+      let first = account_opens.opened satp a pa w in
       let count = length-account w v (first.by joint) in
       let inside' : is_in_ram (ram_of v) pa ≡ true = rw count inside in
-      (Accounts-trans w v _ first (accounts_drawn _ v (accounts_put_at pa width value v inside' aligned is))).by joint;
+      (Accounts-trans w v _ first (keeps_drawn Accounts account_replies _ v (accounts_put_at pa width value v inside' aligned is))).by joint;
 }
 
 accounts_stored : (va width value : ℕ) (told : Told (Result ℕ ℕ)) → LeadsInside va told → va % width ≡ 0 →
@@ -341,73 +259,47 @@ accounts_put_by_table : (va width value : ℕ) (w : World) → va % width ≡ 0 
 unfolding put_by_table
 accounts_put_by_table va width value w at is =
     let told = ask_inside_address va Store w in
-    Accounts-trans w told.world _ (accounts_inside_address va Store w)
-    (accounts_drawn _ told.world (accounts_stored va width value told (leads_inside va Store w) at is))
+    Accounts-trans w told.world _ (keeps_inside_address Accounts account_opens va Store w)
+    (keeps_drawn Accounts account_replies _ told.world (accounts_stored va width value told (leads_inside va Store w) at is))
 
--- Resources as wholes.
+-- What a program stores elsewhere, and changes of its own pages.
 
-either_world : (b : Bool) (w v : World) → Accounts w v → Accounts w (cond b v w)
-either_world true w v later = later
-either_world false w v later = Accounts-refl w
-
-accounts_if_marked : (domain : ℕ) (marked : List Bool) (f : ℕ) (w : World) →
-    Accounts w (settled_if_marked domain marked f w)
-unfolding settled_if_marked
-accounts_if_marked domain marked f w = either_world _ w (settled f w) (Accounts-settled f w)
-
-accounts_clear_from : (domain : ℕ) (marked : List Bool) (f n : ℕ) (w : World) →
-    Accounts w (clear_from domain marked f n w).world
-unfolding clear_from
-accounts_clear_from domain marked f zero w = accounts_replies _ w
-accounts_clear_from domain marked f (suc n) w =
-    Accounts-trans _ _ _ (accounts_if_marked domain marked f w)
-    (accounts_drawn _ _ (accounts_clear_from domain marked (f + 1) n _))
-
--- The questions.
-
-pub accounts_reach : (q : PageId) (va : ℕ) (kind : Kind) (w : World) → Accounts w (ask_reach q va kind w).world
-unfolding ask_reach
-accounts_reach q va kind (Flat ram) = no_flat ram _
-accounts_reach q va kind (Cloaked c) = accounts_reach_by_table q va kind (Cloaked c)
-accounts_reach q va kind (Alone h) = no_alone h _
-
-pub accounts_read : (q : PageId) (at width : ℕ) (w : World) → Accounts w (ask_read q at width w).world
-unfolding ask_read
-accounts_read q at width w = Accounts-refl w
-
-pub accounts_write : (q : PageId) (at width value : ℕ) (w : World) → Accounts w (ask_write q at width value w).world
+accounts_write : (q : PageId) (at width value : ℕ) (w : World) → Accounts w (ask_write q at width value w).world
 unfolding ask_write
 accounts_write q at width value (Flat ram) = no_flat ram _
 accounts_write q at width value (Cloaked c) = same_account c _ refl refl refl
 accounts_write q at width value (Alone h) = no_alone h _
 
-pub accounts_get : (va width : ℕ) (w : World) → Accounts w (ask_get va width w).world
-unfolding ask_get
-accounts_get va width (Flat ram) = no_flat ram _
-accounts_get va width (Cloaked c) = accounts_get_by_table va width (Cloaked c)
-accounts_get va width (Alone h) = no_alone h _
-
-pub accounts_put : (va width value : ℕ) (w : World) → va % width ≡ 0 → IsWidth width →
+accounts_put : (va width value : ℕ) (w : World) → va % width ≡ 0 → IsWidth width →
     Accounts w (ask_put va width value w).world
 unfolding ask_put
 accounts_put va width value (Flat ram) at is = no_flat ram _
 accounts_put va width value (Cloaked c) at is = accounts_put_by_table va width value (Cloaked c) at is
 accounts_put va width value (Alone h) at is = no_alone h _
 
-pub accounts_clear : (domain : ℕ) (marked : List Bool) (w : World) → Accounts w (ask_clear domain marked w).world
-unfolding ask_clear
-accounts_clear domain marked (Flat ram) = no_flat ram _
-accounts_clear domain marked (Cloaked c) = accounts_clear_from domain marked 0 (length c.memory.ram) (Cloaked c)
-accounts_clear domain marked (Alone h) = no_alone h _
-
-pub accounts_copy : (domain from to : ℕ) (w : World) → Accounts w (ask_copy domain from to w).world
+accounts_copy : (domain from to : ℕ) (w : World) → Accounts w (ask_copy domain from to w).world
 unfolding ask_copy copy_pages
 accounts_copy domain from to (Flat ram) = no_flat ram _
 accounts_copy domain from to (Cloaked c) = same_account c _ refl refl refl
 accounts_copy domain from to (Alone h) = no_alone h _
 
-pub accounts_forget : (domain resource : ℕ) (w : World) → Accounts w (ask_forget domain resource w).world
+accounts_forget : (domain resource : ℕ) (w : World) → Accounts w (ask_forget domain resource w).world
 unfolding ask_forget drop_pages
 accounts_forget domain resource (Flat ram) = no_flat ram _
 accounts_forget domain resource (Cloaked c) = same_account c _ refl refl refl
 accounts_forget domain resource (Alone h) = no_alone h _
+
+-- all that a step of a program asks
+pub account_step : (d : ℕ) → StepKept d Accounts
+account_step d = record {
+  replies = account_replies;
+  offers = λ q own va. record {
+    offered = λ g write c. offer_account q g write _ c;
+    granted = λ kind w. Accounts-noted _ w;
+    mismatched = λ g c. same_account c _ refl refl refl;
+  };
+  puts = λ va width value at w. accounts_put va width value w at.0 at.1;
+  writes = accounts_write;
+  copies = accounts_copy;
+  forgets = accounts_forget;
+}

@@ -7,8 +7,6 @@ pub mod Items
 pub mod InsideSteps
 pub mod Leading
 pub mod Accounts
-pub mod InstructionAccounts
-pub mod CopyAccounts
 pub mod StepAccounts
 pub mod Numbers
 pub mod Markers

@@ -37,7 +37,7 @@ use Rattle.cloak_model.specs.Resuming.{violated}
 use Rattle.cloak_model.specs.Touched.{touched}
 use Rattle.settling_ahead.proofs.Laws.{settles_all}
 use Rattle.settling_ahead.proofs.Touching.{reads_touched_alone, writes_touched_alone}
-use Rattle.settling_ahead.specs.Touching.{Agrees}
+use Rattle.settling_ahead.specs.Touching.{AgreesIn}
 use Rattle.kernel_isolation.proofs.Between.{KernelStepIsAlone, hart_behind}
 use Rattle.kernel_isolation.proofs.Shown.{AreFrames, frames_stay}
 use Rattle.kernel_isolation.proofs.OutsideSteps.{AreInward, HaltsAsStops, shown_part, plain_told, plain_part, outside_step_is_alone}
@@ -239,7 +239,7 @@ refused_later j number s ctx reply c r owed =
     let before : Seen = seen_in s.memory in
     let later : Seen = with_shown c before in
     let apart : Seen = marked before.marks later in
-    let agrees : Agrees (touched h before.ram j.disk) before apart = record {
+    let agrees : AgreesIn (touched h before.ram j.disk) before apart = record {
       count = length-with_shown c before;
       same = λ f there. with_shown-apart s.memory c before f
           (find_none (is_owed s.memory) (touched h before.ram j.disk) f r.paid there) owed;

@@ -19,8 +19,9 @@ use Rattle.cloak_model.specs.Halves.{inward_half}
 use Rattle.cloak_model.specs.Memory.{value_in, with_value_in}
 use Rattle.cloak_model.specs.Resources.{page_at}
 use Rattle.cloak_model.specs.World.{World, plain_of}
-use Rattle.domain_isolation.proofs.Scripts.{Reach, Get, Put, asked}
-use Rattle.domain_isolation.proofs.InstructionScripts.{IsOwn, own_page}
+use Rattle.script_fold.proofs.Aligned.{byte_aligned}
+use Rattle.script_fold.proofs.Scripts.{Reach, Get, Put, asked}
+use Rattle.script_fold.proofs.InstructionScripts.{IsOwn, own_page}
 use Rattle.latest_store.specs.Moves.{Move, Loads}
 use Rattle.latest_store.specs.Deeds.{load_at, byte_moves, phase_moves, context_moves}
 use Rattle.latest_store.proofs.Moved.{Agrees}
@@ -65,7 +66,7 @@ unfolding in_reached ask_read copy_ended
 in_reached_did slot d plain c q done told.Ok w heard =
     let at = byte_address (buffer c) done % 4096 in
     let byte : ℕ = value_in (plain_of w q) at 1 in
-    let question = Put (byte_address (area c) done) 1 byte in
+    let question = Put (byte_address (area c) done) 1 byte (byte_aligned (byte_address (area c) done)) in
     in_put_did slot d plain c q done byte (asked question w).answer (asked question w).world
     (ap (λ (p : PageId → List ℕ). value_in (p q) at 1) heard.pages)
     (heard_asked d.control.number plain (item.Ok d.control.number ∷ []) question w heard)

@@ -13,7 +13,7 @@ use Rattle.cloak_model.specs.Asking.{Told}
 use Rattle.cloak_model.specs.AskPages.{answer_item}
 use Rattle.cloak_model.specs.DomainState.{Domain}
 use Rattle.cloak_model.specs.DomainStep.{DomainStepped, after_write}
-use Rattle.domain_isolation.proofs.Scripts.{Question, asked}
+use Rattle.script_fold.proofs.Scripts.{Question, asked}
 use Rattle.domain_isolation.proofs.Steady.{is_cloaked}
 use Rattle.domain_isolation.proofs.Answers.{question_answered}
 use Rattle.latest_store.specs.Moves.{Move}

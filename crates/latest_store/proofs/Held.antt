@@ -21,7 +21,9 @@ use Rattle.cloak_model.specs.Opening.{numbers_below}
 use Rattle.cloak_model.specs.Parts.{Joint}
 use Rattle.cloak_model.specs.Resources.{Resources}
 use Rattle.cloak_model.specs.World.{World, Cloaked, items_of}
-use Rattle.domain_isolation.proofs.Endings.{end_world, end_leaves, steady_for}
+use Rattle.domain_isolation.proofs.Endings.{end_world, end_leaves}
+use Rattle.domain_isolation.proofs.Steady.{Steady, steady_opens}
+use Rattle.script_fold.proofs.Endings.{keeps_settled_for}
 use Rattle.domain_isolation.proofs.InOrder.{decided}
 use Rattle.kernel_isolation.proofs.Numbers.{AreFrom}
 use Rattle.page_law.specs.OwnPages.{is_end_of, ends_in}
@@ -133,7 +135,7 @@ unfolding ask_end
 end_pages e m =
     let w : World = Cloaked (cloak_for m e) in
     let v = settled_for e 0 (length m.ram) w in
-    let s = steady_for e 0 (length m.ram) w in
+    let s = keeps_settled_for Steady steady_opens.settles e 0 (length m.ram) w in
     sym (memory_plain (end_world e m) m (end_leaves e m).form)
     ∙ (drops_made e (numbers_below 16) v s.form).pages
     ∙ ap (moved_by (dropped e)) s.plain

@@ -25,7 +25,7 @@ use Rattle.cloak_model.specs.Hypercalls.{Stepped, with_spaces, remapped, new_cal
 use Rattle.cloak_model.specs.PageMoves.{copy_pages, drop_pages}
 use Rattle.cloak_model.specs.Resources.{Resources, first_free, new_resource}
 use Rattle.cloak_model.specs.World.{World, Flat, Cloaked, Alone, plain_of, items_of}
-use Rattle.domain_isolation.proofs.Scripts.{Clear, asked}
+use Rattle.script_fold.proofs.Scripts.{Clear, asked}
 use Rattle.domain_isolation.proofs.Steady.{is_cloaked}
 use Rattle.latest_store.specs.Moves.{Move, Copies, Drops}
 use Rattle.latest_store.specs.Deeds.{made_moves, file_moves, hypercall_moves}

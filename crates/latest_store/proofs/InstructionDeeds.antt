@@ -32,8 +32,9 @@ use Rattle.cloak_model.specs.KernelStep.{atomic_kind, misaligned}
 use Rattle.cloak_model.specs.Memory.{value_in, with_value_in}
 use Rattle.cloak_model.specs.Resources.{page_at}
 use Rattle.cloak_model.specs.World.{World, plain_of}
-use Rattle.domain_isolation.proofs.Scripts.{Reach, Get, Put, asked}
-use Rattle.domain_isolation.proofs.InstructionScripts.{IsOwn, own_page}
+use Rattle.script_fold.proofs.Aligned.{IsAligned, StoresAligned, effect_aligned}
+use Rattle.script_fold.proofs.Scripts.{Reach, Get, Put, asked}
+use Rattle.script_fold.proofs.InstructionScripts.{IsOwn, own_page}
 use Rattle.latest_store.specs.Moves.{Move, Stores, Loads, latest_value}
 use Rattle.latest_store.specs.Deeds.{load_at, store_at, atomic_at, ecall_moves, effect_moves, atomic_moves, word_moves, fetched_moves}
 use Rattle.latest_store.proofs.Values.{read_value}
@@ -136,16 +137,16 @@ store_put_did slot d plain c va (told.Word value) w heard = quiet _ _ _ _ _ w he
 store_put_did slot d plain c va told.Stopped w heard = quiet _ _ _ _ _ w heard refl refl (follows_same _)
 
 store_did : (slot : ℕ) (d : Domain) (plain : PageId → List ℕ) (c : Context) (va width value : ℕ)
-    (place : Option PageId) (w : World) → IsOwn d.control.number place →
+    (place : Option PageId) (w : World) → IsAligned va width → IsOwn d.control.number place →
     (MapsHeld d.control.resources → HeldPlace d.control.resources place) →
     Heard d.control.number plain (item.Ok d.control.number ∷ []) w →
     DoesIf slot d plain (if_granted (store_at va width value place)) (store_inside c va width value place) w
 unfolding store_inside
-store_did slot d plain c va width value None w own held heard =
-    let question = Put va width value in
+store_did slot d plain c va width value None w at own held heard =
+    let question = Put va width value at in
     store_put_did slot d plain c va (asked question w).answer (asked question w).world
     (heard_asked d.control.number plain (item.Ok d.control.number ∷ []) question w heard)
-store_did slot d plain c va width value (Some q) w own held heard =
+store_did slot d plain c va width value (Some q) w at own held heard =
     let question = Reach q own va Store in
     store_reached_did slot d plain c q va width value (asked question w).answer (asked question w).world held
     (heard_asked d.control.number plain (item.Ok d.control.number ∷ []) question w heard)
@@ -159,22 +160,23 @@ system_did slot d plain c instr.Ebreak w heard = quiet _ _ _ _ _ w heard refl re
 system_did slot d plain c _ w heard = quiet _ _ _ _ _ w heard refl refl (follows_same _)
 
 done_did : (slot : ℕ) (d : Domain) (plain : PageId → List ℕ) (c : Context) (i : Instr) (e : Effect) (w : World) →
+    StoresAligned e →
     Heard d.control.number plain (item.Ok d.control.number ∷ []) w →
     DoesIf slot d plain (effect_moves d.control c i e) (done_inside d.control.number d.control.resources c i e) w
 unfolding done_inside effect_moves instruction_ended
-done_did slot d plain c i (does.Write rd value) w heard = quiet _ _ _ _ _ w heard refl refl (follows_same _)
-done_did slot d plain c i (does.Jump rd link target) w heard = quiet _ _ _ _ _ w heard refl refl (follows_same _)
-done_did slot d plain c i (does.Go target) w heard = quiet _ _ _ _ _ w heard refl refl (follows_same _)
-done_did slot d plain c i (does.Load rd va width signed) w heard =
+done_did slot d plain c i (does.Write rd value) w at heard = quiet _ _ _ _ _ w heard refl refl (follows_same _)
+done_did slot d plain c i (does.Jump rd link target) w at heard = quiet _ _ _ _ _ w heard refl refl (follows_same _)
+done_did slot d plain c i (does.Go target) w at heard = quiet _ _ _ _ _ w heard refl refl (follows_same _)
+done_did slot d plain c i (does.Load rd va width signed) w at heard =
     load_did slot d plain c rd va width signed (page_at d.control.number d.control.resources c.space va) w
     (own_page d.control.number d.control.resources c.space va) heard
-done_did slot d plain c i (does.Store va width value) w heard =
-    store_did slot d plain c va width value (page_at d.control.number d.control.resources c.space va) w
+done_did slot d plain c i (does.Store va width value) w at heard =
+    store_did slot d plain c va width value (page_at d.control.number d.control.resources c.space va) w at
     (own_page d.control.number d.control.resources c.space va)
     (held_page d.control.number d.control.resources c.space va) heard
-done_did slot d plain c i does.System w heard = system_did slot d plain c i w heard
-done_did slot d plain c i does.Nothing w heard = quiet _ _ _ _ _ w heard refl refl (follows_same _)
-done_did slot d plain c i (does.Raise cause value) w heard = quiet _ _ _ _ _ w heard refl refl (follows_same _)
+done_did slot d plain c i does.System w at heard = system_did slot d plain c i w heard
+done_did slot d plain c i does.Nothing w at heard = quiet _ _ _ _ _ w heard refl refl (follows_same _)
+done_did slot d plain c i (does.Raise cause value) w at heard = quiet _ _ _ _ _ w heard refl refl (follows_same _)
 
 -- Atomic instructions.
 
@@ -283,7 +285,8 @@ decoded_did : (slot : ℕ) (d : Domain) (plain : PageId → List ℕ) (c : Conte
     DoesIf slot d plain (word_moves d.control c word i) (decoded_inside d.control.number d.control.resources c word i) w
 unfolding decoded_inside word_moves
 decoded_did slot d plain c word None w heard = atomic_did slot d plain c (atomic_instruction word) w heard
-decoded_did slot d plain c word (Some i) w heard = done_did slot d plain c i (effect i c.regs c.pc) w heard
+decoded_did slot d plain c word (Some i) w heard =
+    done_did slot d plain c i (effect i c.regs c.pc) w (effect_aligned i c.regs c.pc) heard
 
 executed_did : (slot : ℕ) (d : Domain) (plain : PageId → List ℕ) (c : Context) (word : ℕ) (w : World) →
     Heard d.control.number plain (item.Ok d.control.number ∷ []) w →

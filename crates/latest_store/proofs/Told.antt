@@ -45,9 +45,9 @@ use Rattle.cloak_model.specs.Resuming.{by_root, by_context, by_domain, resume}
 use Rattle.cloak_model.specs.World.{World, Cloaked, items_of, violation_of, cipher_items}
 use Rattle.domain_isolation.proofs.Answers.{IsServing}
 use Rattle.domain_isolation.proofs.Played.{answers_of, answer_items, last_stopped, played_items, played_met}
-use Rattle.domain_isolation.proofs.Scripts.{played}
+use Rattle.script_fold.proofs.Scripts.{played}
 use Rattle.domain_isolation.proofs.Steady.{ciphers_told}
-use Rattle.domain_isolation.proofs.StepScripts.{of_domain, step_scripted}
+use Rattle.script_fold.proofs.StepScripts.{of_domain, step_scripted}
 use Rattle.kernel_isolation.proofs.Numbers.{AreFrom, number_at}
 use Rattle.page_law.specs.OwnPages.{is_end_of, ends_in}
 use Rattle.latest_store.specs.Moves.{Move, latest_value}

@@ -6,6 +6,7 @@ pub mod Hypercalls
 pub mod Steps
 pub mod Moments
 pub mod Openings
+pub mod Drawn
 pub mod Endings
 pub mod Programs
 pub mod Turns

@@ -34,7 +34,7 @@ use Rattle.cloak_model.specs.StoredFiles.{FileContents}
 use Rattle.kernel_isolation.proofs.FilesAdded.{IsGiven, given_keeps}
 use Rattle.resource_map.proofs.Lists.{get_or-replicate_none}
 use Rattle.script_fold.proofs.Folding.{step_keeps}
-use Rattle.script_fold.proofs.Questions.{Kept}
+use Rattle.script_fold.proofs.Questions.{Kept, settles_of}
 use Rattle.script_fold.proofs.ByQuestions.{kept_by}
 use Rattle.script_fold.proofs.Endings.{keeps_end}
 use Rattle.frozen_state.specs.Limits.{IsOnce}
@@ -242,7 +242,7 @@ end_once : (d : ℕ) (was : Domain) (v : Violation) (t : Turn) → slice_get t.j
 unfolding end_domain
 end_once d was v t is once =
     let w = Cloaked (cloak_for t.joint.memory d) in
-    memory_once (ask_end d w).world t.joint.memory ((keeps_end StaysOnce changes forget_world d w).by once) once
+    memory_once (ask_end d w).world t.joint.memory ((keeps_end StaysOnce (settles_of StaysOnce changes) forget_world d w).by once) once
 
 step_once : (m : Moment) → JointOnce m.joint → JointOnce (joint_step m).joint
 unfolding joint_step

@@ -21,7 +21,9 @@ use Rattle.cause_law.specs.Presented.{hart_of_step}
 use Rattle.cause_law.proofs.Ends.{turn_leaves, answers_met}
 use Rattle.cause_law.proofs.Runs.{violation_has_cause, presented_is_refused}
 use Rattle.load_law.specs.Outcomes.{ListedStay}
-use Rattle.load_law.proofs.Runs.{is_there, has_turn, steps_made, after_step}
+use Rattle.page_law.proofs.OwnDraws.{is_step}
+use Rattle.latest_store.proofs.Histories.{has_step, after_step}
+use Rattle.load_law.proofs.Runs.{steps_made}
 
 abbrev Lists : Joint → ℕ → Violation → Type 0
 Lists j d v = slice_index_or j.ended d None ≡ Some v
@@ -88,7 +90,7 @@ module _ (b : Bundle) (from : Beginning) (budget : ℕ) (r : Run) (grammar : IsI
           let same : n ≡ suc to = omega (arith, past, over) in
           subst (λ (k : ℕ). Lists (joint_until k r) d v) same is
       | inr before ↦
-          let step = has_turn r.turns to (omega (arith, low)) in
+          let step = has_step r.turns to (omega (arith, low)) in
           next_lists to d v step.turn step.is (omega (arith, low)) (until_lists n to d v before (omega (arith, low)) is)
     ]
 
@@ -106,7 +108,7 @@ opened_closes b budget o =
 
 pub listed_stay : ListedStay
 listed_stay b from budget r grammar runs n t there d v is =
-    let low = is_there r.turns n t there in
+    let low = is_step r.turns n t there in
     let here : Lists (joint_until (suc n) r) d v =
     subst (λ (j : Joint). Lists j d v) (sym (after_step r.opened.joint r.turns n t there)) is in
     let closes : ClosesSo r =

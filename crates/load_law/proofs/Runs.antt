@@ -1,38 +1,32 @@
 -- The steps of a run.
-use Rattle.std.proofs.Common.{◌≡◌, ◌∙◌, ℕ, zero, suc, ◌<◌, Bool, true, false, cond, List, [], ◌∷◌, length, filter, take, slice_get, slice_index_or, Option, Some, None, IfSome, Ok, refl, sym, ap, subst, arith}
+use Rattle.std.proofs.Common.{◌≡◌, ◌∙◌, ℕ, zero, suc, ◌<◌, Bool, true, false, cond, List, ◌∷◌, length, filter, take, slice_get, slice_index_or, Option, Some, None, Ok, refl, sym, ap, subst, arith}
 use Rattle.std.specs.Prelude.{is_some, unwrap_or}
 use Rattle.std.proofs.lemmas.Bool.{false≢true}
-use Rattle.cloak_base.specs.Random.{Random}
 use Rattle.cloak_base.specs.declared.causes.Stop.{Stop}
 use Rattle.cloak_base.specs.declared.causes.Stop.TheVariants as stop
-use Rattle.cloak_base.specs.declared.names.PageId.{PageId}
 use Rattle.cloak_model.specs.declared.image.Bundle.{Bundle}
 use Rattle.cloak_model.specs.Beginning.{Beginning, opening_from}
-use Rattle.cloak_model.specs.Cloaking.{CloakedMemory}
 use Rattle.cloak_model.specs.Contexts.{Context, context_at, domain_of, slot_of}
 use Rattle.cloak_model.specs.DomainState.{Domain}
 use Rattle.cloak_model.specs.Halves.{inward_half}
-use Rattle.cloak_model.specs.Joint.{Moment, Turn, joint_step, after_turn, stop_without_miss, stop_of}
-use Rattle.cloak_model.specs.Ledger.{Keys}
-use Rattle.cloak_model.specs.Opening.{Opened, started_joint, started_ledger, started_memory}
-use Rattle.cloak_model.specs.PageMoves.{place_with}
+use Rattle.cloak_model.specs.Joint.{Moment, Turn, joint_step, after_turn, stop_of}
+use Rattle.cloak_model.specs.Opening.{Opened}
 use Rattle.cloak_model.specs.Parts.{Joint}
 use Rattle.cloak_model.specs.Run.{Run, run_from, unless_stopped, turns_from, joint_after, last_stop, first_moment, run_of}
-use Rattle.cloak_model.specs.StoredFiles.{FileContents}
 use Rattle.kernel_isolation.specs.Isolation.{joint_until}
-use Rattle.kernel_isolation.proofs.FilesAdded.{IsGiven, given_keeps}
 use Rattle.kernel_isolation.proofs.Isolated.{of_opened, until_read}
 use Rattle.kernel_isolation.proofs.Numbers.{number_at}
 use Rattle.kernel_isolation.proofs.Turns.{IsSteady}
 use Rattle.frozen_state.specs.Limits.{has_ended, TellsEnded}
 use Rattle.limit_law.proofs.EndedRuns.{ended_are_gone, ended_are_told}
-use Rattle.limit_law.proofs.Openings.{begins_by_memory}
+use Rattle.limit_law.proofs.Drawn.{stop_tells, JointDrawn, opened_drawn}
 use Rattle.page_law.specs.OwnPages.{context_of_step}
+use Rattle.page_law.proofs.OwnDraws.{is_step}
 use Rattle.page_law.proofs.OwnPages.{moment_behind, step_is}
 use Rattle.latest_store.specs.Moves.{Move}
 use Rattle.latest_store.specs.Deeds.{program_moves, step_moves}
 use Rattle.latest_store.specs.LatestStore.{history_until}
-use Rattle.latest_store.proofs.Histories.{runs_give_latest}
+use Rattle.latest_store.proofs.Histories.{after_step, runs_give_latest}
 use Rattle.cause_law.specs.Causes.{moment_at, context_running}
 use Rattle.load_law.specs.Outcomes.{is_load, left_in, moves_in, LoadEnds, DueLoadsEnd, MissesAreLast, MissingDrawsStop, OnlyDueLoads}
 use Rattle.load_law.proofs.Moves.{load_if, step_loads}
@@ -45,22 +39,6 @@ pub record IsMade (b : Bundle) (r : Run) (n : ℕ) (t : Turn) : Type 0 where
   pub step : joint_step (moment_at b r n) ≡ t
   pub steady : IsSteady (moment_at b r n).joint
 
-pub is_there : (turns : List Turn) (n : ℕ) (t : Turn) → slice_get turns n ≡ Some t → n < length turns
-is_there [] zero t is = absurd cc
-is_there [] (suc n) t is = absurd cc
-is_there (x ∷ turns) zero t is = omega arith
-is_there (x ∷ turns) (suc n) t is = let low = is_there turns n t is in omega (arith, low)
-
-pub record HasTurn (turns : List Turn) (n : ℕ) : Type 0 where
-  pub turn : Turn
-  pub is : slice_get turns n ≡ Some turn
-
-pub has_turn : (turns : List Turn) (n : ℕ) → n < length turns → HasTurn turns n
-has_turn [] n low = absurd (omega (arith, low))
-has_turn (t ∷ turns) zero low = record { turn = t; is = refl }
-has_turn (t ∷ turns) (suc n) low =
-    let rest = has_turn turns n (omega (arith, low)) in record { turn = rest.turn; is = rest.is }
-
 abbrev pub StepsMade : Bundle → Run → Type 0
 StepsMade b r = (n : ℕ) (t : Turn) → slice_get r.turns n ≡ Some t → IsMade b r n t
 
@@ -69,7 +47,7 @@ opened_made : (b : Bundle) (from : Beginning) (budget : ℕ) (o : Opened) → op
 unfolding run_of
 opened_made b from budget o opens n t is =
     let turns : List Turn = turns_from budget (first_moment b o.joint) in
-    let low = is_there turns n t is in
+    let low = is_step turns n t is in
     let m : Moment = moment_behind (first_moment b o.joint) n turns in
     let number : m.steps ≡ n = omega arith in
     record {
@@ -85,43 +63,7 @@ pub steps_made : (b : Bundle) (from : Beginning) (budget : ℕ) (r : Run) → ru
 steps_made b from budget r is =
     of_opened b budget (StepsMade b) (opening_from b from) r is (λ o opens. opened_made b from budget o opens)
 
-pub after_step : (j : Joint) (turns : List Turn) (n : ℕ) (t : Turn) → slice_get turns n ≡ Some t →
-    joint_after j (take (suc n) turns) ≡ t.joint
-unfolding joint_after
-after_step j [] zero t is = absurd cc
-after_step j [] (suc n) t is = absurd cc
-after_step j (x ∷ turns) zero t is = let same : x ≡ t = cc in ap (λ (y : Turn). y.joint) same
-after_step j (x ∷ turns) (suc n) t is = after_step x.joint turns n t is
-
 -- No draw is missing as a step begins: the opening misses none, and a step that misses one stops the run.
-
-abbrev IsDrawn : CloakedMemory → Type 0
-IsDrawn m = m.ledger.missed ≡ false
-
-place_drawn : (q : PageId) (f : ℕ) (bytes : List ℕ) (draw : Option (List ℕ × Random)) (m : CloakedMemory) → IsDrawn m →
-    IfSome (place_with q f bytes draw m) IsDrawn
-unfolding place_with
-place_drawn q f bytes None m drawn = tt
-place_drawn q f bytes (Some draw) m drawn = drawn
-
-started_drawn : (b : Bundle) (keys : Keys) (rest : Random) → IsDrawn (started_memory b.kernel keys rest)
-unfolding started_memory started_ledger
-started_drawn b keys rest = refl
-
-abbrev JointDrawn : Joint → Type 0
-JointDrawn j = IsDrawn j.memory
-
-joint_drawn : (b : Bundle) (m : CloakedMemory) → IsDrawn m → JointDrawn (started_joint b m)
-unfolding started_joint
-joint_drawn b m drawn = drawn
-
-given_drawn : (f : FileContents) (x y : Joint) → IsGiven f x y → JointDrawn x → JointDrawn y
-given_drawn f x y given drawn = (given_keeps f x y given).memory.missed ∙ drawn
-
-stop_tells : (missed : Bool) (halt : Option ℕ) → cond missed (Some stop.NoRandom) (stop_without_miss halt) ≡ None →
-    missed ≡ false
-stop_tells true halt is = absurd cc
-stop_tells false halt is = refl
 
 rest_drawn : (o : Option Stop) (later : Moment → List Turn) (m : Moment) (j : Joint) (n : ℕ) →
     n < length (unless_stopped o later m) →
@@ -143,12 +85,11 @@ turns_drawn (suc budget) (suc n) m drawn low =
 abbrev StepsDrawn : Run → Type 0
 StepsDrawn r = (n : ℕ) → n < length r.turns → JointDrawn (joint_until n r)
 
-opened_drawn : (b : Bundle) (from : Beginning) (budget : ℕ) (o : Opened) → opening_from b from ≡ Ok o →
+steps_drawn : (b : Bundle) (from : Beginning) (budget : ℕ) (o : Opened) → opening_from b from ≡ Ok o →
     StepsDrawn (run_of b budget o)
 unfolding run_of
-opened_drawn b from budget o opens n low =
-    turns_drawn budget n (first_moment b o.joint)
-    (begins_by_memory IsDrawn JointDrawn b from place_drawn (started_drawn b) (joint_drawn b) given_drawn o opens) low
+steps_drawn b from budget o opens n low =
+    turns_drawn budget n (first_moment b o.joint) (opened_drawn b from o opens) low
 
 -- A program that has a context is not listed.
 
@@ -171,7 +112,7 @@ due_loads_end b from budget r grammar begins runs n t is s due wants =
     let m : Moment = moment_at b r n in
     let d : ℕ = domain_of s.ctx in
     let made = steps_made b from budget r runs n t is in
-    let low = is_there r.turns n t is in
+    let low = is_step r.turns n t is in
     let history : List Move = history_until b from n r in
     let gives = runs_give_latest b from budget r grammar begins runs in
     let lives : s.domain.control.ended ≡ false =
@@ -183,7 +124,7 @@ due_loads_end b from budget r grammar begins runs n t is s due wants =
     not_some (slice_index_or m.joint.ended d None)
     ((ended_are_told b from budget r grammar runs n).taken d ∙ (ap has_ended s.program ∙ lives)) in
     let drawn : JointDrawn m.joint =
-    of_opened b budget StepsDrawn (opening_from b from) r runs (λ o opens. opened_drawn b from budget o opens) n low in
+    of_opened b budget StepsDrawn (opening_from b from) r runs (λ o opens. steps_drawn b from budget o opens) n low in
     let after : joint_until (suc n) r ≡ (joint_step m).joint =
     after_step r.opened.joint r.turns n t is ∙ ap (λ (x : Turn). x.joint) (sym made.step) in
     let ends : EndsSo s.context s.ctx due t =

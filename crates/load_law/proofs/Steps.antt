@@ -36,8 +36,9 @@ use Rattle.cloak_model.specs.KernelStep.{atomic_kind, misaligned}
 use Rattle.cloak_model.specs.Memory.{value_in}
 use Rattle.cloak_model.specs.Resources.{page_at}
 use Rattle.cloak_model.specs.World.{World, Flat, Cloaked, Alone, items_of, plain_of, with_plain, is_missed}
-use Rattle.domain_isolation.proofs.Scripts.{Reach, Put, asked}
-use Rattle.domain_isolation.proofs.InstructionScripts.{IsOwn, own_page}
+use Rattle.script_fold.proofs.Aligned.{byte_aligned}
+use Rattle.script_fold.proofs.Scripts.{Reach, Put, asked}
+use Rattle.script_fold.proofs.InstructionScripts.{IsOwn, own_page}
 use Rattle.latest_store.specs.Moves.{Move, latest_value}
 use Rattle.latest_store.specs.Deeds.{page_for}
 use Rattle.latest_store.proofs.Heard.{Heard, heard_asked, with_plain_rewrites}
@@ -410,7 +411,7 @@ in_reached_goes : (slot : ℕ) (d : Domain) (plain : PageId → List ℕ) (c : C
 unfolding in_reached ask_read copy_ended
 in_reached_goes slot d plain c q done told.Ok w own says heard =
     let byte : ℕ = value_in (plain_of w q) (byte_address (buffer c) done % 4096) 1 in
-    let question = Put (byte_address (area c) done) 1 byte in
+    let question = Put (byte_address (area c) done) 1 byte (byte_aligned (byte_address (area c) done)) in
     in_put_goes slot d plain c q done byte (asked question w).answer (asked question w).world
     (put_says (byte_address (area c) done) 1 byte w says.quiet)
     (heard_asked d.control.number plain (item.Ok d.control.number ∷ []) question w heard)

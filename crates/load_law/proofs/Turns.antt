@@ -32,7 +32,7 @@ use Rattle.cloak_model.specs.Parts.{Joint}
 use Rattle.cloak_model.specs.World.{World, Flat, Cloaked, Alone, items_of, is_missed, owed_of}
 use Rattle.domain_isolation.proofs.Endings.{end_world, end_leaves}
 use Rattle.domain_isolation.proofs.InOrder.{get_set_same}
-use Rattle.domain_isolation.proofs.InstructionScripts.{IsOwn}
+use Rattle.script_fold.proofs.InstructionScripts.{IsOwn}
 use Rattle.domain_isolation.proofs.Steady.{is_cloaked}
 use Rattle.frozen_state.specs.Limits.{has_ended, TellsEnded}
 use Rattle.latest_store.specs.Moves.{Move}
@@ -41,13 +41,13 @@ use Rattle.cause_law.specs.Causes.{context_running}
 use Rattle.cause_law.proofs.Over.{ended_empty}
 use Rattle.cause_law.specs.Presented.{hart_of_step, StepsInside, world_inside}
 use Rattle.load_law.specs.Due.{Question, DueLoad, load_due}
-use Rattle.load_law.specs.Outcomes.{Seen, left_by, left_in, Asks, First, Second, IsFaultOf, LoadEnds, Completed, Absent, Ended, Stopped}
+use Rattle.load_law.specs.Outcomes.{SeenOfStep, left_by, left_in, Asks, First, Second, IsFaultOf, LoadEnds, Completed, Absent, Ended, Stopped}
 use Rattle.load_law.proofs.Questions.{left_append, IsQuiet, IsFine, IsRefused, IsMissing, quiet_settled}
 use Rattle.load_law.proofs.Steps.{Goes, GoesOn, Leaves, Refused, Misses, step_goes}
 use Rattle.load_law.proofs.Moves.{load_if}
 
 -- What is seen of a turn.
-abbrev pub seen_of : DueLoad → ℕ → Turn → Seen
+abbrev pub seen_of : DueLoad → ℕ → Turn → SeenOfStep
 seen_of due ctx t = record {
   told = inward_half (domain_of ctx) t.items;
   loads = load_if due (inward_half (domain_of ctx) t.items);
@@ -57,7 +57,7 @@ seen_of due ctx t = record {
   stop = stop_of t;
 }
 
-same_seen : (x y : Seen) → x.told ≡ y.told → x.loads ≡ y.loads → x.left ≡ y.left → x.listed ≡ y.listed →
+same_seen : (x y : SeenOfStep) → x.told ≡ y.told → x.loads ≡ y.loads → x.left ≡ y.left → x.listed ≡ y.listed →
     x.context ≡ y.context → x.stop ≡ y.stop → x ≡ y
 same_seen x y a b c d e f =
     λ i. record { told = a i; loads = b i; left = c i; listed = d i; context = e i; stop = f i }
@@ -66,7 +66,7 @@ abbrev pub EndsSo : Context → ℕ → DueLoad → Turn → Type 0
 EndsSo c ctx due t = LoadEnds c ctx due (seen_of due ctx t)
 
 -- it is seen so, and these are its loads
-seen_so : (c : Context) (ctx : ℕ) (due : DueLoad) (t : Turn) (y : Seen) → load_if due y.told ≡ y.loads →
+seen_so : (c : Context) (ctx : ℕ) (due : DueLoad) (t : Turn) (y : SeenOfStep) → load_if due y.told ≡ y.loads →
     inward_half (domain_of ctx) t.items ≡ y.told → left_in t.items ≡ y.left →
     slice_index_or t.joint.ended (domain_of ctx) None ≡ y.listed → context_running t.joint ctx ≡ y.context →
     stop_of t ≡ y.stop → LoadEnds c ctx due y → EndsSo c ctx due t

@@ -32,7 +32,7 @@ use Rattle.cause_law.specs.Presented.{StepsInside}
 use Rattle.load_law.specs.Due.{Question, DueLoad, load_of, load_due}
 
 -- What is seen of a step of a program's context.
-pub record Seen : Type 0 where
+pub record SeenOfStep : Type 0 where
   -- what the program was told, in order
   pub told : List Item
   -- the loads among what the step did to pages
@@ -64,7 +64,7 @@ moves_in b from r n items =
     step_moves (history_until b from n r) (joint_until n r).domains (context_of_step b r n) items
 
 -- step n of a run, of the context with this number
-abbrev pub seen_in : Bundle → Beginning → Run → ℕ → ℕ → Turn → Seen
+abbrev pub seen_in : Bundle → Beginning → Run → ℕ → ℕ → Turn → SeenOfStep
 seen_in b from r n ctx t = record {
   told = inward_half (domain_of ctx) t.items;
   loads = filter is_load (moves_in b from r n t.items);
@@ -85,7 +85,7 @@ IsFaultOf kind cause = (cause ≡ page_fault kind) ⊎ (cause ≡ access_fault k
 
 -- The four ways in which a step of context `ctx`, which is `c` and is to make this load, is seen to end. No step ends
 -- in two of them.
-pub data LoadEnds (c : Context) (ctx : ℕ) (due : DueLoad) : Seen → Type 0 where
+pub data LoadEnds (c : Context) (ctx : ℕ) (due : DueLoad) : SeenOfStep → Type 0 where
   -- Completed: both questions were granted, and the load is the only one of the step.
   Completed : (after : Option Context) → LoadEnds c ctx due
       (record {

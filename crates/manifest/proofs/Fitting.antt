@@ -1,9 +1,41 @@
 -- A bundle that leaves some room in the largest file.
-use Rattle.std.proofs.Common.{◌≡◌, ◌+◌, ◌≤◌, ℕ, Bool, true, false, not, Option, Some, None, is_some, IfSome, arith}
+use Rattle.std.proofs.Common.{◌≡◌, ◌+◌, ◌≤◌, ◌<◌, ℕ, Bool, true, false, not, List, length, get_or, take, Option, Some, None, is_some, MatchOption, Result, Ok, Err, refl, arith}
+use Rattle.std.specs.List.{flat_map}
+use Rattle.std.proofs.lemmas.List.Folds.{length-flat_map-take}
+use Rattle.cloak_base.specs.Constants.{largest_bundle}
+use Rattle.cloak_model.specs.declared.image.Bundle.{Bundle}
+use Rattle.cloak_model.specs.Bundle.{bundle_bytes}
+use Rattle.manifest.specs.declared.key.Key.TheVariants.{Segment}
+use Rattle.manifest.specs.declared.key.ManifestTable.TheVariants.{Image}
+use Rattle.manifest.specs.declared.fault.KeyFault.TheVariants.{TooLarge}
+use Rattle.manifest.specs.Fields.{wrong_at}
+use Rattle.manifest.specs.Parts.{fitting}
+use Rattle.manifest.proofs.Files.{larger, not_larger}
 
--- what is left, if it is not true that there is none
-pub fits : (room : Option ℕ) (size most : ℕ) (none : Bool) → IfSome room (λ left. size + left ≡ most) →
+-- one more part than those before it is not longer than all
+pub flat_map_front : {X Y : Type 0} (f : X → List Y) (xs : List X) (i : ℕ) (d : X) → i < length xs →
+    length (flat_map f (take i xs)) + length (f (get_or xs i d)) ≤ length (flat_map f xs)
+flat_map_front f xs i d inside = length-flat_map-take f xs i d inside
+
+-- something is left
+pub fits : (room : Option ℕ) (size most : ℕ) (none : Bool) → MatchOption room (most < size) (λ left. size + left ≡ most) →
     is_some room ≡ not none → none ≡ false → size ≤ most
 fits (Some left) size most none room told some = omega (arith, room)
 fits None size most true room told some = absurd cc
 fits None size most false room told some = absurd cc
+
+-- nothing is left
+pub fits_not : (room : Option ℕ) (size most : ℕ) (none : Bool) → MatchOption room (most < size) (λ left. size + left ≡ most) →
+    is_some room ≡ not none → none ≡ true → most < size
+fits_not None size most none room told gone = room
+fits_not (Some left) size most true room told gone = absurd cc
+fits_not (Some left) size most false room told gone = absurd cc
+
+pub is_fitting : (b : Bundle) → length (bundle_bytes 2 b) ≤ largest_bundle → fitting b ≡ Ok b
+unfolding fitting
+is_fitting b small = rw (not_larger (length (bundle_bytes 2 b)) largest_bundle small) refl
+
+pub not_fitting : (b : Bundle) → largest_bundle < length (bundle_bytes 2 b) →
+    fitting b ≡ Err (wrong_at Image Segment TooLarge)
+unfolding fitting
+not_fitting b large = rw (larger (length (bundle_bytes 2 b)) largest_bundle large) refl

@@ -1,5 +1,13 @@
+pub mod Among
+pub mod Counted
 pub mod Fitting
-pub mod Listed
-pub mod Meant
+pub mod Files
+pub mod Images
 pub mod Kept
 pub mod Paths
+pub mod ProgramKeys
+pub mod Steps
+pub mod Tables
+pub mod Texts
+pub mod Told
+pub mod Turns

@@ -3,7 +3,7 @@ use Rattle.std.proofs.Common.{◌≡◌, ◌∙◌, ℕ, List, [], ◌∷◌, �
 use Rattle.std.proofs.lemmas.List.{take-append-drop}
 use Rattle.std.specs.Char.{encode_utf8}
 use Rattle.std.specs.Str.Pattern.{SplitsAroundMatch, RFindsChar}
-use Rattle.manifest.specs.Manifest.{HasNoSlash, IsBeside}
+use Rattle.manifest.specs.Sources.{HasNoSlash, IsBeside}
 
 -- a slash is one byte
 slash : encode_utf8 47 ≡ 47 ∷ []

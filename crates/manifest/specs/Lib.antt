@@ -1,5 +1,9 @@
 pub mod Keys
-pub mod Manifest
+pub mod Fields
+pub mod Parts
+pub mod Faults
+pub mod Sources
+pub mod Images
 pub mod Telling
 pub mod Reading
 pub mod Packing

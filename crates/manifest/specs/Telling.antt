@@ -1,17 +1,17 @@
 -- Why a manifest means no image, for a person to read: the manifest, the table and the key, and what is wrong there.
-use Rattle.std.specs.Prelude.{ℕ, List, [], ◌++◌, codes, decimal, string_bytes}
+use Rattle.std.specs.Prelude.{ℕ, List, [], ◌++◌, codes, decimal}
 use Rattle.asm_text.specs.Telling.{fault_text}
 use Rattle.asm_text.specs.declared.fault.TextFault.{TextFault}
-use Rattle.manifest.specs.declared.key.Part.{Part}
-use Rattle.manifest.specs.declared.key.Part.TheVariants as part
-use Rattle.manifest.specs.declared.fault.Wrong.{Wrong}
-use Rattle.manifest.specs.declared.fault.Wrong.TheVariants.{Missing, NoSource, NoNumber, NoTurn, NoMultiple, NoName, NoList, NoTable, TooFew, TooMany, TwoSources, NoFile, NoRoom, PastRam, PastAddresses, TooLarge}
-use Rattle.manifest.specs.declared.fault.PackFault.{PackFault}
-use Rattle.manifest.specs.declared.fault.PackFault.TheVariants as fault
+use Rattle.manifest.specs.declared.key.ManifestTable.{ManifestTable}
+use Rattle.manifest.specs.declared.key.ManifestTable.TheVariants as part
+use Rattle.manifest.specs.declared.fault.KeyFault.{KeyFault}
+use Rattle.manifest.specs.declared.fault.KeyFault.TheVariants.{Missing, NoSource, NoNumber, NoTurn, NoMultiple, NoName, NoList, NoTable, TooFew, TooMany, TwoSources, NoFile, NoRoom, PastRam, PastAddresses, TooLarge}
+use Rattle.manifest.specs.declared.fault.FaultyKey.{FaultyKey}
 use Rattle.manifest.specs.Keys.{key_name}
+use Rattle.manifest.specs.Faults.{Fault, too_long, not_text, no_toml, at_key, unknown_key, faulty_text}
 
 -- a table, and a colon; nothing for the top of the document
-abbrev pub part_text : Part → List ℕ
+abbrev pub part_text : ManifestTable → List ℕ
 part_text part.Image = []
 part_text (part.Segment number) = codes "segment " ++ decimal number ++ codes ": "
 part_text part.Disk = codes "disk: "
@@ -19,7 +19,7 @@ part_text (part.File number) = codes "disk: file " ++ decimal number ++ codes ":
 part_text (part.Program number) = codes "program " ++ decimal number ++ codes ": "
 
 -- what is wrong
-abbrev pub wrong_words : Wrong → List ℕ
+abbrev pub wrong_words : KeyFault → List ℕ
 wrong_words Missing = codes "it is missing"
 wrong_words NoSource = codes "it is missing, and so is `text`"
 wrong_words (NoNumber least most) = codes "it is to be a whole number from " ++ decimal least ++ codes " to " ++ decimal most
@@ -37,20 +37,23 @@ wrong_words PastRam = codes "what begins here goes past the end of RAM"
 wrong_words PastAddresses = codes "the pages that begin here go past the last address"
 wrong_words TooLarge = codes "the bundle would have more than 67108864 bytes"
 
+-- a table, a key, and what is wrong there
+abbrev pub key_fault_line : FaultyKey → List ℕ
+key_fault_line f = part_text f.part ++ key_name f.key ++ codes ": " ++ wrong_words f.wrong ++ codes "\n"
+
 -- an assembler text that a table names is faulty
-abbrev pub faulty_text_line : Part → (name text : List ℕ) → TextFault → List ℕ
+abbrev pub faulty_text_line : ManifestTable → (name text : List ℕ) → TextFault → List ℕ
 faulty_text_line at name text fault =
     part_text at ++ (codes "text: the file is no assembler text\n" ++ fault_text name text fault)
 
 -- what is said after the manifest's name
-abbrev pub pack_fault_line : PackFault → List ℕ
-pack_fault_line fault.NoMemory = codes "there is not enough memory\n"
-pack_fault_line fault.TooLong = codes "the file has more than 1048576 bytes\n"
-pack_fault_line fault.NotText = codes "the file is no text in UTF-8\n"
-pack_fault_line (fault.NotToml words) = codes "no TOML document: " ++ string_bytes words ++ codes "\n"
-pack_fault_line (fault.AtKey at key wrong) = part_text at ++ key_name key ++ codes ": " ++ wrong_words wrong ++ codes "\n"
-pack_fault_line (fault.UnknownKey at name) = part_text at ++ string_bytes name ++ codes ": there is no key of this name here\n"
-pack_fault_line (fault.FaultyText at name text wrong) = faulty_text_line at (string_bytes name) (string_bytes text) wrong
+abbrev pub fault_line : Fault → List ℕ
+fault_line too_long = codes "the file has more than 1048576 bytes\n"
+fault_line not_text = codes "the file is no text in UTF-8\n"
+fault_line (no_toml words) = codes "no TOML document: " ++ words ++ codes "\n"
+fault_line (at_key fault) = key_fault_line fault
+fault_line (unknown_key at name) = part_text at ++ name ++ codes ": there is no key of this name here\n"
+fault_line (faulty_text at path text wrong) = faulty_text_line at path text wrong
 
-abbrev pub pack_text : List ℕ → PackFault → List ℕ
-pack_text manifest wrong = manifest ++ codes ": " ++ pack_fault_line wrong
+abbrev pub pack_text : List ℕ → Fault → List ℕ
+pack_text manifest fault = manifest ++ codes ": " ++ fault_line fault

@@ -1,15 +1,18 @@
 //! The disk of an image.
-ghost use Rattle.std.specs.Prelude.{◌≡◌, ◌≤◌, ◌+◌, ◌*◌, ◌%◌, ◌++◌, ℕ, List, [], Option, IfOk, OnOk, length, take, drop, replicate};
+ghost use Rattle.std.specs.Prelude.{◌≡◌, ◌≤◌, ◌+◌, ◌*◌, ◌%◌, ◌++◌, IfOk, IfErr, MatchResult, length, take, drop, replicate, Ok, Err};
 ghost use Rattle.toml.specs.View.{view, items_view};
 ghost use Rattle.command_parts.specs.Outside.{files};
 ghost use Rattle.manifest.specs.declared.key.Key.TheVariants as keys;
 ghost use Rattle.manifest.specs.Keys.{stands_at};
-ghost use Rattle.manifest.specs.Manifest.{IsDisk, IsDiskOf, IsSource, StoresFile, StoresFiles};
-ghost use Rattle.manifest.specs.Reading.{ReadsParts};
+ghost use Rattle.manifest.specs.Parts.{stored_at};
+ghost use Rattle.manifest.specs.Faults.{ReturnsRead};
+ghost use Rattle.manifest.specs.Sources.{InTurn};
+ghost use Rattle.manifest.specs.Images.{DiskReads, DiskTableReads, FileReads};
+ghost use Rattle.manifest.specs.Reading.{IsWant, ReadsParts};
 
-use crate::fault::{PackError, PackFault, Wrong};
-use crate::fields::Place;
-use crate::key::{Key, Part};
+use crate::fault::{FaultyKey, KeyFault, PackError};
+use crate::fields::NamedTable;
+use crate::key::{Key, ManifestTable};
 use crate::sources::source;
 use io_traits::Shelf;
 use std::alloc::Global;
@@ -24,19 +27,44 @@ fn store(disk: &mut [u8], at: usize, bytes: &[u8])
 }
 
 /// Stores the bytes of the file that a table means at its block.
-fn place_file(place: Place<'_>, bytes: &[u8], disk: &mut [u8]) -> Result<(), PackFault>
-    ensures stored { (held : List ℕ → Option (List ℕ)) → (manifest : List ℕ) →
-        IsSource held manifest (view place.entry.table.now) bytes.now →
-        OnOk result (StoresFile held manifest (view place.entry.table.now) disk.old disk.new) }
-    ensures same_length { length disk.new ≡ length disk.old }
+#[tactic(auto, unfolding(crate::specs::Parts::stored_at))]
+fn place_file(place: NamedTable<'_>, bytes: &[u8], disk: &mut [u8]) -> Result<(), FaultyKey>
+    requires { length disk.old ≤ 4096 * 4096 }
+    ensures { MatchResult result
+        (λ _. stored_at place.entry.part (view place.entry.table.now) disk.old bytes.now ≡ Ok disk.new)
+        (λ e. stored_at place.entry.part (view place.entry.table.now) disk.old bytes.now ≡ Err e) }
 {
     let block = place.needed_number(Key::Block, 0, 4095)?;
     let at = 4096 * block as usize;
     if at > disk.len() || bytes.len() > disk.len() - at {
-        let room = disk.len().saturating_sub(at).min(u32::MAX as usize);
-        return Err(place.fault(Key::Block, Wrong::NoRoom(room as u32)));
+        let room = disk.len().saturating_sub(at);
+        return Err(place.fault(Key::Block, KeyFault::NoRoom(room as u32)));
     }
     store(disk, at, bytes);
+    Ok(())
+}
+
+/// Stores the file that the table of this number means.
+fn disk_file<S: Shelf>(
+    alloc: Global,
+    shelf: &mut S,
+    manifest: &str,
+    table: &Value,
+    number: usize,
+    disk: &mut [u8],
+) -> Result<(), PackError>
+    requires settled { S.is_settled shelf.old }
+    requires small { length disk.old ≤ 4096 * 4096 }
+    ensures read { ReturnsRead (λ _. disk.new)
+        (FileReads (S.held shelf.old) manifest.now number (view table.now) disk.old) result }
+    ensures reads { ReadsParts (files S.Shelf shelf.old) (files S.Shelf shelf.new) result }
+    ensures settled { S.is_settled shelf.new }
+{
+    let part = ManifestTable::File(number);
+    let place = NamedTable { part, table };
+    place.has_only(alloc, &[Key::Block, Key::Text, Key::Bytes])?;
+    let bytes = source(alloc, shelf, manifest, place)?;
+    place_file(place, bytes.as_slice(), disk)?;
     Ok(())
 }
 
@@ -48,28 +76,24 @@ fn place_files<S: Shelf>(
     tables: &[Value],
     disk: &mut [u8],
 ) -> Result<(), PackError>
-    requires { S.is_settled shelf.old }
-    ensures stored { OnOk result (StoresFiles (S.held shelf.old) manifest.now (items_view tables.now) disk.old disk.new) }
-    ensures same_length { length disk.new ≡ length disk.old }
+    requires settled { S.is_settled shelf.old }
+    requires small { length disk.old ≤ 4096 * 4096 }
+    ensures read { ReturnsRead (λ _. disk.new)
+        (InTurn (FileReads (S.held shelf.old) manifest.now) 1 (items_view tables.now) disk.old) result }
     ensures reads { ReadsParts (files S.Shelf shelf.old) (files S.Shelf shelf.new) result }
     ensures settled { S.is_settled shelf.new }
 {
-    let mut count = 0;
-    for table in tables {
-        count = u32::saturating_add(count, 1);
-        let part = Part::File(count);
-        let place = Place { part, table };
-        place.has_only(alloc, &[Key::Block, Key::Text, Key::Bytes])?;
-        let bytes = source(alloc, shelf, manifest, place)?;
-        place_file(place, bytes.as_slice(), disk)?;
+    for (index, table) in tables.iter().enumerate() {
+        disk_file(alloc, shelf, manifest, table, index + 1, disk)?;
     }
     Ok(())
 }
 
 /// The blocks of zeros of a disk.
-fn blank_disk(alloc: Global, blocks: u32) -> Result<Vec<u8>, PackFault>
+fn blank_disk(alloc: Global, blocks: u32) -> Result<Vec<u8>, PackError>
     requires { blocks ≤ 4096 }
-    ensures { IfOk result (λ v. v.items ≡ replicate (4096 * blocks) 0) }
+    ensures zeros { IfOk result (λ v. v.items ≡ replicate (4096 * blocks) 0) }
+    ensures want { IfErr result IsWant }
 {
     Ok(vec![in alloc; 0; blocks as usize * 4096]?)
 }
@@ -79,15 +103,17 @@ fn disk_of<S: Shelf>(
     alloc: Global,
     shelf: &mut S,
     manifest: &str,
-    place: Place<'_>,
+    table: &Value,
 ) -> Result<Vec<u8>, PackError>
     requires { S.is_settled shelf.old }
-    ensures means { IfOk result (λ v. IsDiskOf (S.held shelf.old) manifest.now (view place.entry.table.now) v.items) }
+    ensures read { ReturnsRead (λ v. v.items) (DiskTableReads (S.held shelf.old) manifest.now (view table.now)) result }
     ensures blocks { IfOk result (λ v. length v.items % 4096 ≡ 0) }
     ensures few { IfOk result (λ v. length v.items ≤ 4096 * 4096) }
     ensures reads { ReadsParts (files S.Shelf shelf.old) (files S.Shelf shelf.new) result }
     ensures settled { S.is_settled shelf.new }
 {
+    let part = ManifestTable::Disk;
+    let place = NamedTable { part, table };
     place.has_only(alloc, &[Key::Blocks, Key::File])?;
     let blocks = place.needed_number(Key::Blocks, 0, 4096)?;
     let tables = place.list(Key::File)?;
@@ -101,22 +127,25 @@ pub fn disk<S: Shelf>(
     alloc: Global,
     shelf: &mut S,
     manifest: &str,
-    place: Place<'_>,
+    document: &Value,
 ) -> Result<Vec<u8>, PackError>
     requires { S.is_settled shelf.old }
-    ensures means { IfOk result (λ v.
-        IsDisk (S.held shelf.old) manifest.now (stands_at keys.Disk (view place.entry.table.now)) v.items) }
+    ensures read { ReturnsRead (λ v. v.items)
+        (DiskReads (S.held shelf.old) manifest.now (stands_at keys.Disk (view document.now))) result }
     ensures blocks { IfOk result (λ v. length v.items % 4096 ≡ 0) }
     ensures few { IfOk result (λ v. length v.items ≤ 4096 * 4096) }
     ensures reads { ReadsParts (files S.Shelf shelf.old) (files S.Shelf shelf.new) result }
     ensures settled { S.is_settled shelf.new }
 {
+    let place = NamedTable {
+        part: ManifestTable::Image,
+        table: document,
+    };
     let Some(table) = place.value(Key::Disk) else {
         return Ok(Vec::new(alloc));
     };
-    if !table.is_table() {
-        return Err(PackError::Faulty(place.fault(Key::Disk, Wrong::NoTable)));
+    if table.as_table().is_none() {
+        return Err(PackError::from(place.fault(Key::Disk, KeyFault::NoTable)));
     }
-    let part = Part::Disk;
-    disk_of(alloc, shelf, manifest, Place { part, table })
+    disk_of(alloc, shelf, manifest, table)
 }

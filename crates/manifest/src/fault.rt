@@ -3,13 +3,13 @@ ghost use Rattle.std.specs.Prelude.{◌≡◌};
 ghost use Rattle.manifest.specs.declared.fault.PackFault.TheVariants as faults;
 ghost use Rattle.manifest.specs.declared.fault.PackError.TheVariants as errors;
 
-use crate::key::{Key, Part};
+use crate::key::{Key, ManifestTable};
 use asm_text::TextFault;
 use std::alloc::{AllocError, AllocFailed};
 
 /// What is wrong at a key.
 #[derive(Clone, Copy, Debug, PartialEq, Eq)]
-pub enum Wrong {
+pub enum KeyFault {
     /// The key is needed, and is not there.
     Missing,
     /// Neither this key, which names a file of bytes, nor the one that names a text is there.
@@ -44,10 +44,17 @@ pub enum Wrong {
     TooLarge,
 }
 
-/// Why a manifest means no bundle, or there is no memory to see what it means.
+/// What is wrong at a key of a table.
+#[derive(Clone, Copy, Debug, PartialEq, Eq)]
+pub struct FaultyKey {
+    pub part: ManifestTable,
+    pub key: Key,
+    pub wrong: KeyFault,
+}
+
+/// Why a manifest means no bundle.
 #[derive(Debug, Drop)]
 pub enum PackFault {
-    NoMemory,
     /// The manifest has more than 1,048,576 bytes.
     TooLong,
     /// The manifest is no UTF-8.
@@ -55,39 +62,19 @@ pub enum PackFault {
     /// The manifest is no TOML document; what its reader says.
     NotToml(String),
     /// What stands at a key is wrong.
-    AtKey {
-        part: Part,
-        key: Key,
-        wrong: Wrong,
-    },
+    AtKey(FaultyKey),
     /// There is no key of this name in this table.
     UnknownKey {
-        part: Part,
+        part: ManifestTable,
         name: String,
     },
     /// The assembler text of this file is faulty.
     FaultyText {
-        part: Part,
+        part: ManifestTable,
         name: String,
         text: String,
         fault: TextFault,
     },
-}
-
-impl From<AllocError> for PackFault {
-    ghost from_gives = { λ _ fault. fault ≡ faults.NoMemory };
-
-    fn from(_: AllocError) -> PackFault {
-        PackFault::NoMemory
-    }
-}
-
-impl<T: Drop> From<AllocFailed<T>> for PackFault {
-    ghost from_gives = { λ _ fault. fault ≡ faults.NoMemory };
-
-    fn from(_: AllocFailed<T>) -> PackFault {
-        PackFault::NoMemory
-    }
 }
 
 /// Why there is no bundle.
@@ -95,21 +82,30 @@ impl<T: Drop> From<AllocFailed<T>> for PackFault {
 pub enum PackError {
     /// A file could not be read.
     ReadFault,
+    NoMemory,
     Faulty(PackFault),
 }
 
-impl From<PackFault> for PackError {
-    ghost from_gives = { λ fault error. error ≡ errors.Faulty fault };
+impl From<FaultyKey> for PackError {
+    ghost from_gives = { λ fault error. error ≡ errors.Faulty (faults.AtKey fault) };
 
-    fn from(fault: PackFault) -> PackError {
-        PackError::Faulty(fault)
+    fn from(fault: FaultyKey) -> PackError {
+        PackError::Faulty(PackFault::AtKey(fault))
+    }
+}
+
+impl From<AllocError> for PackError {
+    ghost from_gives = { λ _ error. error ≡ errors.NoMemory };
+
+    fn from(_: AllocError) -> PackError {
+        PackError::NoMemory
     }
 }
 
 impl<T: Drop> From<AllocFailed<T>> for PackError {
-    ghost from_gives = { λ _ error. error ≡ errors.Faulty faults.NoMemory };
+    ghost from_gives = { λ _ error. error ≡ errors.NoMemory };
 
     fn from(_: AllocFailed<T>) -> PackError {
-        PackError::Faulty(PackFault::NoMemory)
+        PackError::NoMemory
     }
 }

@@ -1,19 +1,17 @@
 //! The kernel of an image.
-ghost use Rattle.std.specs.Prelude.{◌≡◌, ◌≤◌, ◌<◌, ◌%◌, ◌^◌, ◌*◌, All, EachIndex, IfOk, length, pos, slice_index};
-ghost use Rattle.toml.specs.Data.{integer};
+ghost use Rattle.std.specs.Prelude.{◌≡◌, ◌≤◌, ◌<◌, ◌%◌, [], All, IfOk, IfErr, length};
 ghost use Rattle.toml.specs.View.{view, items_view};
 ghost use Rattle.command_parts.specs.Outside.{files};
-ghost use Rattle.cloak_base.specs.Constants.{ram_start};
 ghost use Rattle.cloak_model.specs.Bundle.{IsKernelImage};
-ghost use Rattle.manifest.specs.declared.key.Key.TheVariants as keys;
-ghost use Rattle.manifest.specs.Keys.{stands_at};
-ghost use Rattle.manifest.specs.Manifest.{EachMeans, IsKernelOf, IsNumberOr, IsSchedule};
-ghost use Rattle.manifest.specs.Reading.{ReadsParts};
+ghost use Rattle.manifest.specs.Parts.{entry_at, harts_in_order, schedule_at, turns_of};
+ghost use Rattle.manifest.specs.Faults.{ReturnsRead, by_keys};
+ghost use Rattle.manifest.specs.Images.{KernelReads};
+ghost use Rattle.manifest.specs.Reading.{IsNoReadFault, IsWant, ReadsParts};
 
 use crate::disk::disk;
-use crate::fault::{PackError, PackFault, Wrong};
-use crate::fields::{Place, in_range};
-use crate::key::Key;
+use crate::fault::{FaultyKey, KeyFault, PackError};
+use crate::fields::{NamedTable, expect_multiple, in_range};
+use crate::key::{Key, ManifestTable};
 use crate::segments::segments;
 use cloak_base::RAM_START;
 use cloak_model::{KernelImage, Sequence};
@@ -22,11 +20,12 @@ use std::alloc::Global;
 use toml::Value;
 
 /// The harts in order, one turn each.
-fn plain_schedule(alloc: Global, harts: u32) -> Result<Vec<u8>, PackFault>
+fn plain_schedule(alloc: Global, harts: u32) -> Result<Vec<u8>, PackError>
     requires { harts ≤ 4 }
+    ensures order { IfOk result (λ v. v.items ≡ harts_in_order harts) }
     ensures count { IfOk result (λ v. length v.items ≡ harts) }
-    ensures order { IfOk result (λ v. EachIndex v.items (λ turn. slice_index v.items turn ≡ turn)) }
     ensures turns { IfOk result (λ v. All (λ h. h < harts) v.items) }
+    ensures want { IfErr result IsWant }
 {
     let mut turns = Vec::new(alloc);
     for hart in 0..harts {
@@ -38,13 +37,14 @@ fn plain_schedule(alloc: Global, harts: u32) -> Result<Vec<u8>, PackFault>
 /// The turns that values mean.
 fn given_schedule(
     alloc: Global,
-    place: Place<'_>,
+    place: NamedTable<'_>,
     turns: &[Value],
     harts: u32,
-) -> Result<Vec<u8>, PackFault>
+) -> Result<Vec<u8>, PackError>
     requires some { 1 ≤ harts }
     requires few { harts ≤ 4 }
-    ensures mean { IfOk result (λ v. EachMeans (λ value turn. value ≡ integer (pos turn)) (items_view turns.now) v.items) }
+    ensures read { ReturnsRead (λ v. v.items) (λ r. r ≡ by_keys (turns_of place.entry.part harts [] (items_view turns.now))) result }
+    ensures no_read { IfErr result IsNoReadFault }
     ensures count { IfOk result (λ v. length v.items ≡ length turns.now) }
     ensures turns { IfOk result (λ v. All (λ h. h < harts) v.items) }
 {
@@ -53,17 +53,23 @@ fn given_schedule(
     for turn in turns {
         match in_range(turn, 0, last) {
             Some(hart) => schedule.push(hart as u8)?,
-            None => return Err(place.fault(Key::Schedule, Wrong::NoTurn(last))),
+            None => {
+                let fault = place.fault(Key::Schedule, KeyFault::NoTurn(last));
+                return Err(PackError::from(fault));
+            }
         }
     }
     Ok(schedule)
 }
 
 /// The schedule of a document for this many harts: 1 to 64 turns, or the harts in order if none is given.
-fn schedule(alloc: Global, place: Place<'_>, harts: u32) -> Result<Vec<u8>, PackFault>
+#[tactic(auto, using(crate::proofs::Counted::count_of_view), unfolding(crate::specs::Parts::schedule_at, crate::specs::Parts::schedule_of))]
+fn schedule(alloc: Global, place: NamedTable<'_>, harts: u32) -> Result<Vec<u8>, PackError>
     requires some { 1 ≤ harts }
     requires few { harts ≤ 4 }
-    ensures means { IfOk result (λ v. IsSchedule (stands_at keys.Schedule (view place.entry.table.now)) harts v.items) }
+    ensures read { ReturnsRead (λ v. v.items)
+        (λ r. r ≡ by_keys (schedule_at place.entry.part (view place.entry.table.now) harts)) result }
+    ensures no_read { IfErr result IsNoReadFault }
     ensures some_turns { IfOk result (λ v. 1 ≤ length v.items) }
     ensures few_turns { IfOk result (λ v. length v.items ≤ 64) }
     ensures turns { IfOk result (λ v. All (λ h. h < harts) v.items) }
@@ -72,27 +78,26 @@ fn schedule(alloc: Global, place: Place<'_>, harts: u32) -> Result<Vec<u8>, Pack
         return plain_schedule(alloc, harts);
     };
     let Some(turns) = value.as_array() else {
-        return Err(place.fault(Key::Schedule, Wrong::NoList));
+        return Err(PackError::from(place.fault(Key::Schedule, KeyFault::NoList)));
     };
     if turns.is_empty() {
-        return Err(place.fault(Key::Schedule, Wrong::TooFew));
+        return Err(PackError::from(place.fault(Key::Schedule, KeyFault::TooFew)));
     }
     if turns.len() > 64 {
-        return Err(place.fault(Key::Schedule, Wrong::TooMany(64)));
+        let fault = place.fault(Key::Schedule, KeyFault::TooMany(64));
+        return Err(PackError::from(fault));
     }
     given_schedule(alloc, place, turns.as_slice(), harts)
 }
 
 /// The program counter at which the harts begin.
-fn entry(place: Place<'_>) -> Result<u32, PackFault>
-    ensures value { IfOk result (IsNumberOr (stands_at keys.Entry (view place.entry.table.now)) ram_start) }
+#[tactic(auto, unfolding(crate::specs::Parts::entry_at))]
+fn entry(place: NamedTable<'_>) -> Result<u32, FaultyKey>
+    ensures read { result ≡ entry_at place.entry.part (view place.entry.table.now) }
     ensures multiple { IfOk result (λ n. n % 4 ≡ 0) }
 {
     let entry = place.number_or(Key::Entry, 0, u32::MAX, RAM_START)?;
-    if entry % 4 != 0 {
-        return Err(place.fault(Key::Entry, Wrong::NoMultiple(4)));
-    }
-    Ok(entry)
+    expect_multiple(place, Key::Entry, 4, entry)
 }
 
 /// The kernel that a document means.
@@ -100,21 +105,25 @@ pub fn kernel<S: Shelf>(
     alloc: Global,
     shelf: &mut S,
     manifest: &str,
-    place: Place<'_>,
+    document: &Value,
 ) -> Result<KernelImage, PackError>
     requires { S.is_settled shelf.old }
-    ensures means { IfOk result (IsKernelOf (S.held shelf.old) manifest.now (view place.entry.table.now)) }
+    ensures read { ReturnsRead (λ k. k) (KernelReads (S.held shelf.old) manifest.now (view document.now)) result }
     ensures in_image { IfOk result IsKernelImage }
     ensures reads { ReadsParts (files S.Shelf shelf.old) (files S.Shelf shelf.new) result }
     ensures settled { S.is_settled shelf.new }
 {
+    let place = NamedTable {
+        part: ManifestTable::Image,
+        table: document,
+    };
     let frames = place.number_or(Key::Frames, 64, 4096, 64)?;
     let harts = place.number_or(Key::Harts, 1, 4, 1)?;
     let schedule = schedule(alloc, place, harts)?;
     let entry = entry(place)?;
     let tables = place.short_list(Key::Segment, 16)?;
     let segments = segments(alloc, shelf, manifest, tables, frames)?;
-    let disk = disk(alloc, shelf, manifest, place)?;
+    let disk = disk(alloc, shelf, manifest, document)?;
     Ok(KernelImage {
         frames,
         harts,

@@ -56,12 +56,12 @@ impl Key {
 
 /// A table of a manifest; those of a list are counted from 1.
 #[derive(Clone, Copy, Debug, PartialEq, Eq)]
-pub enum Part {
+pub enum ManifestTable {
     /// The top of the document.
     Image,
-    Segment(u32),
+    Segment(usize),
     Disk,
     /// A file of the disk.
-    File(u32),
-    Program(u32),
+    File(usize),
+    Program(usize),
 }

@@ -1,7 +1,8 @@
 //! The manifest of a guest image: a TOML document that says what stands where, and the bundle that it means.
 //!
-//! What a manifest means is `specs/Manifest`. The layer above may rely on this: `pack_command` writes exactly the file of
-//! version 2 of the bundle that a manifest means, or shows the key at which one is faulty, and what is wrong there.
+//! What a manifest means is `specs/Images`: a bundle, or a first fault. The layer above may rely on this: `pack_command`
+//! writes exactly the file of version 2 of the bundle that a manifest means, or shows its first fault: the table, the key,
+//! and what is wrong there.
 #![tactic(auto)]
 
 mod disk;
@@ -17,6 +18,6 @@ mod segments;
 mod sources;
 mod telling;
 
-pub use fault::{PackError, PackFault, Wrong};
-pub use key::{Key, Part};
+pub use fault::{FaultyKey, KeyFault, PackError, PackFault};
+pub use key::{Key, ManifestTable};
 pub use pack::pack_command;

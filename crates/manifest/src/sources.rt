@@ -1,18 +1,17 @@
 //! The bytes that a table of a manifest names: those of a file, or of the words of an assembler text.
-ghost use Rattle.std.specs.Prelude.{◌≡◌, ◌<◌, ◌≤◌, IfOk, IfSome, length, string_bytes};
-ghost use Rattle.std.specs.Str.{IsUtf8};
-ghost use Rattle.io_traits.specs.Told.{Tells};
-ghost use Rattle.toml.specs.Data.{string};
+ghost use Rattle.std.specs.Prelude.{◌≡◌, ◌↔◌, IfOk, IfErr, IsTrue, string_bytes};
 ghost use Rattle.toml.specs.View.{view};
-ghost use Rattle.command_parts.specs.Outside.{OnlyRead, files};
-ghost use Rattle.asm_text.specs.Assembling.{IsAssembled, FailsToAssemble};
-ghost use Rattle.manifest.specs.Keys.{stands_at};
-ghost use Rattle.manifest.specs.Manifest.{IsNamedFile, IsPath, IsSource};
-ghost use Rattle.manifest.specs.Reading.{ReadsParts};
+ghost use Rattle.rv_asm.specs.declared.fault.AsmFault.TheVariants as asm;
+ghost use Rattle.asm_text.specs.declared.fault.TextFault.TheVariants as text_fault;
+ghost use Rattle.command_parts.specs.Outside.{files};
+ghost use Rattle.manifest.specs.declared.key.Key.TheVariants as keys;
+ghost use Rattle.manifest.specs.Faults.{ReturnsRead, Then};
+ghost use Rattle.manifest.specs.Sources.{AtPath, IsFileAt, IsPath, SourceReads, TextReads};
+ghost use Rattle.manifest.specs.Reading.{IsNoFault, IsNoReadFault, IsWant, IsWhole, ReadsParts};
 
-use crate::fault::{PackError, PackFault, Wrong};
-use crate::fields::Place;
-use crate::key::{Key, Part};
+use crate::fault::{KeyFault, PackError, PackFault};
+use crate::fields::NamedTable;
+use crate::key::{Key, ManifestTable};
 use asm_text::{TextFault, assembled, shown_text};
 use cloak_base::LARGEST_BUNDLE;
 use command_parts::{Refusal, read_front};
@@ -21,8 +20,9 @@ use rv_asm::AsmFault;
 use std::alloc::Global;
 
 /// The name of a file that a manifest names, from the manifest's folder on.
-fn path_of(alloc: Global, manifest: &str, name: &str) -> Result<String, PackFault>
-    ensures { IfOk result (λ path. IsPath manifest.now name.now (string_bytes path)) }
+fn path_of(alloc: Global, manifest: &str, name: &str) -> Result<String, PackError>
+    ensures path { IfOk result (λ path. IsPath manifest.now name.now (string_bytes path)) }
+    ensures want { IfErr result IsWant }
 {
     if name.starts_with('/') {
         return Ok(String::from_str(alloc, name)?);
@@ -42,15 +42,15 @@ pub fn read_whole<S: Shelf>(
     limit: u32,
 ) -> Result<Option<Vec<u8>>, PackError>
     requires { S.is_settled shelf.old }
-    ensures told { IfOk result (λ found. IfSome found (λ v. Tells (S.held shelf.old name.now) v.items)) }
-    ensures fits { IfOk result (λ found. IfSome found (λ v. length v.items ≤ limit)) }
+    ensures whole { IfOk result (IsWhole (S.held shelf.old name.now) limit) }
+    ensures no_fault { IfErr result IsNoFault }
     ensures reads { ReadsParts (files S.Shelf shelf.old) (files S.Shelf shelf.new) result }
     ensures settled { S.is_settled shelf.new }
 {
     let bytes = match read_front(alloc, shelf, name, u64::from(limit) + 1) {
         Ok(bytes) => bytes,
         Err(Refusal::ReadFault) => return Err(PackError::ReadFault),
-        Err(_) => return Err(PackError::Faulty(PackFault::NoMemory)),
+        Err(_) => return Err(PackError::NoMemory),
     };
     if bytes.len() as u64 > u64::from(limit) {
         return Ok(None);
@@ -63,45 +63,95 @@ fn named_file<S: Shelf>(
     alloc: Global,
     shelf: &mut S,
     path: &str,
-    place: Place<'_>,
+    place: NamedTable<'_>,
     key: Key,
 ) -> Result<Vec<u8>, PackError>
     requires { S.is_settled shelf.old }
-    ensures told { IfOk result (λ v. Tells (S.held shelf.old path.now) v.items) }
-    ensures some { IfOk result (λ v. 0 < length v.items) }
+    ensures read { ReturnsRead (λ v. v.items) (IsFileAt place.entry.part key (S.held shelf.old path.now)) result }
     ensures reads { ReadsParts (files S.Shelf shelf.old) (files S.Shelf shelf.new) result }
     ensures settled { S.is_settled shelf.new }
 {
     match read_whole(alloc, shelf, path, LARGEST_BUNDLE) {
         Ok(Some(bytes)) => {
-            if bytes.is_empty() {
-                return Err(PackError::Faulty(place.fault(key, Wrong::NoFile)));
+            if bytes.as_slice().is_empty() {
+                return Err(PackError::from(place.fault(key, KeyFault::NoFile)));
             }
             Ok(bytes)
         }
-        Ok(None) => Err(PackError::Faulty(place.fault(key, Wrong::NoRoom(LARGEST_BUNDLE)))),
+        Ok(None) => Err(PackError::from(place.fault(key, KeyFault::NoRoom(LARGEST_BUNDLE)))),
         Err(error) => Err(error),
     }
 }
 
+/// This fault is want of memory.
+fn is_want(fault: TextFault) -> bool
+    ensures { IsTrue result ↔ (fault ≡ text_fault.Faulty asm.NoMemory) }
+{
+    matches!(fault, TextFault::Faulty(AsmFault::NoMemory))
+}
+
 /// The bytes of the words of the assembler text in the file of this name.
-fn words_of(alloc: Global, part: Part, name: String, text: &[u8]) -> Result<Vec<u8>, PackFault>
-    ensures { IfOk result (λ bytes. IsAssembled text.now bytes.items) }
+fn words_of(
+    alloc: Global,
+    part: ManifestTable,
+    name: String,
+    text: &[u8],
+) -> Result<Vec<u8>, PackError>
+    ensures read { ReturnsRead (λ v. v.items) (TextReads part (string_bytes name) text.now) result }
+    ensures no_read { IfErr result IsNoReadFault }
 {
     let fault = match assembled(alloc, text) {
         Ok(bytes) => return Ok(bytes),
         Err(fault) => fault,
     };
-    if fault == TextFault::Faulty(AsmFault::NoMemory) {
-        return Err(PackFault::NoMemory);
+    if is_want(fault) {
+        return Err(PackError::NoMemory);
     }
     let text = String::from_str(alloc, shown_text(text))?;
-    Err(PackFault::FaultyText {
+    Err(PackError::Faulty(PackFault::FaultyText {
         part,
         name,
         text,
         fault,
-    })
+    }))
+}
+
+/// The bytes of the file of a name.
+fn flat_source<S: Shelf>(
+    alloc: Global,
+    shelf: &mut S,
+    manifest: &str,
+    place: NamedTable<'_>,
+    name: &str,
+) -> Result<Vec<u8>, PackError>
+    requires { S.is_settled shelf.old }
+    ensures source { ReturnsRead (λ v. v.items)
+        (AtPath manifest.now name.now (λ path. IsFileAt place.entry.part keys.Bytes (S.held shelf.old path))) result }
+    ensures reads { ReadsParts (files S.Shelf shelf.old) (files S.Shelf shelf.new) result }
+    ensures settled { S.is_settled shelf.new }
+{
+    let path = path_of(alloc, manifest, name)?;
+    named_file(alloc, shelf, path.as_str(), place, Key::Bytes)
+}
+
+/// The bytes of the words of the assembler text in the file of a name.
+fn text_source<S: Shelf>(
+    alloc: Global,
+    shelf: &mut S,
+    manifest: &str,
+    place: NamedTable<'_>,
+    name: &str,
+) -> Result<Vec<u8>, PackError>
+    requires { S.is_settled shelf.old }
+    ensures source { ReturnsRead (λ v. v.items)
+        (AtPath manifest.now name.now (λ path.
+        Then (IsFileAt place.entry.part keys.Text (S.held shelf.old path)) (TextReads place.entry.part path))) result }
+    ensures reads { ReadsParts (files S.Shelf shelf.old) (files S.Shelf shelf.new) result }
+    ensures settled { S.is_settled shelf.new }
+{
+    let path = path_of(alloc, manifest, name)?;
+    let text = named_file(alloc, shelf, path.as_str(), place, Key::Text)?;
+    words_of(alloc, place.part, path, text.as_slice())
 }
 
 /// The bytes that a table names: those of a file at `bytes`, or those of the words of an assembler text at `text`.
@@ -109,26 +159,20 @@ pub fn source<S: Shelf>(
     alloc: Global,
     shelf: &mut S,
     manifest: &str,
-    place: Place<'_>,
+    place: NamedTable<'_>,
 ) -> Result<Vec<u8>, PackError>
     requires { S.is_settled shelf.old }
-    ensures source { IfOk result (λ v. IsSource (S.held shelf.old) manifest.now (view place.entry.table.now) v.items) }
+    ensures source { ReturnsRead (λ v. v.items)
+        (SourceReads (S.held shelf.old) manifest.now place.entry.part (view place.entry.table.now)) result }
     ensures reads { ReadsParts (files S.Shelf shelf.old) (files S.Shelf shelf.new) result }
     ensures settled { S.is_settled shelf.new }
 {
     let flat = place.file_name(Key::Bytes)?;
     let written = place.file_name(Key::Text)?;
     match (flat, written) {
-        (Some(name), None) => {
-            let path = path_of(alloc, manifest, name)?;
-            named_file(alloc, shelf, path.as_str(), place, Key::Bytes)
-        }
-        (None, Some(name)) => {
-            let path = path_of(alloc, manifest, name)?;
-            let text = named_file(alloc, shelf, path.as_str(), place, Key::Text)?;
-            Ok(words_of(alloc, place.part, path, text.as_slice())?)
-        }
-        (None, None) => Err(PackError::Faulty(place.fault(Key::Bytes, Wrong::NoSource))),
-        (Some(_), Some(_)) => Err(PackError::Faulty(place.fault(Key::Bytes, Wrong::TwoSources))),
+        (Some(name), None) => flat_source(alloc, shelf, manifest, place, name),
+        (None, Some(name)) => text_source(alloc, shelf, manifest, place, name),
+        (None, None) => Err(PackError::from(place.fault(Key::Bytes, KeyFault::NoSource))),
+        (Some(_), Some(_)) => Err(PackError::from(place.fault(Key::Bytes, KeyFault::TwoSources))),
     }
 }

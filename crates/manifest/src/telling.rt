@@ -2,9 +2,10 @@
 ghost use Rattle.std.specs.Prelude.{◌≡◌, Some};
 ghost use Rattle.std.specs.Fmt.{DisplaysOnOk};
 ghost use Rattle.manifest.specs.Telling as spec;
+ghost use Rattle.manifest.specs.Faults.{fault_of};
 
-use crate::fault::{PackFault, Wrong};
-use crate::key::Part;
+use crate::fault::{FaultyKey, KeyFault, PackFault};
+use crate::key::ManifestTable;
 use asm_text::{FaultyText, TextFault};
 use std::fmt;
 
@@ -16,54 +17,57 @@ pub struct FaultyManifest<'a> {
     pub fault: &'a PackFault,
 }
 
-impl fmt::Display for Part {
+impl fmt::Display for ManifestTable {
     ghost output = { λ part. Some (spec.part_text part) };
 
     fn fmt<W: fmt::Write>(&self, f: &mut fmt::Formatter<W>) -> fmt::Result {
         match self {
-            Part::Image => Ok(()),
-            Part::Segment(number) => write!(f, "segment {number}: "),
-            Part::Disk => f.write_str("disk: "),
-            Part::File(number) => write!(f, "disk: file {number}: "),
-            Part::Program(number) => write!(f, "program {number}: "),
+            ManifestTable::Image => Ok(()),
+            ManifestTable::Segment(number) => write!(f, "segment {number}: "),
+            ManifestTable::Disk => f.write_str("disk: "),
+            ManifestTable::File(number) => write!(f, "disk: file {number}: "),
+            ManifestTable::Program(number) => write!(f, "program {number}: "),
         }
     }
 }
 
-impl fmt::Display for Wrong {
+impl fmt::Display for KeyFault {
     ghost output = { λ wrong. Some (spec.wrong_words wrong) };
 
     fn fmt<W: fmt::Write>(&self, f: &mut fmt::Formatter<W>) -> fmt::Result {
         match self {
-            Wrong::Missing => f.write_str("it is missing"),
-            Wrong::NoSource => f.write_str("it is missing, and so is `text`"),
-            Wrong::NoNumber(least, most) => {
+            KeyFault::Missing => f.write_str("it is missing"),
+            KeyFault::NoSource => f.write_str("it is missing, and so is `text`"),
+            KeyFault::NoNumber(least, most) => {
                 write!(f, "it is to be a whole number from {least} to {most}")
             }
-            Wrong::NoTurn(last) => write!(f, "each turn is to be a whole number from 0 to {last}"),
-            Wrong::NoMultiple(of) => write!(f, "it is to be a multiple of {of}"),
-            Wrong::NoName => f.write_str("it is to be the name of a file, in quotes"),
-            Wrong::NoList => f.write_str("it is to be a list"),
-            Wrong::NoTable => f.write_str("it is to be a table"),
-            Wrong::TooFew => f.write_str("it is to have at least 1 element"),
-            Wrong::TooMany(most) => write!(f, "it is to have at most {most} elements"),
-            Wrong::TwoSources => f.write_str("it stands beside `text`; one of both is to go"),
-            Wrong::NoFile => f.write_str("the file is empty, or is not there"),
-            Wrong::NoRoom(room) => {
+            KeyFault::NoTurn(last) => write!(
+                f,
+                "each turn is to be a whole number from 0 to {last}"
+            ),
+            KeyFault::NoMultiple(of) => write!(f, "it is to be a multiple of {of}"),
+            KeyFault::NoName => f.write_str("it is to be the name of a file, in quotes"),
+            KeyFault::NoList => f.write_str("it is to be a list"),
+            KeyFault::NoTable => f.write_str("it is to be a table"),
+            KeyFault::TooFew => f.write_str("it is to have at least 1 element"),
+            KeyFault::TooMany(most) => write!(f, "it is to have at most {most} elements"),
+            KeyFault::TwoSources => f.write_str("it stands beside `text`; one of both is to go"),
+            KeyFault::NoFile => f.write_str("the file is empty, or is not there"),
+            KeyFault::NoRoom(room) => {
                 write!(f, "there is room for {room} bytes, and there are more")
             }
-            Wrong::PastRam => f.write_str("what begins here goes past the end of RAM"),
-            Wrong::PastAddresses => {
+            KeyFault::PastRam => f.write_str("what begins here goes past the end of RAM"),
+            KeyFault::PastAddresses => {
                 f.write_str("the pages that begin here go past the last address")
             }
-            Wrong::TooLarge => f.write_str("the bundle would have more than 67108864 bytes"),
+            KeyFault::TooLarge => f.write_str("the bundle would have more than 67108864 bytes"),
         }
     }
 }
 
 /// Writes what is wrong with the text in a file of this name, which a table names.
 fn write_faulty_text<W: fmt::Write>(
-    part: &Part,
+    part: &ManifestTable,
     name: &str,
     text: &str,
     fault: TextFault,
@@ -76,19 +80,24 @@ fn write_faulty_text<W: fmt::Write>(
     write!(f, "{part}text: the file is no assembler text\n{faulty}")
 }
 
+impl fmt::Display for FaultyKey {
+    ghost output = { λ fault. Some (spec.key_fault_line fault) };
+
+    fn fmt<W: fmt::Write>(&self, f: &mut fmt::Formatter<W>) -> fmt::Result {
+        let key = self.key.name();
+        write!(f, "{}{key}: {}\n", self.part, self.wrong)
+    }
+}
+
 impl fmt::Display for PackFault {
-    ghost output = { λ fault. Some (spec.pack_fault_line fault) };
+    ghost output = { λ fault. Some (spec.fault_line (fault_of fault)) };
 
     fn fmt<W: fmt::Write>(&self, f: &mut fmt::Formatter<W>) -> fmt::Result {
         match self {
-            PackFault::NoMemory => f.write_str("there is not enough memory\n"),
             PackFault::TooLong => f.write_str("the file has more than 1048576 bytes\n"),
             PackFault::NotText => f.write_str("the file is no text in UTF-8\n"),
             PackFault::NotToml(words) => write!(f, "no TOML document: {words}\n"),
-            PackFault::AtKey { part, key, wrong } => {
-                let key = key.name();
-                write!(f, "{part}{key}: {wrong}\n")
-            }
+            PackFault::AtKey(fault) => write!(f, "{fault}"),
             PackFault::UnknownKey { part, name } => {
                 write!(f, "{part}{name}: there is no key of this name here\n")
             }
@@ -103,7 +112,7 @@ impl fmt::Display for PackFault {
 }
 
 impl fmt::Display for FaultyManifest<'_> {
-    ghost output = { λ m. Some (spec.pack_text m.name.now m.fault.now) };
+    ghost output = { λ m. Some (spec.pack_text m.name.now (fault_of m.fault.now)) };
 
     fn fmt<W: fmt::Write>(&self, f: &mut fmt::Formatter<W>) -> fmt::Result {
         write!(f, "{}: {}", self.name, self.fault)

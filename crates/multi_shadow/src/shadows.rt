@@ -44,9 +44,10 @@ pub struct Shadows {
     arena: ChainArena<Entry>,
     recent: Recent,
     counts: ShadowCounts,
-    /// How many looks had found an entry when a recent one was last ended through its tables. The regime does not show it.
+    /// How many looks had found an entry when a recent one was last ended through its tables. The model does not show
+    /// it.
     hits: u64,
-    /// For how many misses more it is not worth it to learn. The regime does not show it.
+    /// For how many misses more it is not worth it to learn. The model does not show it.
     pause: u8,
 }
 

@@ -19,7 +19,7 @@ use Rattle.cloak_model.specs.KernelStep.{ticked}
 use Rattle.cloak_model.specs.Parts.{Joint}
 use Rattle.cloak_model.specs.Resuming.{by_root, by_context, by_domain, resume}
 use Rattle.cloak_model.specs.World.{World, Cloaked}
-use Rattle.domain_isolation.proofs.StepScripts.{step_scripted}
+use Rattle.script_fold.proofs.StepScripts.{step_scripted}
 use Rattle.domain_isolation.proofs.Steady.{is_cloaked}
 use Rattle.page_law.proofs.Settlings.{touched_draws}
 use Rattle.std.proofs.lemmas.Bool.{false≢true}
@@ -28,9 +28,9 @@ use Rattle.cloak_base.specs.declared.causes.Violation.{Violation}
 use Rattle.cloak_model.specs.declared.answer.Answer.{Answer}
 use Rattle.cloak_model.specs.declared.answer.Answer.TheVariants as told
 use Rattle.cloak_model.specs.World.{Cloak, violation_of}
-use Rattle.domain_isolation.proofs.Scripts.{Question, Script, Gives, Asks, Reads, Changes, asked, changed, played, Ending, IsStop, EndsSo}
+use Rattle.script_fold.proofs.Scripts.{Question, Script, Gives, Asks, Reads, Changes, asked, changed, played, EndClaims, IsStop, EndsSo}
 use Rattle.domain_isolation.proofs.Answers.{question_answered, change_leaves}
-use Rattle.domain_isolation.proofs.StepScripts.{of_domain}
+use Rattle.script_fold.proofs.StepScripts.{of_domain}
 use Rattle.cloak_model.specs.AskPages.{ask_read}
 use Rattle.page_law.proofs.Steps.{ends_domain_step}
 use Rattle.domain_isolation.proofs.InsideSteps.{ended_met}
@@ -77,14 +77,14 @@ outside_keeps j number h = ended_keeps _ number _ _ ∙ (touched_draws {count = 
 
 -- If a script has met a violation, it was stopped.
 
-stop_gives : {d : ℕ} {A : Type 0} (e : Ending A) (s : Script d A) (w : World) → IsStop e s → e.stopped (played s w).answer
+stop_gives : {d : ℕ} {A : Type 0} (e : EndClaims A) (s : Script d A) (w : World) → IsStop e s → e.stopped (played s w).answer
 unfolding IsStop
 stop_gives e (Gives a) w is = is
 stop_gives e (Asks question more) w is = absurd is
 stop_gives e (Reads q own at width more) w is = absurd is
 stop_gives e (Changes change more) w is = absurd is
 
-met_by : {d : ℕ} {A : Type 0} (e : Ending A) (question : Question d) (more : Answer → Script d A) (w : World) →
+met_by : {d : ℕ} {A : Type 0} (e : EndClaims A) (question : Question d) (more : Answer → Script d A) (w : World) →
     is_cloaked w ≡ true → violation_of w ≡ None → IsStop e (more told.Stopped) → (o : Option Violation) →
     violation_of (asked question w).world ≡ o →
     (o ≡ None → e.stopped (played (more (asked question w).answer) (asked question w).world).answer) →
@@ -95,7 +95,7 @@ met_by e question more w form none stops (Some v) is later =
     let stop : t.answer ≡ told.Stopped = (question_answered question w form).replied.meets none (ap is_some is) in
     stop_gives e (more t.answer) t.world (subst (λ (a : Answer). IsStop e (more a)) (sym stop) stops)
 
-met_stops : {d : ℕ} {A : Type 0} (e : Ending A) (s : Script d A) (w : World) → EndsSo e s → is_cloaked w ≡ true →
+met_stops : {d : ℕ} {A : Type 0} (e : EndClaims A) (s : Script d A) (w : World) → EndsSo e s → is_cloaked w ≡ true →
     violation_of w ≡ None → is_some (violation_of (played s w).world) ≡ true → e.stopped (played s w).answer
 unfolding EndsSo ask_read
 met_stops e (Gives a) w ends form none some = absurd (false≢true (sym (ap is_some none) ∙ some))

@@ -2,8 +2,6 @@ pub mod Draws
 pub mod Settlings
 pub mod Worlds
 pub mod Questions
-pub mod Instructions
-pub mod Copies
 pub mod Steps
 pub mod Calm
 pub mod Counts

@@ -21,12 +21,11 @@ use Rattle.cloak_model.specs.Parts.{Joint, domain_pages}
 use Rattle.cloak_model.specs.Run.{Run, unless_stopped, turns_from, joint_after, first_moment, run_of, closing}
 use Rattle.cloak_model.specs.World.{World, Flat, Cloaked, Alone, plain_of}
 use Rattle.domain_isolation.proofs.Played.{played_serving, played_others}
-use Rattle.domain_isolation.proofs.StepScripts.{step_scripted}
+use Rattle.script_fold.proofs.StepScripts.{step_scripted}
 use Rattle.domain_isolation.proofs.Answers.{IsServing}
 use Rattle.domain_isolation.proofs.Steady.{is_cloaked}
 use Rattle.kernel_isolation.proofs.Isolated.{until_read, of_opened}
 use Rattle.kernel_isolation.proofs.Numbers.{AreFrom, number_at}
-use Rattle.page_law.specs.Ciphers.{}
 use Rattle.kernel_isolation.specs.Isolation.{joint_until}
 use Rattle.page_law.specs.OwnPages.{program_of_step, StepsKeepPages, ClosingKeepsPages}
 use Rattle.page_law.proofs.OwnDraws.{is_step}

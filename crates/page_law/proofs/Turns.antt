@@ -30,15 +30,15 @@ use Rattle.page_law.proofs.Draws.{OwesPagesOf, HasDrawn, draws_stay, draw_behind
 use Rattle.page_law.proofs.Settlings.{touched_draws}
 use Rattle.page_law.proofs.Worlds.{ShowsFirstFrom}
 use Rattle.std.specs.Prelude.{length, slice_get, is_some}
-use Rattle.std.proofs.Common.{zero, suc, ◌+◌}
+use Rattle.std.proofs.Common.{◌+◌}
 use Rattle.cloak_base.specs.declared.causes.Violation.{Violation}
-use Rattle.cloak_model.specs.Ending.{all_marked, settled_for, ask_end, cloak_for}
-use Rattle.cloak_model.specs.AskPages.{settled_if_marked}
+use Rattle.cloak_model.specs.Ending.{ask_end, cloak_for}
 use Rattle.cloak_model.specs.Opening.{numbers_below}
 use Rattle.cloak_model.specs.World.{ram_of}
 use Rattle.cloak_model.specs.Joint.{next_hart, hart_in, end_domain, ends_once, ends_resumed, ends_asked, answers_violation}
-use Rattle.page_law.proofs.Worlds.{OnlyShows, ShowsFirst, OnlyShows-refl, OnlyShows-trans, ShowsFirst-behind, OnlyChanges-ends}
-use Rattle.page_law.proofs.Questions.{shows_if_marked}
+use Rattle.page_law.proofs.Worlds.{OnlyShows, ShowsFirst, ShowsFirst-behind, OnlyChanges-ends}
+use Rattle.script_fold.proofs.Endings.{keeps_settled_for}
+use Rattle.page_law.proofs.Questions.{show_replies}
 use Rattle.page_law.proofs.Calm.{turn_calm}
 use Rattle.page_law.proofs.Steps.{ends_domain_step, changes_forgets}
 
@@ -252,16 +252,10 @@ turn_uses j number h (Some ctx) all = inside_uses j number (ticked h) ctx _ refl
 
 -- The end of a domain.
 
-shows_for : {count : ℕ} (d f n : ℕ) (w : World) → OnlyShows count w (settled_for d f n w)
-unfolding settled_for
-shows_for d f zero w = OnlyShows-refl w
-shows_for d f (suc n) w =
-    OnlyShows-trans _ _ _ (shows_if_marked d all_marked f w) (shows_for d (f + 1) n (settled_if_marked d all_marked f w))
-
 end_shows : {count : ℕ} (d : ℕ) (w : World) → ShowsFirst count w (ask_end d w).world
 unfolding ask_end
-end_shows d w =
-    ShowsFirst-behind _ _ _ (shows_for d 0 (length (ram_of w)) w)
+end_shows {count} d w =
+    ShowsFirst-behind _ _ _ (keeps_settled_for (OnlyShows count) show_replies.opens.settles d 0 (length (ram_of w)) w)
     (OnlyChanges-ends _ _ (changes_forgets d (numbers_below 16) _))
 
 uses_then : {count : ℕ} (m m' m'' : CloakedMemory) (a b : List Item) → Uses count m a m' → m'.plain ≡ m.plain →

@@ -1,10 +1,9 @@
 -- What a part of a step shows: pages as they are, under draws one after another, and then pages may change.
-use Rattle.std.proofs.Common.{◌≡◌, ◌∙◌, ℕ, Bool, true, false, cond, List, [], ◌∷◌, ◌++◌, length, refl, sym, ap, subst, append_assoc}
+use Rattle.std.proofs.Common.{◌≡◌, ◌∙◌, ℕ, List, [], ◌∷◌, ◌++◌, length, refl, sym, ap, subst, append_assoc}
 use Rattle.std.proofs.lemmas.List.{append-nil}
 use Rattle.cloak_base.specs.declared.names.PageId.{PageId}
 use Rattle.cloak_model.specs.declared.image.Program.{Program}
 use Rattle.cloak_model.specs.declared.item.Item.{Item}
-use Rattle.cloak_model.specs.Asking.{Told}
 use Rattle.cloak_model.specs.Beginning.{Beginning}
 use Rattle.cloak_model.specs.Memory.{Seen}
 use Rattle.cloak_model.specs.World.{World, Cloak, Flat, Cloaked, Alone, Handed}
@@ -161,9 +160,6 @@ OnlyShows-refl w = record {
   };
 }
 
-pub ShowsFirst-refl : {count : ℕ} (w : World) → ShowsFirst count w w
-ShowsFirst-refl w = OnlyShows-ends w w (OnlyShows-refl w)
-
 -- A part that shows first, and that changed no page if it was stopped.
 pub record Shows (count : ℕ) (P : Type 0) (w v : World) : Type 0 where
   pub ends : ShowsFirst count w v
@@ -184,14 +180,6 @@ Shows-behind u v w p q = record {
 
 pub Shows-changes : {count : ℕ} {P : Type 0} (u v : World) → OnlyChanges u v → (P → ⊥) → Shows count P u v
 Shows-changes u v p goes = record { ends = OnlyChanges-ends u v p; stops = λ stopped. absurd (goes stopped) }
-
-pub Shows-so : {count : ℕ} {P Q : Type 0} (u v : World) → (Q → P) → Shows count P u v → Shows count Q u v
-Shows-so u v so p = record { ends = p.ends; stops = λ stopped. p.stops (so stopped) }
-
-pub OnlyShows-either : {count : ℕ} {A : Type 0} (b : Bool) (m n : Told A) (w : World) → OnlyShows count w m.world →
-    OnlyShows count w n.world → OnlyShows count w (cond b m n).world
-OnlyShows-either true m n w p q = p
-OnlyShows-either false m n w p q = q
 
 -- what draws of a memory make of the joint machine's world
 pub shows_by : {count : ℕ} (c c' : Cloak) (items : List Item) → c'.items ≡ c.items ++ items →

@@ -93,7 +93,7 @@ const SHOWN_2: Meta = Meta {
 
 /// A step of a way: a call, or a look at the frames and the stream from outside.
 #[derive(Clone, Copy, Debug, PartialEq, Eq)]
-enum Step {
+enum PagerCall {
     /// Fills the outside frame with one byte.
     Fill(Frame, u8),
     /// Keeps the bytes of the outside frame aside.
@@ -124,7 +124,7 @@ enum Step {
 
 /// What a step showed.
 #[derive(Clone, Copy, Debug, PartialEq, Eq)]
-enum Seen {
+enum SeenOfCall {
     Done,
     Bytes([u8; 32]),
     Offer(Offered),
@@ -139,7 +139,7 @@ enum Seen {
 
 /// A pager of 64 frames and one domain, its random stream, and the bytes that were kept aside.
 #[derive(Drop)]
-struct Run {
+struct PagerRun {
     pager: Pager,
     stream: Stream,
     kept: [u8; 4096],
@@ -164,12 +164,12 @@ fn stream_of(rt: &HostRuntime, bytes: u8) -> Result<Stream, Fail>
     Ok(Stream::bytes(drawn))
 }
 
-impl Run {
+impl PagerRun {
     /// A run whose stream has this many bytes.
-    fn open(rt: &HostRuntime, bytes: u8) -> Result<Run, Fail>
+    fn open(rt: &HostRuntime, bytes: u8) -> Result<PagerRun, Fail>
         requires { bytes < 100 }
     {
-        Ok(Run {
+        Ok(PagerRun {
             pager: Pager::open(rt.alloc(), 64, 1, [KEY; 4], [0; 4])?,
             stream: stream_of(rt, bytes)?,
             kept: [0; 4096],
@@ -177,11 +177,11 @@ impl Run {
     }
 
     /// A run to whose pager page Q is restored, as it is under draw 2 with a 7.
-    fn restored(rt: &HostRuntime, kept: [u8; 4096]) -> Result<Run, Fail> {
+    fn restored(rt: &HostRuntime, kept: [u8; 4096]) -> Result<PagerRun, Fail> {
         let mut pager = Pager::open(rt.alloc(), 64, 1, [KEY; 4], [0; 4])?;
         pager.restore(Q, SHOWN_2);
         let stream = stream_of(rt, 0)?;
-        Ok(Run {
+        Ok(PagerRun {
             pager,
             stream,
             kept,
@@ -189,7 +189,7 @@ impl Run {
     }
 
     /// A run whose stream had this many bytes when page Q was to be placed in frame 5 with a 7, and whether it was.
-    fn placed(rt: &HostRuntime, bytes: u8) -> Result<(Run, bool), Fail>
+    fn placed(rt: &HostRuntime, bytes: u8) -> Result<(PagerRun, bool), Fail>
         requires { bytes < 100 }
     {
         let mut pager = Pager::open(rt.alloc(), 64, 1, [KEY; 4], [0; 4])?;
@@ -197,7 +197,7 @@ impl Run {
         let mut page = [0; 4096];
         page[0] = 7;
         let placed = pager.place(Q, F5, &page, &mut stream);
-        let run = Run {
+        let run = PagerRun {
             pager,
             stream,
             kept: [0; 4096],
@@ -216,41 +216,41 @@ impl Run {
         f.0 < 64 && self.pager.holds(f).is_none()
     }
 
-    fn fill(&mut self, f: Frame, bytes: &[u8; 4096]) -> Seen {
+    fn fill(&mut self, f: Frame, bytes: &[u8; 4096]) -> SeenOfCall {
         if !self.is_outside(f) {
-            return Seen::Unmet;
+            return SeenOfCall::Unmet;
         }
         self.pager.fill_outside(f, bytes);
-        Seen::Done
+        SeenOfCall::Done
     }
 
-    fn keep(&mut self, f: Frame) -> Seen {
+    fn keep(&mut self, f: Frame) -> SeenOfCall {
         if !self.is_outside(f) {
-            return Seen::Unmet;
+            return SeenOfCall::Unmet;
         }
         self.kept = *self.pager.read_outside(f);
-        Seen::Done
+        SeenOfCall::Done
     }
 
-    fn owed(&self, f: Frame) -> Seen {
+    fn owed(&self, f: Frame) -> SeenOfCall {
         if f.0 >= 64 {
-            return Seen::Unmet;
+            return SeenOfCall::Unmet;
         }
-        Seen::Owed(self.pager.owed(f))
+        SeenOfCall::Owed(self.pager.owed(f))
     }
 
-    fn look(&mut self, f: Frame) -> Seen {
+    fn look(&mut self, f: Frame) -> SeenOfCall {
         if !self.is_outside(f) {
-            return Seen::Unmet;
+            return SeenOfCall::Unmet;
         }
-        Seen::Bytes(Sha256::digest(self.pager.read_outside(f).as_slice()))
+        SeenOfCall::Bytes(Sha256::digest(self.pager.read_outside(f).as_slice()))
     }
 
-    fn touch(&mut self, f: Frame) -> Seen {
+    fn touch(&mut self, f: Frame) -> SeenOfCall {
         if f.0 >= 64 {
-            return Seen::Unmet;
+            return SeenOfCall::Unmet;
         }
-        Seen::Touch(self.pager.touch(f, &mut self.stream))
+        SeenOfCall::Touch(self.pager.touch(f, &mut self.stream))
     }
 
     fn can_offer(&self, q: PageId, g: Frame) -> bool
@@ -270,42 +270,42 @@ impl Run {
         }
     }
 
-    fn offer(&mut self, q: PageId, g: Frame, write: bool) -> Seen {
+    fn offer(&mut self, q: PageId, g: Frame, write: bool) -> SeenOfCall {
         if !self.can_offer(q, g) {
-            return Seen::Unmet;
+            return SeenOfCall::Unmet;
         }
-        Seen::Offer(self.pager.offer(q, g, write))
+        SeenOfCall::Offer(self.pager.offer(q, g, write))
     }
 
-    fn read(&self, q: PageId) -> Seen {
+    fn read(&self, q: PageId) -> SeenOfCall {
         if !is_page(q) {
-            return Seen::Unmet;
+            return SeenOfCall::Unmet;
         }
         match self.pager.home(q) {
-            Some(f) => Seen::Word(self.pager.read_plain(q, f, 0, 4)),
-            None => Seen::Unmet,
+            Some(f) => SeenOfCall::Word(self.pager.read_plain(q, f, 0, 4)),
+            None => SeenOfCall::Unmet,
         }
     }
 
-    fn write(&mut self, q: PageId, v: u32) -> Seen {
+    fn write(&mut self, q: PageId, v: u32) -> SeenOfCall {
         if !is_page(q) {
-            return Seen::Unmet;
+            return SeenOfCall::Unmet;
         }
         match self.pager.home(q) {
             Some(f) if f.0 < 64 && self.pager.owed(f) => {
                 self.pager.write_plain(q, f, 0, 4, v);
-                Seen::Done
+                SeenOfCall::Done
             }
-            _ => Seen::Unmet,
+            _ => SeenOfCall::Unmet,
         }
     }
 
-    fn store(&mut self, f: Frame, v: u32) -> Seen {
+    fn store(&mut self, f: Frame, v: u32) -> SeenOfCall {
         if !self.is_outside(f) {
-            return Seen::Unmet;
+            return SeenOfCall::Unmet;
         }
         self.pager.write_outside(f, 0, 4, v);
-        Seen::Done
+        SeenOfCall::Done
     }
 
     fn holds_none(&self) -> bool
@@ -332,54 +332,54 @@ impl Run {
         true
     }
 
-    fn copy(&mut self, from: u32, to: u32) -> Seen {
+    fn copy(&mut self, from: u32, to: u32) -> SeenOfCall {
         if from >= 16 || to >= 16 || !self.holds_none() {
-            return Seen::Unmet;
+            return SeenOfCall::Unmet;
         }
         self.pager.copy_pages(0, from, to);
-        Seen::Done
+        SeenOfCall::Done
     }
 
-    fn drop_pages(&mut self, resource: u32) -> Seen {
+    fn drop_pages(&mut self, resource: u32) -> SeenOfCall {
         if resource >= 16 || !self.holds_none() {
-            return Seen::Unmet;
+            return SeenOfCall::Unmet;
         }
         self.pager.drop_pages(0, resource);
-        Seen::Done
+        SeenOfCall::Done
     }
 
-    fn close(&mut self) -> Seen {
+    fn close(&mut self) -> SeenOfCall {
         if !self.owes_none() {
-            return Seen::Unmet;
+            return SeenOfCall::Unmet;
         }
         self.pager.close();
-        Seen::Done
+        SeenOfCall::Done
     }
 
-    fn step(&mut self, step: Step) -> Seen {
+    fn step(&mut self, step: PagerCall) -> SeenOfCall {
         match step {
-            Step::Fill(f, byte) => self.fill(f, &[byte; 4096]),
-            Step::Keep(f) => self.keep(f),
-            Step::Put(f) => {
+            PagerCall::Fill(f, byte) => self.fill(f, &[byte; 4096]),
+            PagerCall::Keep(f) => self.keep(f),
+            PagerCall::Put(f) => {
                 let kept = self.kept;
                 self.fill(f, &kept)
             }
-            Step::Look(f) => self.look(f),
-            Step::Reads => Seen::Reads(self.pager.reads()),
-            Step::Store(f, v) => self.store(f, v),
-            Step::Offer(q, g, write) => self.offer(q, g, write),
-            Step::Read(q) => self.read(q),
-            Step::Write(q, v) => self.write(q, v),
-            Step::Owed(f) => self.owed(f),
-            Step::Touch(f) => self.touch(f),
-            Step::Copy(from, to) => self.copy(from, to),
-            Step::Drop(resource) => self.drop_pages(resource),
-            Step::Close => self.close(),
-            Step::Left => Seen::Left(self.stream.left()),
+            PagerCall::Look(f) => self.look(f),
+            PagerCall::Reads => SeenOfCall::Reads(self.pager.reads()),
+            PagerCall::Store(f, v) => self.store(f, v),
+            PagerCall::Offer(q, g, write) => self.offer(q, g, write),
+            PagerCall::Read(q) => self.read(q),
+            PagerCall::Write(q, v) => self.write(q, v),
+            PagerCall::Owed(f) => self.owed(f),
+            PagerCall::Touch(f) => self.touch(f),
+            PagerCall::Copy(from, to) => self.copy(from, to),
+            PagerCall::Drop(resource) => self.drop_pages(resource),
+            PagerCall::Close => self.close(),
+            PagerCall::Left => SeenOfCall::Left(self.stream.left()),
         }
     }
 
-    fn goes(&mut self, rt: &impl Abort, way: &[(Step, Seen)]) {
+    fn goes(&mut self, rt: &impl Abort, way: &[(PagerCall, SeenOfCall)]) {
         for (step, want) in way {
             let seen = self.step(*step);
             same(rt, &(*step, seen), &(*step, *want), "a step");
@@ -388,109 +388,160 @@ impl Run {
 }
 
 /// A page that was never shown comes as zeros, whatever its frame showed.
-static FRESH: [(Step, Seen); 7] = [
-    (Step::Fill(F5, 0xff), Seen::Done),
-    (Step::Offer(Q, F5, false), Seen::Offer(Offered::Ready)),
-    (Step::Read(Q), Seen::Word(0)),
-    (Step::Owed(F5), Seen::Owed(true)),
-    (Step::Touch(F5), Seen::Touch(Touched::Sealed)),
-    (Step::Look(F5), Seen::Bytes(ZEROS_1)),
-    (Step::Left, Seen::Left(Some(48))),
+static FRESH: [(PagerCall, SeenOfCall); 7] = [
+    (PagerCall::Fill(F5, 0xff), SeenOfCall::Done),
+    (
+        PagerCall::Offer(Q, F5, false),
+        SeenOfCall::Offer(Offered::Ready),
+    ),
+    (PagerCall::Read(Q), SeenOfCall::Word(0)),
+    (PagerCall::Owed(F5), SeenOfCall::Owed(true)),
+    (PagerCall::Touch(F5), SeenOfCall::Touch(Touched::Sealed)),
+    (PagerCall::Look(F5), SeenOfCall::Bytes(ZEROS_1)),
+    (PagerCall::Left, SeenOfCall::Left(Some(48))),
 ];
 
 /// What was written is shown under a new draw, and read again.
-static STORE_AND_LOAD: [(Step, Seen); 7] = [
-    (Step::Offer(Q, F5, true), Seen::Offer(Offered::Ready)),
-    (Step::Write(Q, 7), Seen::Done),
-    (Step::Touch(F5), Seen::Touch(Touched::Sealed)),
-    (Step::Look(F5), Seen::Bytes(SEVEN_2)),
-    (Step::Left, Seen::Left(Some(32))),
-    (Step::Offer(Q, F5, false), Seen::Offer(Offered::Ready)),
-    (Step::Read(Q), Seen::Word(7)),
+static STORE_AND_LOAD: [(PagerCall, SeenOfCall); 7] = [
+    (
+        PagerCall::Offer(Q, F5, true),
+        SeenOfCall::Offer(Offered::Ready),
+    ),
+    (PagerCall::Write(Q, 7), SeenOfCall::Done),
+    (PagerCall::Touch(F5), SeenOfCall::Touch(Touched::Sealed)),
+    (PagerCall::Look(F5), SeenOfCall::Bytes(SEVEN_2)),
+    (PagerCall::Left, SeenOfCall::Left(Some(32))),
+    (
+        PagerCall::Offer(Q, F5, false),
+        SeenOfCall::Offer(Offered::Ready),
+    ),
+    (PagerCall::Read(Q), SeenOfCall::Word(7)),
 ];
 
 /// A page that was only read is shown as before, and no draw is taken.
-static ONLY_READ: [(Step, Seen); 5] = [
-    (Step::Owed(F5), Seen::Owed(false)),
-    (Step::Touch(F5), Seen::Touch(Touched::Resealed)),
-    (Step::Look(F5), Seen::Bytes(SEVEN_2)),
-    (Step::Left, Seen::Left(Some(32))),
-    (Step::Touch(F5), Seen::Touch(Touched::Quiet)),
+static ONLY_READ: [(PagerCall, SeenOfCall); 5] = [
+    (PagerCall::Owed(F5), SeenOfCall::Owed(false)),
+    (PagerCall::Touch(F5), SeenOfCall::Touch(Touched::Resealed)),
+    (PagerCall::Look(F5), SeenOfCall::Bytes(SEVEN_2)),
+    (PagerCall::Left, SeenOfCall::Left(Some(32))),
+    (PagerCall::Touch(F5), SeenOfCall::Touch(Touched::Quiet)),
 ];
 
 /// Older bytes of the page are refused, and stay.
-static REPLAYED: [(Step, Seen); 4] = [
-    (Step::Touch(F5), Seen::Touch(Touched::Resealed)),
-    (Step::Put(F5), Seen::Done),
-    (Step::Offer(Q, F5, false), Seen::Offer(Offered::Mismatch)),
-    (Step::Look(F5), Seen::Bytes(ZEROS_1)),
+static REPLAYED: [(PagerCall, SeenOfCall); 4] = [
+    (PagerCall::Touch(F5), SeenOfCall::Touch(Touched::Resealed)),
+    (PagerCall::Put(F5), SeenOfCall::Done),
+    (
+        PagerCall::Offer(Q, F5, false),
+        SeenOfCall::Offer(Offered::Mismatch),
+    ),
+    (PagerCall::Look(F5), SeenOfCall::Bytes(ZEROS_1)),
 ];
 
 /// A page may be opened in any frame that shows its bytes, until it is shown under another draw; and a frame may be
 /// used for another page.
-static TWO_FRAMES_AND_TWO_NAMES: [(Step, Seen); 20] = [
-    (Step::Keep(F5), Seen::Done),
-    (Step::Put(F6), Seen::Done),
-    (Step::Offer(Q, F6, false), Seen::Offer(Offered::Ready)),
-    (Step::Read(Q), Seen::Word(7)),
-    (Step::Offer(Q, F5, false), Seen::Unmet),
-    (Step::Touch(F6), Seen::Touch(Touched::Resealed)),
-    (Step::Offer(Q, F5, false), Seen::Offer(Offered::Ready)),
-    (Step::Touch(F5), Seen::Touch(Touched::Resealed)),
-    (Step::Offer(Q, F6, true), Seen::Offer(Offered::Ready)),
-    (Step::Write(Q, 8), Seen::Done),
-    (Step::Touch(F6), Seen::Touch(Touched::Sealed)),
-    (Step::Look(F6), Seen::Bytes(EIGHT_3)),
-    (Step::Offer(Q, F5, false), Seen::Offer(Offered::Mismatch)),
-    (Step::Fill(F7, 0), Seen::Done),
-    (Step::Offer(Q, F7, false), Seen::Offer(Offered::Mismatch)),
-    (Step::Offer(R, F6, false), Seen::Offer(Offered::Ready)),
-    (Step::Read(R), Seen::Word(0)),
-    (Step::Touch(F6), Seen::Touch(Touched::Sealed)),
-    (Step::Look(F6), Seen::Bytes(ZEROS_4)),
-    (Step::Offer(Q, F6, false), Seen::Offer(Offered::Mismatch)),
+static TWO_FRAMES_AND_TWO_NAMES: [(PagerCall, SeenOfCall); 20] = [
+    (PagerCall::Keep(F5), SeenOfCall::Done),
+    (PagerCall::Put(F6), SeenOfCall::Done),
+    (
+        PagerCall::Offer(Q, F6, false),
+        SeenOfCall::Offer(Offered::Ready),
+    ),
+    (PagerCall::Read(Q), SeenOfCall::Word(7)),
+    (PagerCall::Offer(Q, F5, false), SeenOfCall::Unmet),
+    (PagerCall::Touch(F6), SeenOfCall::Touch(Touched::Resealed)),
+    (
+        PagerCall::Offer(Q, F5, false),
+        SeenOfCall::Offer(Offered::Ready),
+    ),
+    (PagerCall::Touch(F5), SeenOfCall::Touch(Touched::Resealed)),
+    (
+        PagerCall::Offer(Q, F6, true),
+        SeenOfCall::Offer(Offered::Ready),
+    ),
+    (PagerCall::Write(Q, 8), SeenOfCall::Done),
+    (PagerCall::Touch(F6), SeenOfCall::Touch(Touched::Sealed)),
+    (PagerCall::Look(F6), SeenOfCall::Bytes(EIGHT_3)),
+    (
+        PagerCall::Offer(Q, F5, false),
+        SeenOfCall::Offer(Offered::Mismatch),
+    ),
+    (PagerCall::Fill(F7, 0), SeenOfCall::Done),
+    (
+        PagerCall::Offer(Q, F7, false),
+        SeenOfCall::Offer(Offered::Mismatch),
+    ),
+    (
+        PagerCall::Offer(R, F6, false),
+        SeenOfCall::Offer(Offered::Ready),
+    ),
+    (PagerCall::Read(R), SeenOfCall::Word(0)),
+    (PagerCall::Touch(F6), SeenOfCall::Touch(Touched::Sealed)),
+    (PagerCall::Look(F6), SeenOfCall::Bytes(ZEROS_4)),
+    (
+        PagerCall::Offer(Q, F6, false),
+        SeenOfCall::Offer(Offered::Mismatch),
+    ),
 ];
 
 /// A copy is opened by what was shown of the page, also when the page itself is dropped and is as if never shown.
-static CLOSED_COPIED_AND_DROPPED: [(Step, Seen); 14] = [
-    (Step::Copy(0, 1), Seen::Unmet),
-    (Step::Close, Seen::Done),
-    (Step::Look(F5), Seen::Bytes(SEVEN_2)),
-    (Step::Left, Seen::Left(Some(32))),
-    (Step::Copy(0, 1), Seen::Done),
-    (Step::Drop(0), Seen::Done),
-    (Step::Offer(Q1, F5, false), Seen::Offer(Offered::Ready)),
-    (Step::Read(Q1), Seen::Word(7)),
-    (Step::Offer(Q, F6, false), Seen::Offer(Offered::Ready)),
-    (Step::Read(Q), Seen::Word(0)),
-    (Step::Close, Seen::Unmet),
-    (Step::Touch(F6), Seen::Touch(Touched::Sealed)),
-    (Step::Look(F6), Seen::Bytes(ZEROS_3)),
-    (Step::Reads, Seen::Reads(4)),
+static CLOSED_COPIED_AND_DROPPED: [(PagerCall, SeenOfCall); 14] = [
+    (PagerCall::Copy(0, 1), SeenOfCall::Unmet),
+    (PagerCall::Close, SeenOfCall::Done),
+    (PagerCall::Look(F5), SeenOfCall::Bytes(SEVEN_2)),
+    (PagerCall::Left, SeenOfCall::Left(Some(32))),
+    (PagerCall::Copy(0, 1), SeenOfCall::Done),
+    (PagerCall::Drop(0), SeenOfCall::Done),
+    (
+        PagerCall::Offer(Q1, F5, false),
+        SeenOfCall::Offer(Offered::Ready),
+    ),
+    (PagerCall::Read(Q1), SeenOfCall::Word(7)),
+    (
+        PagerCall::Offer(Q, F6, false),
+        SeenOfCall::Offer(Offered::Ready),
+    ),
+    (PagerCall::Read(Q), SeenOfCall::Word(0)),
+    (PagerCall::Close, SeenOfCall::Unmet),
+    (PagerCall::Touch(F6), SeenOfCall::Touch(Touched::Sealed)),
+    (PagerCall::Look(F6), SeenOfCall::Bytes(ZEROS_3)),
+    (PagerCall::Reads, SeenOfCall::Reads(4)),
 ];
 
 /// If no draw is left, a changed page is not shown, and what was shown of it before is still its record. The kernel's
 /// stores are seen as they are, and refused.
-static WIPED: [(Step, Seen); 14] = [
-    (Step::Offer(Q, F5, true), Seen::Offer(Offered::Ready)),
-    (Step::Touch(F5), Seen::Touch(Touched::Sealed)),
-    (Step::Look(F5), Seen::Bytes(ZEROS_1)),
-    (Step::Offer(Q, F5, true), Seen::Offer(Offered::Ready)),
-    (Step::Write(Q, 7), Seen::Done),
-    (Step::Touch(F5), Seen::Touch(Touched::Wiped)),
-    (Step::Look(F5), Seen::Bytes(PLAIN_ZEROS)),
-    (Step::Left, Seen::Left(Some(15))),
-    (Step::Offer(Q, F5, false), Seen::Offer(Offered::Mismatch)),
-    (Step::Store(F5, 7), Seen::Done),
-    (Step::Look(F5), Seen::Bytes(PLAIN_SEVEN)),
-    (Step::Offer(Q, F5, false), Seen::Offer(Offered::Mismatch)),
-    (Step::Touch(F5), Seen::Touch(Touched::Quiet)),
-    (Step::Look(F5), Seen::Bytes(PLAIN_SEVEN)),
+static WIPED: [(PagerCall, SeenOfCall); 14] = [
+    (
+        PagerCall::Offer(Q, F5, true),
+        SeenOfCall::Offer(Offered::Ready),
+    ),
+    (PagerCall::Touch(F5), SeenOfCall::Touch(Touched::Sealed)),
+    (PagerCall::Look(F5), SeenOfCall::Bytes(ZEROS_1)),
+    (
+        PagerCall::Offer(Q, F5, true),
+        SeenOfCall::Offer(Offered::Ready),
+    ),
+    (PagerCall::Write(Q, 7), SeenOfCall::Done),
+    (PagerCall::Touch(F5), SeenOfCall::Touch(Touched::Wiped)),
+    (PagerCall::Look(F5), SeenOfCall::Bytes(PLAIN_ZEROS)),
+    (PagerCall::Left, SeenOfCall::Left(Some(15))),
+    (
+        PagerCall::Offer(Q, F5, false),
+        SeenOfCall::Offer(Offered::Mismatch),
+    ),
+    (PagerCall::Store(F5, 7), SeenOfCall::Done),
+    (PagerCall::Look(F5), SeenOfCall::Bytes(PLAIN_SEVEN)),
+    (
+        PagerCall::Offer(Q, F5, false),
+        SeenOfCall::Offer(Offered::Mismatch),
+    ),
+    (PagerCall::Touch(F5), SeenOfCall::Touch(Touched::Quiet)),
+    (PagerCall::Look(F5), SeenOfCall::Bytes(PLAIN_SEVEN)),
 ];
 
 #[test]
 fn a_page_is_sealed_and_opened_in_any_frame(rt: HostRuntime) -> Result<(), Fail> {
-    let mut run = Run::open(&rt, 64)?;
+    let mut run = PagerRun::open(&rt, 64)?;
     run.goes(&rt, &FRESH);
     run.goes(&rt, &STORE_AND_LOAD);
     run.goes(&rt, &ONLY_READ);
@@ -500,7 +551,7 @@ fn a_page_is_sealed_and_opened_in_any_frame(rt: HostRuntime) -> Result<(), Fail>
 
 #[test]
 fn a_resource_is_copied_and_dropped(rt: HostRuntime) -> Result<(), Fail> {
-    let mut run = Run::open(&rt, 64)?;
+    let mut run = PagerRun::open(&rt, 64)?;
     run.goes(&rt, &FRESH);
     run.goes(&rt, &STORE_AND_LOAD);
     run.goes(&rt, &CLOSED_COPIED_AND_DROPPED);
@@ -509,16 +560,16 @@ fn a_resource_is_copied_and_dropped(rt: HostRuntime) -> Result<(), Fail> {
 
 #[test]
 fn a_changed_page_is_wiped_without_a_draw(rt: HostRuntime) -> Result<(), Fail> {
-    let mut run = Run::open(&rt, 31)?;
+    let mut run = PagerRun::open(&rt, 31)?;
     run.goes(&rt, &WIPED);
     Ok(())
 }
 
 #[test]
 fn a_replayed_page_is_refused(rt: HostRuntime) -> Result<(), Fail> {
-    let mut run = Run::open(&rt, 64)?;
+    let mut run = PagerRun::open(&rt, 64)?;
     run.goes(&rt, &FRESH);
-    run.goes(&rt, &[(Step::Keep(F5), Seen::Done)]);
+    run.goes(&rt, &[(PagerCall::Keep(F5), SeenOfCall::Done)]);
     run.goes(&rt, &STORE_AND_LOAD);
     run.goes(&rt, &REPLAYED);
     Ok(())
@@ -527,21 +578,24 @@ fn a_replayed_page_is_refused(rt: HostRuntime) -> Result<(), Fail> {
 /// Another pager opens the page by the metadata alone.
 #[test]
 fn a_restored_page_is_opened(rt: HostRuntime) -> Result<(), Fail> {
-    let mut run = Run::open(&rt, 64)?;
+    let mut run = PagerRun::open(&rt, 64)?;
     run.goes(&rt, &FRESH);
     run.goes(&rt, &STORE_AND_LOAD);
     run.goes(&rt, &ONLY_READ);
-    run.goes(&rt, &[(Step::Keep(F5), Seen::Done)]);
+    run.goes(&rt, &[(PagerCall::Keep(F5), SeenOfCall::Done)]);
     same(&rt, &run.known(Q), &Some(SHOWN_2), "shown");
     same(&rt, &run.known(R), &None, "never shown");
-    let mut other = Run::restored(&rt, run.kept)?;
+    let mut other = PagerRun::restored(&rt, run.kept)?;
     same(&rt, &other.known(Q), &Some(SHOWN_2), "restored");
     other.goes(
         &rt,
         &[
-            (Step::Put(F5), Seen::Done),
-            (Step::Offer(Q, F5, false), Seen::Offer(Offered::Ready)),
-            (Step::Read(Q), Seen::Word(7)),
+            (PagerCall::Put(F5), SeenOfCall::Done),
+            (
+                PagerCall::Offer(Q, F5, false),
+                SeenOfCall::Offer(Offered::Ready),
+            ),
+            (PagerCall::Read(Q), SeenOfCall::Word(7)),
         ],
     );
     Ok(())
@@ -555,15 +609,18 @@ fn a_page_is_placed_where_a_draw_is_left(rt: HostRuntime) -> Result<(), Fail> {
         (15, false, 15, PLAIN_ZEROS, 0),
         (16, true, 0, SEVEN_1, 7),
     ] {
-        let (mut run, placed) = Run::placed(&rt, bytes)?;
+        let (mut run, placed) = PagerRun::placed(&rt, bytes)?;
         same(&rt, &placed, &want, bytes);
         run.goes(
             &rt,
             &[
-                (Step::Left, Seen::Left(Some(left))),
-                (Step::Look(F5), Seen::Bytes(shown)),
-                (Step::Offer(Q, F5, false), Seen::Offer(Offered::Ready)),
-                (Step::Read(Q), Seen::Word(word)),
+                (PagerCall::Left, SeenOfCall::Left(Some(left))),
+                (PagerCall::Look(F5), SeenOfCall::Bytes(shown)),
+                (
+                    PagerCall::Offer(Q, F5, false),
+                    SeenOfCall::Offer(Offered::Ready),
+                ),
+                (PagerCall::Read(Q), SeenOfCall::Word(word)),
             ],
         );
     }

@@ -7,7 +7,7 @@ use crate::checks::{holds, same};
 use cloak_base::{Frame, Kind, Mode, NoMemory, PageId, SpaceId};
 use cloak_model::{Access, Answer, Emit, InsideRegime, Item, PageSide};
 use cloak_pager::Pager;
-use cloaked_side::{KeptItems, Memory, Side};
+use cloaked_side::{KeptPut, Memory, Side};
 use host_calls::{Ram, Reservations};
 use io_traits::Stream;
 use multi_shadow::Shadows;
@@ -50,12 +50,12 @@ const SPACE: SpaceId = SpaceId {
 
 /// Counts the ciphers and the other items that it was given.
 #[derive(Drop)]
-struct Counts {
+struct CountedPieces {
     ciphers: u32,
     others: u32,
 }
 
-impl Emit for Counts {
+impl Emit for CountedPieces {
     ghost gave = { λ old new pieces. Unit {0} };
 
     fn item(&mut self, _: &Item) {
@@ -137,11 +137,11 @@ fn fill_and_lend<M: Ram>(m: &mut M, b: u8) -> Option<u8> {
 #[test]
 fn answers_each_question(rt: HostRuntime) -> Result<(), Fail> {
     let mut memory = fresh(rt.alloc())?;
-    let mut e = Counts {
+    let mut e = CountedPieces {
         ciphers: 0,
         others: 0,
     };
-    let mut items = KeptItems::new();
+    let mut items = KeptPut::new();
     let mut side = Side {
         memory: &mut memory,
         emitter: &mut e,
@@ -255,11 +255,11 @@ fn hold_unchanged<M: PageSide>(m: &mut M) -> bool
 #[test]
 fn reserves_what_is_not_cloaked(rt: HostRuntime) -> Result<(), Fail> {
     let mut memory = fresh(rt.alloc())?;
-    let mut e = Counts {
+    let mut e = CountedPieces {
         ciphers: 0,
         others: 0,
     };
-    let mut items = KeptItems::new();
+    let mut items = KeptPut::new();
     let mut side = Side {
         memory: &mut memory,
         emitter: &mut e,
@@ -298,11 +298,11 @@ fn reserves_what_is_not_cloaked(rt: HostRuntime) -> Result<(), Fail> {
 fn ends_reservations_where_a_page_is_sealed(rt: HostRuntime) -> Result<(), Fail> {
     let mut memory = fresh(rt.alloc())?;
     memory.reservations.mark(0, CLOAKED);
-    let mut e = Counts {
+    let mut e = CountedPieces {
         ciphers: 0,
         others: 0,
     };
-    let mut items = KeptItems::new();
+    let mut items = KeptPut::new();
     let mut side = Side {
         memory: &mut memory,
         emitter: &mut e,
@@ -327,11 +327,11 @@ fn ends_reservations_where_a_page_is_sealed(rt: HostRuntime) -> Result<(), Fail>
 #[test]
 fn keeps_reservations_where_a_page_is_shown_again(rt: HostRuntime) -> Result<(), Fail> {
     let mut memory = fresh(rt.alloc())?;
-    let mut e = Counts {
+    let mut e = CountedPieces {
         ciphers: 0,
         others: 0,
     };
-    let mut items = KeptItems::new();
+    let mut items = KeptPut::new();
     let mut side = Side {
         memory: &mut memory,
         emitter: &mut e,

@@ -8,7 +8,7 @@ use Rattle.read_back.specs.Reading.{ReadsAs}
 use Rattle.read_back.specs.declared.ending.Ending.{Ending}
 use Rattle.kernel_report.specs.Putting.{Putting, PutsMore}
 use Rattle.kernel_report.proofs.PutFacts.{then, text_is}
-use Rattle.record_text.specs.declared.counts.Counts.{Counts}
+use Rattle.record_text.specs.declared.counts.KindCounts.{KindCounts}
 use Rattle.record_text.specs.declared.lines.Line.{Line}
 use Rattle.record_text.specs.declared.place.RecordPlace.{RecordPlace}
 use Rattle.record_text.specs.declared.place.RecordPlace.TheVariants as place
@@ -97,7 +97,7 @@ ends_ill s told was next reading reads old mid new line ended so_far failed is s
 )
 
 -- the items before a reader that are chosen were counted, and this is the place of what comes next
-pub record CountedSoFar (s : Selection) (told : Option (List ℕ)) (reader : Reader) (counts : Counts) (p : RecordPlace) :
+pub record CountedSoFar (s : Selection) (told : Option (List ℕ)) (reader : Reader) (counts : KindCounts) (p : RecordPlace) :
     Type 0 where
   pub items : List Item
   pub stands : StandsAt told reader items
@@ -105,14 +105,14 @@ pub record CountedSoFar (s : Selection) (told : Option (List ℕ)) (reader : Rea
   pub at : (chosen s items).place ≡ p
   pub few : length (chosen s items).items ≤ reader_offset reader
 
-pub counts_open : (s : Selection) (told : Option (List ℕ)) (reader : Reader) (counts : Counts) →
+pub counts_open : (s : Selection) (told : Option (List ℕ)) (reader : Reader) (counts : KindCounts) →
     StandsAt told reader [] → AreCounts counts [] → CountedSoFar s told reader counts place.Opening
 unfolding chosen
 counts_open s told reader counts stands counted =
     record { items = []; stands = stands; counted = counted; at = refl; few = omega arith }
 
 -- one item more
-pub counts_on : (s : Selection) (told : Option (List ℕ)) (was now : Reader) (old new : Counts) (p q : RecordPlace) (i : Item) →
+pub counts_on : (s : Selection) (told : Option (List ℕ)) (was now : Reader) (old new : KindCounts) (p q : RecordPlace) (i : Item) →
     (so_far : CountedSoFar s told was old p) → StandsAt told now (so_far.items ++ i ∷ []) →
     reader_offset was < reader_offset now → reader_offset now < 2 ^ 64 →
     ((c : Chosen) → c.place ≡ p → length c.items < 2 ^ 64 - 1 → AreCounts old c.items →

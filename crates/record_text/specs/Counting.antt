@@ -3,7 +3,7 @@ use Rattle.std.specs.Prelude.{◌≡◌, ℕ, List, [], ◌∷◌, ◌++◌, cod
 use Rattle.std.specs.List.{count_by, flat_map, fold}
 use Rattle.cloak_model.specs.Report.{number_line}
 use Rattle.cloak_model.specs.declared.item.Item.{Item}
-use Rattle.record_text.specs.declared.counts.Counts.{Counts}
+use Rattle.record_text.specs.declared.counts.KindCounts.{KindCounts}
 use Rattle.record_text.specs.declared.selection.Selection.{Selection}
 use Rattle.record_text.specs.declared.place.RecordPlace.{RecordPlace}
 use Rattle.record_text.specs.declared.place.RecordPlace.TheVariants as place
@@ -35,7 +35,7 @@ counts_text items =
     flat_map (λ (k : NamedKind). number_line (k.name ++ codes " ") (count_by (is_of_kind k.kind) items)) kind_names
 
 -- These are how many of some items there are of each kind.
-pub record AreCounts (c : Counts) (items : List Item) : Type 0 where
+pub record AreCounts (c : KindCounts) (items : List Item) : Type 0 where
   pub cipher : c.cipher ≡ count_by (is_of_kind only_cipher) items
   pub put : c.put ≡ count_by (is_of_kind only_put) items
   pub leave : c.leave ≡ count_by (is_of_kind only_leave) items

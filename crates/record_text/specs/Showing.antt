@@ -5,7 +5,7 @@ use Rattle.cloak_model.specs.declared.item.Item.{Item}
 use Rattle.kernel_report.specs.Putting.{Putting, PutsMore}
 use Rattle.read_back.specs.Reading.{IsReadTo}
 use Rattle.read_back.specs.declared.ending.Ending.{Ending}
-use Rattle.record_text.specs.declared.counts.Counts.{Counts}
+use Rattle.record_text.specs.declared.counts.KindCounts.{KindCounts}
 use Rattle.record_text.specs.declared.selection.Selection.{Selection}
 use Rattle.record_text.specs.Counting.{AreCounts, chosen}
 use Rattle.record_text.specs.Reading.{items_text, never_unfit}
@@ -25,8 +25,8 @@ ShowsItems s told reading reads old new (Err failed) =
     (ended : Option Ending) × ShowsTo s told reading reads old (new (Err failed)) ended
 
 -- Items were read up to where reading ended, and those that are chosen were counted.
-pub record CountsItems (s : Selection) (told : Option (List ℕ)) (reading reads : ℕ) (counts : Counts) (ended : Ending) :
-    Type 0 where
+pub record CountsItems (s : Selection) (told : Option (List ℕ)) (reading reads : ℕ) (counts : KindCounts)
+    (ended : Ending) : Type 0 where
   pub items : List Item
   pub read : IsReadTo never_unfit told reading reads items (Some ended)
   pub counted : AreCounts counts (chosen s items).items

@@ -14,7 +14,7 @@ use kernel_report::lines::{SoFar, decimal, text};
 
 /// How many items there are of each kind.
 #[derive(Clone, Copy, Debug, PartialEq, Eq)]
-pub struct Counts {
+pub struct KindCounts {
     cipher: u64,
     put: u64,
     leave: u64,
@@ -48,12 +48,12 @@ fn put_count<O: Sink>(out: &mut O, so_far: SoFar, name: &[u8], count: u64) -> So
     text(out, so_far, b"\n")
 }
 
-impl Counts {
+impl KindCounts {
     /// None yet.
-    pub fn new() -> Counts
+    pub fn new() -> KindCounts
         ensures { AreCounts result [] }
     {
-        Counts {
+        KindCounts {
             cipher: 0,
             put: 0,
             leave: 0,

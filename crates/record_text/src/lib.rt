@@ -19,6 +19,7 @@ mod showing;
 
 pub use causes::{cause_name, put_word};
 pub use command::show_command;
+pub use items::put_item;
 pub use kinds::Kinds;
 pub use reading::next_item;
 pub use selection::Selection;

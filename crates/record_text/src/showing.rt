@@ -5,7 +5,7 @@ ghost use Rattle.io_traits.specs.Told.{SameFiles};
 ghost use Rattle.record_text.specs.Counting.{AreCounts, Chosen, chosen_more};
 ghost use Rattle.record_text.specs.Showing.{CountsItems, ShowsItems};
 
-use crate::counts::Counts;
+use crate::counts::KindCounts;
 use crate::lines::{end_line, put_first, put_next};
 use crate::place::{RecordPlace, place_marked};
 use crate::reading::next_item;
@@ -55,7 +55,7 @@ pub fn show_items<S: Shelf, O: Sink>(
 
 /// Counts an item, if it is chosen, and returns the place of what comes next.
 fn count_next(
-    counts: &mut Counts,
+    counts: &mut KindCounts,
     selection: &Selection,
     place: RecordPlace,
     item: &Item,
@@ -74,14 +74,18 @@ fn count_next(
 }
 
 /// Counts the items of a record that are chosen, and returns how reading ended.
-pub fn count_items<S: Shelf>(name: &str, selection: &Selection, shelf: &mut S) -> (Counts, Ending)
+pub fn count_items<S: Shelf>(
+    name: &str,
+    selection: &Selection,
+    shelf: &mut S,
+) -> (KindCounts, Ending)
     requires { S.is_settled shelf.old }
     ensures counts { CountsItems selection.now (S.held shelf.old name.now)
         (S.reading_faults shelf.old) (S.reading_faults shelf.new) result.0 result.1 }
     ensures files { SameFiles (S.held shelf.old) (S.held shelf.new) }
     ensures writing { S.writing_faults shelf.new ≡ S.writing_faults shelf.old }
 {
-    let mut counts = Counts::new();
+    let mut counts = KindCounts::new();
     let mut place = RecordPlace::Opening;
     let mut reader = Reader::open(name);
     let mut kept = KeptItems::new();

@@ -1,11 +1,7 @@
 pub mod Keeping
 pub mod Leading
-pub mod Effects
 pub mod Plain
 pub mod Sizes
-pub mod InstructionSizes
-pub mod CopySizes
-pub mod StepSizes
 pub mod Items
 pub mod Turns
 pub mod Opened

@@ -38,7 +38,7 @@ use Rattle.settling_ahead.proofs.Planning.{Close, leaves, inside, release, plan_
 use Rattle.reservation_law.specs.Deeds.{Deed, Idle, Reserves, StoresReserved, Stores, Fills, target, target_of, done_at, read_deed, effect_deed, atomic_deed, atomic_word_deed, word_deed, fetched_deed, deed_after, deed_of}
 use Rattle.reservation_law.specs.Writes.{deed_extents}
 use Rattle.reservation_law.proofs.Keeping.{SparesWord, SparesByte, AreWhole, Keeps, keeps_all, keeps_then, keeps_unmarked, keeps_filled, keeps_stored}
-use Rattle.reservation_law.proofs.Effects.{StoresAligned, effect_aligned}
+use Rattle.script_fold.proofs.Aligned.{StoresAligned, effect_aligned}
 use Rattle.reservation_law.proofs.Leading.{KeepsPlace, walk_keeps, walk_answer}
 use Rattle.kernel_isolation.proofs.Leading.{is_aligned}
 use Rattle.settling_ahead.proofs.Reached.{other_number}

@@ -1,28 +1,25 @@
 -- What is written while a program asks: a Cipher has the 4096 bytes of a page, and a Put a width.
-use Rattle.std.proofs.Common.{◌≡◌, ℕ, zero, suc, ◌+◌, ◌*◌, ◌%◌, ◌^◌, Bool, true, false, cond, List, [], ◌∷◌, ◌++◌, length, take, drop, slice_index_or, Option, Some, None, Result, Ok, Err, refl, sym, subst, arith, append_assoc}
+use Rattle.std.proofs.Common.{◌≡◌, ℕ, zero, suc, ◌+◌, ◌*◌, ◌%◌, ◌^◌, Bool, true, false, List, [], ◌∷◌, ◌++◌, length, take, drop, slice_index_or, Option, Some, None, Ok, refl, sym, subst, arith, append_assoc}
 use Rattle.std.specs.List.{AllByRecursion, concat, find}
 use Rattle.std.specs.Str.{bytes_eq}
 use Rattle.std.proofs.lemmas.Bool.{false≢true}
 use Rattle.std.proofs.lemmas.List.{length-append, length-replicate}
 use Rattle.aes_block.specs.Cipher.{encrypted}
 use Rattle.aes_block.specs.State.{block_sum, from_places}
-use Rattle.cloak_base.specs.Constants.{frame_of}
 use Rattle.cloak_base.specs.Pages.{zero_page}
 use Rattle.cloak_base.specs.Random.{Random}
-use Rattle.cloak_base.specs.declared.names.Kind.{Kind}
-use Rattle.cloak_base.specs.declared.names.Kind.TheVariants.{Load, Store}
 use Rattle.cloak_base.specs.declared.names.PageId.{PageId}
-use Rattle.cloak_model.specs.declared.access.Access.{Access}
 use Rattle.cloak_model.specs.declared.answer.Answer.{Answer}
 use Rattle.cloak_model.specs.declared.answer.Answer.TheVariants as answer
 use Rattle.cloak_model.specs.declared.item.Item.{Item}
 use Rattle.cloak_model.specs.declared.item.Item.TheVariants as item
 use Rattle.cloak_model.specs.Ahead.{is_owed, settle_found, settle_while, settle_touched}
-use Rattle.cloak_model.specs.Ask.{ask_word, ask_second, ask_after, ask_first, ask_walk, ask_inside, ask_translate, ask_led, opened}
-use Rattle.cloak_model.specs.AskPages.{answer_item, is_store, replies, if_drawn, ask_inside_address, offered_by, ask_offer, reached, reach_by_table, get_at, got, get_by_table, put_at, stored_inside, put_by_table, settled_if_marked, clear_from, ask_reach, ask_read, ask_write, ask_get, ask_put, ask_clear, ask_copy, ask_forget}
-use Rattle.cloak_model.specs.Asking.{Told, Asking}
+use Rattle.cloak_model.specs.AskPages.{answer_item, replies, put_at, ask_write, ask_copy, ask_forget}
 use Rattle.cloak_model.specs.Chain.{chained, blocks_of, cbc}
-use Rattle.cloak_model.specs.Cloaking.{CloakedMemory, AfterSettling, AfterOffer, Offer, Ready, Mismatch, Missed, owed_in, owes, owing_frame, settle_owed, settle_if, settle, settle_frame_if, compared, with_comparison, taken, unless_missed, offer}
+use Rattle.cloak_model.specs.DomainState.{Domain}
+use Rattle.cloak_model.specs.DomainStep.{domain_step}
+use Rattle.cloak_model.specs.Ending.{ask_end}
+use Rattle.cloak_model.specs.Cloaking.{CloakedMemory, AfterSettling, AfterOffer, Ready, Mismatch, Missed, owed_in, owes, owing_frame, settle_owed, settle_if, settle, settle_frame_if, compared, with_comparison, taken, unless_missed, offer}
 use Rattle.cloak_model.specs.Effect.{IsWidth}
 use Rattle.cloak_model.specs.Events.{Event}
 use Rattle.cloak_model.specs.Hart.{Hart}
@@ -30,8 +27,11 @@ use Rattle.cloak_model.specs.Ledger.{key_of, vector_of}
 use Rattle.cloak_model.specs.Memory.{Seen}
 use Rattle.cloak_model.specs.PageMoves.{copy_pages, drop_pages}
 use Rattle.cloak_model.specs.Touched.{touched}
-use Rattle.cloak_model.specs.Walk.{Walk, FirstWord, Ends, GoesOn, first_entry}
 use Rattle.cloak_model.specs.World.{World, Cloak, Flat, Cloaked, Alone, Handed, items_of, noted, settled, settled_in, cipher_items}
+use Rattle.script_fold.proofs.ByQuestions.{StepKept, keeps_by}
+use Rattle.script_fold.proofs.Endings.{keeps_end}
+use Rattle.script_fold.proofs.Folding.{step_keeps}
+use Rattle.script_fold.proofs.Questions.{Replies, opens_by, keeps_stored}
 use Rattle.kernel_isolation.proofs.Accounts.{is_joint}
 use Rattle.kernel_isolation.proofs.Shown.{either}
 use Rattle.reservation_law.proofs.Keeping.{all_both}
@@ -159,16 +159,11 @@ pub record IsSized (w : World) : Type 0 where
 pub record Sizes (w v : World) : Type 0 where
   pub by : IsSized w → IsSized v
 
-pub Sizes-refl : (w : World) → Sizes w w
+Sizes-refl : (w : World) → Sizes w w
 Sizes-refl w = record { by = λ is. is }
 
-pub Sizes-trans : (u v w : World) → Sizes u v → Sizes v w → Sizes u w
+Sizes-trans : (u v w : World) → Sizes u v → Sizes v w → Sizes u w
 Sizes-trans u v w p q = record { by = λ is. q.by (p.by is) }
-
-pub Sizes-either : {A : Type 0} (b : Bool) (m n : Told A) (w : World) → Sizes w m.world → Sizes w n.world →
-    Sizes w (cond b m n).world
-Sizes-either true m n w p q = p
-Sizes-either false m n w p q = q
 
 no_flat : (seen : Seen) (v : World) → Sizes (Flat seen) v
 no_flat seen v = record { by = λ is. absurd (false≢true is.form) }
@@ -189,7 +184,7 @@ more_sizes c c' items same all = record {
 
 -- Memory.
 
-pub Sizes-settled : (f : ℕ) (w : World) → Sizes w (settled f w)
+Sizes-settled : (f : ℕ) (w : World) → Sizes w (settled f w)
 Sizes-settled f (Flat ram) = no_flat ram _
 Sizes-settled f (Cloaked c) =
     let ciphers = (settle f c.memory).ciphers in
@@ -200,43 +195,6 @@ Sizes-noted : (events : List Event) (w : World) → Sizes w (noted events w)
 Sizes-noted events (Flat ram) = no_flat ram _
 Sizes-noted events (Cloaked c) = same_sizes c _ refl
 Sizes-noted events (Alone h) = no_alone h _
-
-Sizes-opened : (satp : ℕ) (a : Access) (pa : ℕ) (w : World) → Sizes w (opened satp a pa w)
-Sizes-opened satp a pa w = Sizes-trans _ _ _ (Sizes-settled (frame_of pa) w) (Sizes-noted _ _)
-
-sizes_word : (pa : ℕ) (w : World) → Sizes w (ask_word pa w).world
-unfolding ask_word
-sizes_word pa w = Sizes-either _ _ _ w (Sizes-settled (frame_of pa) w) (Sizes-refl w)
-
-sizes_second : (a : Access) (at1 at0 : ℕ) (w : World) → Sizes w (ask_second a at1 at0 w).world
-unfolding ask_second
-sizes_second a at1 at0 w = sizes_word at0 w
-
-sizes_after : (a : Access) (at1 : ℕ) (word : FirstWord) (w : World) → Sizes w (ask_after a at1 word w).world
-unfolding ask_after
-sizes_after a at1 (Ends walk) w = Sizes-refl w
-sizes_after a at1 (GoesOn at0) w = sizes_second a at1 at0 w
-
-sizes_first : (a : Access) (at1 : ℕ) (w : World) → Sizes w (ask_first a at1 w).world
-unfolding ask_first
-sizes_first a at1 w = Sizes-trans _ _ _ (sizes_word at1 w) (sizes_after a at1 _ _)
-
-sizes_walk : (satp : ℕ) (a : Access) (w : World) → Sizes w (ask_walk satp a w).world
-unfolding ask_walk
-sizes_walk satp a w = Sizes-either _ _ _ w (sizes_first a (first_entry satp a.va) w) (Sizes-refl w)
-
-sizes_inside : (a : Access) (walk : Walk) (w : World) → Sizes w (ask_inside a walk w).world
-unfolding ask_inside
-sizes_inside a (Err cause) w = Sizes-refl w
-sizes_inside a (Ok walked) w = Sizes-refl w
-
-sizes_translate : (satp : ℕ) (a : Access) (w : World) → Sizes w (ask_translate satp a w).world
-unfolding ask_translate
-sizes_translate satp a w = Sizes-trans _ _ _ (sizes_walk satp a w) (sizes_inside a _ _)
-
-sizes_led : (satp : ℕ) (a : Access) (w : World) → Sizes w (ask_led satp a w).world
-unfolding ask_led
-sizes_led satp a w = Sizes-trans _ _ _ (Sizes-noted _ w) (sizes_translate satp a _)
 
 -- Answers.
 
@@ -253,24 +211,6 @@ sizes_replies a (Flat ram) = no_flat ram _
 sizes_replies a (Cloaked c) = answer_sizes c c.regime.domain a
 sizes_replies a (Alone h) = no_alone h _
 
-sizes_drawn : (ask : Asking Answer) (w : World) → Sizes w (ask w).world → Sizes w (if_drawn ask w).world
-unfolding if_drawn
-sizes_drawn ask w next = Sizes-either _ _ _ w (sizes_replies _ w) next
-
-sizes_inside_address : (va : ℕ) (kind : Kind) (w : World) → Sizes w (ask_inside_address va kind w).world
-unfolding ask_inside_address
-sizes_inside_address va kind w = sizes_led _ _ w
-
-sizes_offered : (q : PageId) (va : ℕ) (kind : Kind) (g : ℕ) (o : Offer) (w : World) →
-    Sizes w (offered_by q va kind g o w).world
-unfolding offered_by
-sizes_offered q va kind g Ready w = Sizes-trans _ _ _ (Sizes-noted _ w) (sizes_replies _ _)
-sizes_offered q va kind g Missed w = sizes_replies _ w
-sizes_offered q va kind g Mismatch (Flat ram) = no_flat ram _
-sizes_offered q va kind g Mismatch (Cloaked c) =
-    Sizes-trans _ (Cloaked _) _ (same_sizes c _ refl) (sizes_replies _ _)
-sizes_offered q va kind g Mismatch (Alone h) = no_alone h _
-
 offer_sizes : (q : PageId) (g : ℕ) (write : Bool) (events : List Event) (c : Cloak) →
     let o = offer q g write c.memory in
     Sizes (Cloaked c)
@@ -279,40 +219,14 @@ offer_sizes q g write events c =
     let ciphers = (offer q g write c.memory).ciphers in
     more_sizes c _ (cipher_items ciphers) refl (cipher_sizes ciphers (offer_pages q g write c.memory))
 
-sizes_offer : (q : PageId) (va : ℕ) (kind : Kind) (g : ℕ) (w : World) →
-    Sizes w (ask_offer q va kind g w).world
-unfolding ask_offer
-sizes_offer q va kind g (Flat ram) = no_flat ram _
-sizes_offer q va kind g (Cloaked c) =
-    Sizes-trans _ (Cloaked _) _ (offer_sizes q g (is_store kind) _ c) (sizes_offered q va kind g _ _)
-sizes_offer q va kind g (Alone h) = no_alone h _
-
-sizes_reached : (q : PageId) (va : ℕ) (kind : Kind) (to : Result ℕ ℕ) (w : World) →
-    Sizes w (reached q va kind to w).world
-unfolding reached
-sizes_reached q va kind (Err cause) w = sizes_replies _ w
-sizes_reached q va kind (Ok pa) w = sizes_offer q va kind _ w
-
-sizes_reach_by_table : (q : PageId) (va : ℕ) (kind : Kind) (w : World) →
-    Sizes w (reach_by_table q va kind w).world
-unfolding reach_by_table
-sizes_reach_by_table q va kind w =
-    Sizes-trans _ _ _ (sizes_inside_address va kind w) (sizes_drawn _ _ (sizes_reached q va kind _ _))
-
-sizes_get_at : (pa width : ℕ) (w : World) → Sizes w (get_at pa width w).world
-unfolding get_at
-sizes_get_at pa width w = Sizes-trans _ _ _ (Sizes-noted _ w) (sizes_replies _ _)
-
-sizes_got : (va width : ℕ) (to : Result ℕ ℕ) (w : World) → Sizes w (got va width to w).world
-unfolding got
-sizes_got va width (Err cause) w = sizes_replies _ w
-sizes_got va width (Ok pa) w =
-    Sizes-trans _ _ _ (Sizes-opened _ _ pa w) (sizes_drawn _ _ (sizes_get_at pa width _))
-
-sizes_get_by_table : (va width : ℕ) (w : World) → Sizes w (get_by_table va width w).world
-unfolding get_by_table
-sizes_get_by_table va width w =
-    Sizes-trans _ _ _ (sizes_inside_address va Load w) (sizes_drawn _ _ (sizes_got va width _ _))
+size_replies : Replies Sizes
+size_replies = record {
+  opens =
+      opens_by Sizes (record { same = Sizes-refl; chained = Sizes-trans; settled = Sizes-settled }) Sizes-noted;
+  replied = sizes_replies;
+  told = λ h rest. no_alone h _;
+  unfit = λ h. no_alone h _;
+}
 
 -- Stores.
 
@@ -325,82 +239,46 @@ sizes_put_at pa width value (Cloaked c) is =
     (append_assoc c.items (put ∷ []) (item.Ok c.regime.domain ∷ [])) (is, (tt, tt))
 sizes_put_at pa width value (Alone h) is = no_alone h _
 
-sizes_stored : (va width value : ℕ) (to : Result ℕ ℕ) (w : World) → IsWidth width →
-    Sizes w (stored_inside va width value to w).world
-unfolding stored_inside
-sizes_stored va width value (Err cause) w is = sizes_replies _ w
-sizes_stored va width value (Ok pa) w is =
-    Sizes-trans _ _ _ (Sizes-opened _ _ pa w) (sizes_drawn _ _ (sizes_put_at pa width value _ is))
+-- Changes of a program's own pages.
 
-sizes_put_by_table : (va width value : ℕ) (w : World) → IsWidth width → Sizes w (put_by_table va width value w).world
-unfolding put_by_table
-sizes_put_by_table va width value w is =
-    Sizes-trans _ _ _ (sizes_inside_address va Store w) (sizes_drawn _ _ (sizes_stored va width value _ _ is))
-
--- Resources as wholes.
-
-either_world : (b : Bool) (w v : World) → Sizes w v → Sizes w (cond b v w)
-either_world true w v later = later
-either_world false w v later = Sizes-refl w
-
-pub sizes_if_marked : (domain : ℕ) (marked : List Bool) (f : ℕ) (w : World) →
-    Sizes w (settled_if_marked domain marked f w)
-unfolding settled_if_marked
-sizes_if_marked domain marked f w = either_world _ w (settled f w) (Sizes-settled f w)
-
-sizes_clear_from : (domain : ℕ) (marked : List Bool) (f n : ℕ) (w : World) →
-    Sizes w (clear_from domain marked f n w).world
-unfolding clear_from
-sizes_clear_from domain marked f zero w = sizes_replies _ w
-sizes_clear_from domain marked f (suc n) w =
-    Sizes-trans _ _ _ (sizes_if_marked domain marked f w)
-    (sizes_drawn _ _ (sizes_clear_from domain marked (f + 1) n _))
-
--- The questions.
-
-pub sizes_reach : (q : PageId) (va : ℕ) (kind : Kind) (w : World) → Sizes w (ask_reach q va kind w).world
-unfolding ask_reach
-sizes_reach q va kind (Flat ram) = no_flat ram _
-sizes_reach q va kind (Cloaked c) = sizes_reach_by_table q va kind (Cloaked c)
-sizes_reach q va kind (Alone h) = no_alone h _
-
-pub sizes_read : (q : PageId) (at width : ℕ) (w : World) → Sizes w (ask_read q at width w).world
-unfolding ask_read
-sizes_read q at width w = Sizes-refl w
-
-pub sizes_write : (q : PageId) (at width value : ℕ) (w : World) → Sizes w (ask_write q at width value w).world
+sizes_write : (q : PageId) (at width value : ℕ) (w : World) → Sizes w (ask_write q at width value w).world
 unfolding ask_write
 sizes_write q at width value (Flat ram) = no_flat ram _
 sizes_write q at width value (Cloaked c) = same_sizes c _ refl
 sizes_write q at width value (Alone h) = no_alone h _
 
-pub sizes_get : (va width : ℕ) (w : World) → Sizes w (ask_get va width w).world
-unfolding ask_get
-sizes_get va width (Flat ram) = no_flat ram _
-sizes_get va width (Cloaked c) = sizes_get_by_table va width (Cloaked c)
-sizes_get va width (Alone h) = no_alone h _
-
-pub sizes_put : (va width value : ℕ) (w : World) → IsWidth width →
-    Sizes w (ask_put va width value w).world
-unfolding ask_put
-sizes_put va width value (Flat ram) is = no_flat ram _
-sizes_put va width value (Cloaked c) is = sizes_put_by_table va width value (Cloaked c) is
-sizes_put va width value (Alone h) is = no_alone h _
-
-pub sizes_clear : (domain : ℕ) (marked : List Bool) (w : World) → Sizes w (ask_clear domain marked w).world
-unfolding ask_clear
-sizes_clear domain marked (Flat ram) = no_flat ram _
-sizes_clear domain marked (Cloaked c) = sizes_clear_from domain marked 0 (length c.memory.ram) (Cloaked c)
-sizes_clear domain marked (Alone h) = no_alone h _
-
-pub sizes_copy : (domain from to : ℕ) (w : World) → Sizes w (ask_copy domain from to w).world
+sizes_copy : (domain from to : ℕ) (w : World) → Sizes w (ask_copy domain from to w).world
 unfolding ask_copy copy_pages
 sizes_copy domain from to (Flat ram) = no_flat ram _
 sizes_copy domain from to (Cloaked c) = same_sizes c _ refl
 sizes_copy domain from to (Alone h) = no_alone h _
 
-pub sizes_forget : (domain resource : ℕ) (w : World) → Sizes w (ask_forget domain resource w).world
+sizes_forget : (domain resource : ℕ) (w : World) → Sizes w (ask_forget domain resource w).world
 unfolding ask_forget drop_pages
 sizes_forget domain resource (Flat ram) = no_flat ram _
 sizes_forget domain resource (Cloaked c) = same_sizes c _ refl
 sizes_forget domain resource (Alone h) = no_alone h _
+
+-- The step, and the end of a program.
+
+size_step : (d : ℕ) → StepKept d Sizes
+size_step d = record {
+  replies = size_replies;
+  offers = λ q own va. record {
+    offered = λ g write c. offer_sizes q g write _ c;
+    granted = λ kind w. Sizes-noted _ w;
+    mismatched = λ g c. same_sizes c _ refl;
+  };
+  puts = λ va width value at w.
+      keeps_stored Sizes size_replies width (λ pa value' v. sizes_put_at pa width value' v at.1) va value w;
+  writes = sizes_write;
+  copies = sizes_copy;
+  forgets = sizes_forget;
+}
+
+pub sizes_domain_step : (slot : ℕ) (d : Domain) (w : World) → Sizes w (domain_step slot d w).world
+sizes_domain_step slot d w =
+    let n = d.control.number in step_keeps Sizes slot d (keeps_by n Sizes (size_step n)) w
+
+pub sizes_end : (domain : ℕ) (w : World) → Sizes w (ask_end domain w).world
+sizes_end domain w = keeps_end Sizes size_replies.opens.settles sizes_forget domain w

@@ -42,8 +42,7 @@ use Rattle.reservation_law.specs.Writes.{Extent, has_byte, meets_word, deed_exte
 use Rattle.reservation_law.proofs.Items.{keeps_items, keeps_shown, keeps_inward, extents_append}
 use Rattle.reservation_law.proofs.Keeping.{SparesWord, SparesByte, AreWhole, Keeps, all_both, all_first, all_second, keeps_all, keeps_then, keeps_unmarked}
 use Rattle.reservation_law.proofs.Plain.{DoneBy, ticked_id, plain_step_does}
-use Rattle.reservation_law.proofs.Sizes.{HaveSizes, Sizes, cipher_sizes, touched_pages}
-use Rattle.reservation_law.proofs.StepSizes.{sizes_domain_step, sizes_end}
+use Rattle.reservation_law.proofs.Sizes.{HaveSizes, Sizes, cipher_sizes, touched_pages, sizes_domain_step, sizes_end}
 
 -- the number of a hart of a list
 abbrev pub id_in : List Hart → ℕ → ℕ

@@ -23,7 +23,7 @@ are_low {S} {O} before now out read low_writing low_faults =
     record { writing = subst (λ n. n < 2 ^ 64 - 1) read.writing low_writing; faults = low_faults }
 
 -- The record was begun.
-pub record Begun {S O : Type 0} (name : List ℕ) (before mid : Outside S O) : Type 0 where
+pub record HasBegunRecord {S O : Type 0} (name : List ℕ) (before mid : Outside S O) : Type 0 where
   pub empty : Tells (mid.files.held name) []
   pub others : OtherFiles name before.files.held mid.files.held
   pub reading : mid.files.reading ≡ before.files.reading
@@ -33,7 +33,7 @@ pub record Begun {S O : Type 0} (name : List ℕ) (before mid : Outside S O) : T
 pub begins : {S O : Type 0} (name : List ℕ) (before now mid : FilesOutside S) (out : Output O)
     (r : Result Unit Failed) → OnlyRead before now → OnOk r (Tells (mid.held name) []) →
     OtherFiles name now.held mid.held → Counts now.writing mid.writing r → mid.reading ≡ now.reading →
-    is_err r ≡ false → Begun name (record { files = before; output = out }) (record { files = mid; output = out })
+    is_err r ≡ false → HasBegunRecord name (record { files = before; output = out }) (record { files = mid; output = out })
 begins {S} {O} name before now mid out r read emptied others writing reading well = record {
   empty = succeeded r _ well emptied;
   others = λ other apart. others other apart ∙ read.held other;
@@ -47,7 +47,7 @@ pub grows_from : {S O : Type 0} (before mid : Outside S O) (after : Option (List
 grows_from {S} {O} before mid after text same grows = subst (λ (o : Output O). Grows o.taken after text) same grows
 
 pub fault_since : {S O : Type 0} {name : List ℕ} {before mid : Outside S O} (after : Outside S O) (piece : Piece) →
-    AreLow before → Begun name before mid → FailedAt Rose piece mid after → FailedAt Raised piece before after
+    AreLow before → HasBegunRecord name before mid → FailedAt Rose piece mid after → FailedAt Raised piece before after
 fault_since {S} {O} {name} {before} {mid} after piece low begun fault =
     failed_above piece before after low.writing low.faults
     (failed_since piece before mid after begun.writing begun.output fault)
@@ -59,7 +59,7 @@ pub record AtPieces {S O : Type 0} (name : List ℕ) (before mid : Outside S O) 
   pub nothing_rose : NothingRose before mid
 
 pub at_pieces : {S O : Type 0} {name : List ℕ} {before mid after : Outside S O} {pieces : List Piece} →
-    Begun name before mid → WroteAll name mid after pieces → AtPieces name before after
+    HasBegunRecord name before mid → WroteAll name mid after pieces → AtPieces name before after
 at_pieces {S} {O} {name} {before} {mid} {after} {pieces} begun all = record {
   grows = (shown_bytes pieces, grows_from before mid _ _ begun.output all.wrote.output);
   others = λ other apart. all.wrote.others other apart ∙ begun.others other apart;

@@ -1,6 +1,7 @@
 -- A run is lawful, however it begins.
-use Rattle.std.proofs.Common.{◌≡◌, ◌∙◌, ◌≤◌, ℕ, List, ◌++◌, Ok, ap}
+use Rattle.std.proofs.Common.{◌≡◌, ◌∙◌, ◌≤◌, ℕ, List, ◌++◌, Ok, Some, ap, slice_get}
 use Rattle.cloak_model.specs.declared.image.Bundle.{Bundle}
+use Rattle.cloak_model.specs.declared.image.Program.{Program}
 use Rattle.cloak_model.specs.declared.item.Item.{Item}
 use Rattle.cloak_model.specs.Beginning.{Beginning, Fresh, Stored, IsBeginning}
 use Rattle.cloak_model.specs.Bundle.{IsInGrammar}
@@ -10,8 +11,9 @@ use Rattle.cloak_model.specs.Run.{Run, run_from, exchange, record_bytes, most_st
 use Rattle.range_law.specs.Writing.{IsOfBytes, IsBeginningOfBytes}
 use Rattle.range_law.proofs.Runs.{writes_a_record}
 use Rattle.record_law.proofs.Judged.{one_record, not_both}
-use Rattle.kernel_isolation.proofs.Isolated.{kernel_ends_alone}
-use Rattle.domain_isolation.proofs.Isolated.{domain_ends_alone}
+use Rattle.kernel_isolation.proofs.Isolated.{kernel_ends_alone, kernel_is_alone}
+use Rattle.domain_isolation.specs.Isolation.{Hosts}
+use Rattle.domain_isolation.proofs.Isolated.{domain_ends_alone, domain_is_alone}
 use Rattle.latest_store.proofs.Histories.{runs_give_latest}
 use Rattle.latest_store.proofs.Sums.{runs_add_up}
 use Rattle.load_law.proofs.Runs.{due_loads_end}
@@ -22,20 +24,33 @@ use Rattle.page_law.proofs.OwnDraws.{ciphers_have_own_draws}
 use Rattle.cause_law.proofs.Closed.{closing_owes_nothing}
 use Rattle.cause_law.proofs.Runs.{count_has_cause, end_has_cause, listed_have_ended, presented_is_refused, stopped_ends, violation_has_cause}
 use Rattle.run_command.specs.Answering.{IsLawful}
+use Rattle.run_command.specs.Isolated.{IsIsolated}
 use Rattle.run_command.specs.ReadingBack.{ComesToEnds, FitsAlone, ReadsBack}
 use Rattle.run_command.specs.Refusing.{RefusesRightly}
 use Rattle.run_command.proofs.FrontFacts.{kernel_front_fits, domain_front_fits}
+
+-- this program is a domain of the run
+pub hosts : (b : Bundle) (from : Beginning) (budget : ℕ) (r : Run) → IsInGrammar b → run_from b from budget ≡ Ok r →
+    (d : ℕ) (p : Program) → slice_get b.programs d ≡ Some p → Hosts b d p from r
+hosts b from budget r grammar runs d p there = record {
+  in_grammar = grammar;
+  program = there;
+  budget = budget;
+  runs = runs;
+}
 
 comes_to_ends : (b : Bundle) (from : Beginning) (budget : ℕ) (r : Run) → IsInGrammar b →
     run_from b from budget ≡ Ok r → ComesToEnds b from r
 comes_to_ends b from budget r grammar runs = record {
   kernel = kernel_ends_alone b from budget r runs;
-  programs = λ d p there. domain_ends_alone b d p from r (record {
-    in_grammar = grammar;
-    program = there;
-    budget = budget;
-    runs = runs;
-  });
+  programs = λ d p there. domain_ends_alone b d p from r (hosts b from budget r grammar runs d p there);
+}
+
+is_isolated : (b : Bundle) (from : Beginning) (budget : ℕ) (r : Run) → IsInGrammar b →
+    run_from b from budget ≡ Ok r → IsIsolated b from r
+is_isolated b from budget r grammar runs = λ n le. record {
+  kernel = kernel_is_alone b from budget r runs n le;
+  programs = λ d p there. domain_is_alone b d p from r (hosts b from budget r grammar runs d p there) n le;
 }
 
 front_fits : (b : Bundle) (from : Beginning) (r : Run) (front more : List Item) → front ++ more ≡ exchange r →
@@ -83,6 +98,7 @@ is_lawful b from budget r grammar bytes all few runs =
     let begins = is_beginning b from all in
     record {
       reads_back = reads_back b from budget r grammar bytes all few runs;
+      isolated = is_isolated b from budget r grammar runs;
       latest = runs_give_latest b from budget r grammar begins runs;
       loads = due_loads_end b from budget r grammar begins runs;
       sums = runs_add_up b from budget r grammar runs;

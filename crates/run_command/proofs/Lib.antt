@@ -2,6 +2,7 @@ pub mod AnswerFacts
 pub mod ClashFacts
 pub mod FrontFacts
 pub mod Lawful
+pub mod TwoRuns
 pub mod OutletFacts
 pub mod PrepareFacts
 pub mod RunFacts

@@ -16,7 +16,7 @@ use Rattle.cloak_model.specs.Run.{any_refused, closing, cause_of, first_moment, 
 use Rattle.cloak_machine.specs.declared.machine.Machine.{Machine}
 use Rattle.cloak_machine.specs.Standing.{StandsForMoment, ShowsOpening, MakesTurn, FinishesAs}
 use Rattle.cloak_machine.specs.Ending.{end_is_refused, end_report}
-use Rattle.cloak_machine.specs.declared.end.End.{End}
+use Rattle.cloak_machine.specs.declared.end.RunEnd.{RunEnd}
 use Rattle.command_parts.specs.declared.status.Status.{Status}
 use Rattle.run_command.specs.Running.{BeginsRun, NoClashYet, RunsSteps, EndsRun, WritesRun, first_pieces, last_pieces, moment_behind, status_of}
 use Rattle.run_command.proofs.ClashFacts.{rest_unclashed, turns_unclashed}
@@ -325,7 +325,7 @@ writes-whole {E} {gave} {mid_failed} {failed} {e} {f} {g} {machine} {stopped} {c
     }
 
 -- the end of a run, by what the machine's end emits and says
-pub ends_run : {E : Type 0} {gave : E → E → List Piece → Type 0} {e f g h : E} {end : End} {stopped : Stop}
+pub ends_run : {E : Type 0} {gave : E → E → List Piece → Type 0} {e f g h : E} {end : RunEnd} {stopped : Stop}
     {m : Moment} {closed : Opened} {given : Status} →
     FinishesAs gave e f end stopped m closed → Emits gave f g (shown (codes "\n") ∷ []) →
     Emits gave g h (shown (end_report end) ∷ []) → given ≡ status_of end.stop (end_is_refused end) →

@@ -22,6 +22,7 @@ use Rattle.command_parts.specs.NoRun.{AsksBundle, IsRefused, LineFailed}
 use Rattle.command_parts.specs.Outside.{Outside, Raised, NothingRose}
 use Rattle.run_command.specs.Refusing.{RefusesRightly}
 use Rattle.run_command.specs.Recording.{IsWritten, IsCutOff, GrowsSome, FailedSome}
+use Rattle.run_command.specs.Isolated.{IsIsolated}
 use Rattle.run_command.specs.ReadingBack.{ReadsBack}
 use Rattle.run_command.specs.Running.{NoClash}
 
@@ -36,15 +37,16 @@ pub record AsksRun (asked : spec.Asked) (held : List ℕ → Option (List ℕ)) 
 
 -- The run.
 
--- What is true of a run, however it begins and whatever its kernel does: its record reads back; its programs' loads
--- return what was stored last; a load that is due is completed, or faults to the kernel, or ends its domain, or stops
--- the run; additions to a word of a program by atomic instructions add up; SC stores only a word that was not written
--- since its LR; the kernel is shown pages as ciphertexts alone, each under its program's key and a draw of its own, and
--- at no moment is a page to be sealed under another key; a domain ended only if the kernel's side presented something
--- other than what is recorded, and all that it presented in this way was refused; and as the run was closed, no frame
--- was owed a page any more.
+-- What is true of a run, however it begins and whatever its kernel does: its record reads back; after each step the
+-- kernel, and each program, is what it is alone on its own half; its programs' loads return what was stored last; a load
+-- that is due is completed, or faults to the kernel, or ends its domain, or stops the run; additions to a word of a
+-- program by atomic instructions add up; SC stores only a word that was not written since its LR; the kernel is shown
+-- pages as ciphertexts alone, each under its program's key and a draw of its own, and at no moment is a page to be sealed
+-- under another key; a domain ended only if the kernel's side presented something other than what is recorded, and all
+-- that it presented in this way was refused; and as the run was closed, no frame was owed a page any more.
 pub record IsLawful (b : Bundle) (from : Beginning) (r : Run) : Type 0 where
   pub reads_back : ReadsBack b from r
+  pub isolated : IsIsolated b from r
   pub latest : GivesLatest b from r
   pub loads : EndsDueLoads b from r
   pub sums : AddsUp b from r

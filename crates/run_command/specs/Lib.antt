@@ -4,6 +4,8 @@ pub mod Running
 pub mod Recording
 pub mod Preparing
 pub mod ReadingBack
+pub mod Isolated
 pub mod Refusing
 pub mod Answering
+pub mod TwoRuns
 pub mod Unheard

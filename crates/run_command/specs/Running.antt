@@ -11,7 +11,7 @@ use Rattle.cloak_model.specs.Report.{report}
 use Rattle.cloak_model.specs.Parts.{Joint}
 use Rattle.cloak_model.specs.Joint.{Moment, Turn}
 use Rattle.cloak_model.specs.Run.{Run, first_moment, joint_after, last_stop, turns_pieces, cause_of, due, any_refused, is_refused}
-use Rattle.cloak_machine.specs.declared.end.End.{End}
+use Rattle.cloak_machine.specs.declared.end.RunEnd.{RunEnd}
 use Rattle.cloak_machine.specs.declared.machine.Machine.{Machine}
 use Rattle.cloak_machine.specs.Ending.{end_is_refused, end_short_report, short_report}
 use Rattle.cloak_machine.specs.Standing.{StandsForMoment}
@@ -54,7 +54,7 @@ last_pieces cause steps closed =
     ++ (shown (codes "\n") ∷ shown (report cause steps closed.joint) ∷ [])
 
 -- the end of a machine is that of a run
-pub record IsEndOf (end : End) (r : Run) : Type 0 where
+pub record IsEndOf (end : RunEnd) (r : Run) : Type 0 where
   pub stop : end.stop ≡ r.stop
   pub refused : end_is_refused end ≡ is_refused r
   pub short : end_short_report end ≡ short_report r.stop (length r.turns) r.closed.joint

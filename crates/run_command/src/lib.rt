@@ -4,10 +4,11 @@
 //! (`cloak_model`, `specs/Run`) to record and output, or a front of it if writing fails. Other commands that make a run
 //! take `prepare_run`, which opens its machine from the files that the words name, or says why there is none;
 //! `write_steps`, `run_steps` and `write_end`, which write its parts; `Unheard`, which writes nothing; and
-//! `stop_status`.
+//! `stop_status`. Of any two runs that were made `law_of_two_runs` says what the kernel, or a program, sees of them alone.
 #![tactic(auto)]
 
 mod command;
+mod laws;
 mod outlet;
 mod pen;
 mod prepare;
@@ -15,6 +16,7 @@ mod run;
 mod unheard;
 
 pub use command::run_command;
+pub use laws::law_of_two_runs;
 pub use outlet::Outlet;
 pub use pen::RecordPen;
 pub use prepare::{image_is_of_bytes, open_stream, prepare_run};

@@ -4,7 +4,7 @@ ghost use Rattle.cloak_model.specs.Exchange.{recorded, shown, Emits, item_bytes}
 ghost use Rattle.cloak_machine.specs.Ending.{end_report};
 
 use crate::pen::RecordPen;
-use cloak_machine::End;
+use cloak_machine::RunEnd;
 use cloak_model::{Emit, Item};
 use exchange_log::{LONGEST, ok_bytes, step_bytes, word_bytes, write_cipher, write_item};
 use io_traits::{Shelf, Sink, put_all};
@@ -96,7 +96,7 @@ impl<'s, 'n, 'o, S: Shelf, O: Sink> Outlet<'s, 'n, 'o, S, O> {
     }
 
     /// Writes the report of a run to the output.
-    pub fn report(&mut self, end: &End)
+    pub fn report(&mut self, end: &RunEnd)
         ensures same_shelf { self.new.pen.shelf.ghost_name ≡ self.old.pen.shelf.ghost_name }
         ensures same_out { self.new.out.ghost_name ≡ self.old.out.ghost_name }
         ensures emits { Emits (Gave S.Shelf O.Sink) self.old self.new (shown (end_report end.now) ∷ []) }

@@ -2,7 +2,7 @@
 
 /// What is told of a context.
 #[derive(Clone, Copy)]
-pub struct Told {
+pub struct ToldContext {
     /// The step in which it was last resumed.
     pub resumed: u32,
     /// The step in which it ended.
@@ -18,15 +18,15 @@ pub struct FirstTable {
 
 /// What is told of the contexts of up to four programs, and of their spaces. Both are counted from `8 * program` on.
 #[derive(Drop)]
-pub struct Contexts {
-    told: [Option<Told>; 32],
+pub struct ToldContexts {
+    told: [Option<ToldContext>; 32],
     tables: [Option<FirstTable>; 32],
 }
 
-impl Contexts {
+impl ToldContexts {
     /// Nothing is told yet.
-    pub fn new() -> Contexts {
-        Contexts {
+    pub fn new() -> ToldContexts {
+        ToldContexts {
             told: [None; 32],
             tables: [None; 32],
         }
@@ -35,7 +35,7 @@ impl Contexts {
     /// A context was resumed.
     pub fn resume(&mut self, ctx: u32, step: u32) {
         if let Some(told) = self.told.get_mut(ctx as usize) {
-            *told = Some(Told {
+            *told = Some(ToldContext {
                 resumed: step,
                 ended: None,
             });
@@ -66,7 +66,7 @@ impl Contexts {
     }
 
     /// What is told of a context.
-    pub fn told(&self, ctx: u32) -> Option<Told> {
+    pub fn told(&self, ctx: u32) -> Option<ToldContext> {
         *self.told.get(ctx as usize)?
     }
 

@@ -9,7 +9,7 @@ use std::alloc::Global;
 
 /// A store to a frame: how many bytes it changed, and the first of them.
 #[derive(Clone, Copy)]
-pub struct Change {
+pub struct FrameChange {
     pub place: u32,
     pub was: u8,
     pub now: u8,
@@ -18,7 +18,7 @@ pub struct Change {
 
 /// What was done.
 #[derive(Clone, Copy)]
-pub enum Deed {
+pub enum PageDeed {
     /// The page was shown in a frame, and not again.
     LastShown(Showing),
     /// A page was shown in a frame: the page in question, or another one in a frame of interest.
@@ -35,7 +35,7 @@ pub enum Deed {
     Stored {
         hart: u32,
         frame: u32,
-        change: Change,
+        change: FrameChange,
     },
     /// The address leads to another frame than before, or to none.
     Leads {
@@ -47,9 +47,9 @@ pub enum Deed {
 
 /// What was done in a step.
 #[derive(Clone, Copy)]
-pub struct Event {
+pub struct PageEvent {
     pub step: u32,
-    pub deed: Deed,
+    pub deed: PageDeed,
 }
 
 /// The most events that are kept: the last ones.
@@ -57,14 +57,14 @@ const MOST: usize = 16;
 
 /// A frame of interest as the last step found it.
 #[derive(Drop)]
-struct Seen {
+struct SeenFrame {
     frame: u32,
     bytes: [u8; 4096],
 }
 
 /// What the kernel's step is about to find and to do.
 #[derive(Clone, Copy)]
-pub struct Before {
+pub struct StepAhead {
     step: u32,
     hart: u32,
     call: Option<DiskCall>,
@@ -76,10 +76,10 @@ pub struct Before {
 pub struct Deeds {
     target: Presented,
     /// The frame in which the page was last shown.
-    shown_in: Seen,
+    shown_in: SeenFrame,
     /// The frame that was presented, if it is another one.
-    presented_in: Option<Seen>,
-    events: Vec<Event>,
+    presented_in: Option<SeenFrame>,
+    events: Vec<PageEvent>,
     /// How many earlier events were left out.
     left_out: u32,
     /// Where the bytes that were found had last been shown, if they were.
@@ -87,18 +87,18 @@ pub struct Deeds {
 }
 
 /// How new bytes differ from old ones.
-fn difference(old: &[u8; 4096], new: &[u8; 4096]) -> Option<Change> {
-    let mut change: Option<Change> = None;
+fn difference(old: &[u8; 4096], new: &[u8; 4096]) -> Option<FrameChange> {
+    let mut change: Option<FrameChange> = None;
     for (place, (was, now)) in old.iter().zip(new.iter()).enumerate() {
         if *was != *now {
             change = Some(match change {
-                None => Change {
+                None => FrameChange {
                     place: place.min(4095) as u32,
                     was: *was,
                     now: *now,
                     count: 1,
                 },
-                Some(first) => Change {
+                Some(first) => FrameChange {
                     count: first.count.saturating_add(1),
                     ..first
                 },
@@ -108,9 +108,9 @@ fn difference(old: &[u8; 4096], new: &[u8; 4096]) -> Option<Change> {
     change
 }
 
-impl Seen {
-    fn new(frame: u32) -> Seen {
-        Seen {
+impl SeenFrame {
+    fn new(frame: u32) -> SeenFrame {
+        SeenFrame {
             frame,
             bytes: [0; 4096],
         }
@@ -124,7 +124,7 @@ impl Seen {
     }
 
     /// What a step changed of it.
-    fn change(&self, watch: &Watch) -> Option<Change> {
+    fn change(&self, watch: &Watch) -> Option<FrameChange> {
         difference(&self.bytes, watch.frames().get(self.frame as usize)?)
     }
 }
@@ -138,11 +138,11 @@ impl Deeds {
         };
         Deeds {
             target,
-            shown_in: Seen::new(shown_in),
+            shown_in: SeenFrame::new(shown_in),
             presented_in: if shown_in == target.frame {
                 None
             } else {
-                Some(Seen::new(target.frame))
+                Some(SeenFrame::new(target.frame))
             },
             events: Vec::new(alloc),
             left_out: 0,
@@ -151,7 +151,7 @@ impl Deeds {
     }
 
     /// The last events, in order.
-    pub fn events(&self) -> &[Event] {
+    pub fn events(&self) -> &[PageEvent] {
         self.events.as_slice()
     }
 
@@ -166,12 +166,12 @@ impl Deeds {
     }
 
     /// Keeps an event.
-    fn keep(&mut self, step: u32, deed: Deed) -> Result<(), NoMemory> {
+    fn keep(&mut self, step: u32, deed: PageDeed) -> Result<(), NoMemory> {
         if self.events.len() >= MOST {
             self.events.remove(0);
             self.left_out = self.left_out.saturating_add(1);
         }
-        self.events.push(Event { step, deed })?;
+        self.events.push(PageEvent { step, deed })?;
         Ok(())
     }
 
@@ -204,10 +204,10 @@ impl Deeds {
             self.origin = Some(showing);
         }
         if self.is_last(&showing) {
-            return self.keep(step, Deed::LastShown(showing));
+            return self.keep(step, PageDeed::LastShown(showing));
         }
         if page == self.target.page || self.is_of_interest(frame) {
-            return self.keep(step, Deed::Shown { page, frame });
+            return self.keep(step, PageDeed::Shown { page, frame });
         }
         Ok(())
     }
@@ -218,7 +218,7 @@ impl Deeds {
     }
 
     /// What the open step of the kernel is about to find, if one is open.
-    pub fn before(&mut self, watch: &Watch) -> Option<Before> {
+    pub fn before(&mut self, watch: &Watch) -> Option<StepAhead> {
         let hart = watch.hart()?;
         if watch.step() == 0 || hart.inside.is_some() {
             return None;
@@ -227,7 +227,7 @@ impl Deeds {
         if let Some(seen) = &mut self.presented_in {
             seen.look(watch);
         }
-        Some(Before {
+        Some(StepAhead {
             step: watch.step(),
             hart: watch.turn(),
             call: disk_call(watch.frames(), hart),
@@ -236,11 +236,16 @@ impl Deeds {
     }
 
     /// What a step changed of a frame.
-    fn note_change(&mut self, before: &Before, frame: u32, change: Change) -> Result<(), NoMemory> {
+    fn note_change(
+        &mut self,
+        before: &StepAhead,
+        frame: u32,
+        change: FrameChange,
+    ) -> Result<(), NoMemory> {
         let hart = before.hart;
         let deed = match before.call {
-            Some(call) => Deed::Moved { hart, call },
-            None => Deed::Stored {
+            Some(call) => PageDeed::Moved { hart, call },
+            None => PageDeed::Stored {
                 hart,
                 frame,
                 change,
@@ -250,19 +255,19 @@ impl Deeds {
     }
 
     /// A frame of interest that a step wrote to the disk. A host call that was done answers 0.
-    fn note_writing(&mut self, watch: &Watch, before: &Before) -> Result<(), NoMemory> {
+    fn note_writing(&mut self, watch: &Watch, before: &StepAhead) -> Result<(), NoMemory> {
         let hart = before.hart;
         let (Some(call), Some(made)) = (before.call, watch.hart_at(hart)) else {
             return Ok(());
         };
         if call.is_write && self.is_of_interest(call.frame) && made.regs.get(10) == 0 {
-            return self.keep(before.step, Deed::Moved { hart, call });
+            return self.keep(before.step, PageDeed::Moved { hart, call });
         }
         Ok(())
     }
 
     /// What the kernel's step did, once it is made.
-    pub fn after(&mut self, watch: &Watch, before: &Before) -> Result<(), NoMemory> {
+    pub fn after(&mut self, watch: &Watch, before: &StepAhead) -> Result<(), NoMemory> {
         self.note_writing(watch, before)?;
         if let Some(change) = self.shown_in.change(watch) {
             self.note_change(before, self.shown_in.frame, change)?;
@@ -278,7 +283,7 @@ impl Deeds {
         let to = self.leads(watch);
         if from != to {
             let address = self.target.address;
-            self.keep(before.step, Deed::Leads { address, from, to })?;
+            self.keep(before.step, PageDeed::Leads { address, from, to })?;
         }
         Ok(())
     }

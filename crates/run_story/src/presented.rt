@@ -1,6 +1,6 @@
 //! What was presented as a violation was met.
 
-use crate::contexts::{FirstTable, Told};
+use crate::contexts::{FirstTable, ToldContext};
 use crate::frames::Tables;
 use crate::pages::Showing;
 use crate::watch::Watch;
@@ -27,7 +27,7 @@ pub struct Presented {
 
 /// A context that a hart was asked to resume.
 #[derive(Clone, Copy)]
-pub struct Asking {
+pub struct AskedResume {
     pub step: u32,
     pub hart: u32,
     pub ctx: u32,
@@ -38,11 +38,18 @@ pub struct Asking {
 #[derive(Clone, Copy)]
 pub enum Refused {
     /// It runs on this hart.
-    Running { on: HartId, told: Option<Told> },
+    Running {
+        on: HartId,
+        told: Option<ToldContext>,
+    },
     /// It is not there.
-    Gone { told: Option<Told> },
+    Gone {
+        told: Option<ToldContext>,
+    },
     /// Its space was first resumed under another page table.
-    Mapping { first: FirstTable },
+    Mapping {
+        first: FirstTable,
+    },
 }
 
 /// What was presented in a step, by which a program ends unless a draw is missing.
@@ -52,7 +59,7 @@ pub enum Target {
     /// A page, of which no more is told.
     Question,
     Page(Presented),
-    Context(Asking, Refused),
+    Context(AskedResume, Refused),
 }
 
 /// The page of a program's question that was stopped, and the frame that was presented for it. Nothing is told if that frame
@@ -126,7 +133,7 @@ pub fn resume_target(watch: &Watch) -> Target {
         None => Target::Nothing,
         Some(refused) => {
             let (step, hart) = (watch.step(), watch.turn());
-            let asking = Asking {
+            let asking = AskedResume {
                 step,
                 hart,
                 ctx,

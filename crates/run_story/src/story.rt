@@ -3,7 +3,9 @@ ghost use Rattle.std.specs.Prelude.{IfErr};
 ghost use Rattle.cloak_model.specs.Bundle.{IsInGrammar};
 ghost use Rattle.run_story.specs.Answering.{LacksItem};
 
-use crate::presented::{Asking, Presented, Target, context_met, question_target, resume_target};
+use crate::presented::{
+    AskedResume, Presented, Target, context_met, question_target, resume_target,
+};
 use crate::telling::Passage;
 use crate::untold::Untold;
 use crate::watch::Watch;

@@ -1,10 +1,10 @@
 //! The story in sentences.
 
-use crate::contexts::{FirstTable, Told};
-use crate::deeds::{Change, Deed, Deeds, Event};
+use crate::contexts::{FirstTable, ToldContext};
+use crate::deeds::{Deeds, FrameChange, PageDeed, PageEvent};
 use crate::frames::DiskCall;
 use crate::pages::Showing;
-use crate::presented::{Asking, Presented, Refused};
+use crate::presented::{AskedResume, Presented, Refused};
 use cloak_base::{Kind, PageId};
 use std::fmt;
 
@@ -12,7 +12,7 @@ use std::fmt;
 #[derive(Drop)]
 pub enum Passage {
     /// A program ended by a context that was to be resumed.
-    Resume(Asking, Refused),
+    Resume(AskedResume, Refused),
     /// A resume was refused: there is no such program, or it ended in a step before.
     Refused {
         step: u32,
@@ -108,9 +108,9 @@ impl fmt::Display for DiskCall {
     }
 }
 
-impl fmt::Display for Change {
+impl fmt::Display for FrameChange {
     fn fmt<W: fmt::Write>(&self, f: &mut fmt::Formatter<W>) -> fmt::Result {
-        let Change {
+        let FrameChange {
             place,
             was,
             now,
@@ -124,21 +124,21 @@ impl fmt::Display for Change {
     }
 }
 
-impl fmt::Display for Deed {
+impl fmt::Display for PageDeed {
     fn fmt<W: fmt::Write>(&self, f: &mut fmt::Formatter<W>) -> fmt::Result {
         match *self {
-            Deed::LastShown(showing) => {
+            PageDeed::LastShown(showing) => {
                 let digest = showing.digest;
                 let (page, digest) = (PageName(showing.page), DigestText(digest));
                 write!(f, "{page} was last shown, in frame {}, ", showing.frame)?;
                 write!(f, "as ciphertext with the digest {digest}")
             }
-            Deed::Shown { page, frame } => {
+            PageDeed::Shown { page, frame } => {
                 let page = PageName(page);
                 write!(f, "{page} was shown, in frame {frame}")
             }
-            Deed::Moved { hart, call } => write!(f, "the kernel, on hart {hart}, {call}"),
-            Deed::Stored {
+            PageDeed::Moved { hart, call } => write!(f, "the kernel, on hart {hart}, {call}"),
+            PageDeed::Stored {
                 hart,
                 frame,
                 change,
@@ -146,7 +146,7 @@ impl fmt::Display for Deed {
                 f,
                 "the kernel, on hart {hart}, stored to frame {frame}: {change}"
             ),
-            Deed::Leads { address, from, to } => {
+            PageDeed::Leads { address, from, to } => {
                 let (from, to) = (FrameName(from), FrameName(to));
                 f.write_str("the kernel changed its page table: ")?;
                 write!(f, "{address:08x} led to {from}, and now leads to {to}")
@@ -155,7 +155,7 @@ impl fmt::Display for Deed {
     }
 }
 
-impl fmt::Display for Event {
+impl fmt::Display for PageEvent {
     fn fmt<W: fmt::Write>(&self, f: &mut fmt::Formatter<W>) -> fmt::Result {
         let step = StepName(self.step);
         let deed = self.deed;
@@ -272,22 +272,25 @@ fn write_question<W: fmt::Write>(step: u32, domain: u32, f: &mut fmt::Formatter<
 /// A context that runs.
 fn write_running<W: fmt::Write>(
     on: u32,
-    told: Option<Told>,
+    told: Option<ToldContext>,
     f: &mut fmt::Formatter<W>,
 ) -> fmt::Result {
     write!(f, "The context runs on hart {on}")?;
     match told {
-        Some(Told { resumed, .. }) => write!(f, ", where it was resumed at step {resumed}.\n"),
+        Some(ToldContext { resumed, .. }) => write!(
+            f,
+            ", where it was resumed at step {resumed}.\n"
+        ),
         None => f.write_str(".\n"),
     }
 }
 
 /// A context that is not there.
-fn write_gone<W: fmt::Write>(told: Option<Told>, f: &mut fmt::Formatter<W>) -> fmt::Result {
+fn write_gone<W: fmt::Write>(told: Option<ToldContext>, f: &mut fmt::Formatter<W>) -> fmt::Result {
     f.write_str("The context is not there: ")?;
     match told {
         Some(
-            Told {
+            ToldContext {
                 ended: Some(step),
                 ..
             },
@@ -312,7 +315,7 @@ fn write_mapping<W: fmt::Write>(
 
 /// A program that ended by the context that was to be resumed, why it was not resumed, and the rule that asking for it broke.
 fn write_resume<W: fmt::Write>(
-    asking: &Asking,
+    asking: &AskedResume,
     refused: Refused,
     f: &mut fmt::Formatter<W>,
 ) -> fmt::Result {

@@ -1,7 +1,7 @@
 //! A run as it is made again from the items of its record: the kernel, the programs, and which page each frame shows.
 ghost use Rattle.cloak_model.specs.Bundle.{IsInGrammar};
 
-use crate::contexts::{Contexts, FirstTable, Told};
+use crate::contexts::{FirstTable, ToldContext, ToldContexts};
 use crate::frames::{Tables, frame_at, tables_of};
 use crate::pages::{Pages, Showing};
 use crate::silent::Silent;
@@ -19,7 +19,7 @@ pub struct Watch {
     programs: Vec<DomainAlone>,
     schedule: Vec<u8>,
     pages: Pages,
-    contexts: Contexts,
+    contexts: ToldContexts,
     /// The number of the last step, 0 before the first.
     step: u32,
     /// How many answers the programs got in it.
@@ -58,7 +58,7 @@ impl Watch {
             programs: open_programs(alloc, bundle)?,
             schedule: Vec::from_slice(alloc, bundle.kernel.schedule.as_slice())?,
             pages: Pages::open(alloc, bundle.kernel.frames, bundle.programs.as_slice())?,
-            contexts: Contexts::new(),
+            contexts: ToldContexts::new(),
             step: 0,
             answers: 0,
             has_resumed: false,
@@ -126,7 +126,7 @@ impl Watch {
     }
 
     /// What the record tells of a context.
-    pub fn told(&self, ctx: u32) -> Option<Told> {
+    pub fn told(&self, ctx: u32) -> Option<ToldContext> {
         self.contexts.told(ctx)
     }
 

@@ -2,7 +2,7 @@
 
 use crate::checks::same;
 use crate::images::image;
-use crate::reports::{EMPTY, Outcome, report};
+use crate::reports::{EMPTY, ReportRow, report};
 use cloak_commands::{ProgramWords, run_program};
 use command_parts::Status;
 use io_traits::{MemoryShelf, MemorySink};
@@ -31,7 +31,7 @@ const SMALLEST_RAM: &str = "ca2dd2baf1cc979718fa70ae0b1595bc4c0db431191181299b87
 /// That of the second one's.
 const BREAKS_RAM: &str = "9dd6c08f0a5cfe84df9c4317edfdecba18be7790d03bcb2f6c6ef6fbd4002f40";
 
-const WHOLE_RUN: Outcome = Outcome {
+const WHOLE_RUN: ReportRow = ReportRow {
     ends: ("halt 0", 4, 0),
     console: (
         "A",
@@ -51,7 +51,7 @@ flushes 0
 
 /// What a call answered and left.
 #[derive(Drop)]
-pub struct Left {
+pub struct CallResult {
     pub status: Status,
     pub shelf: MemoryShelf,
     pub sink: MemorySink,
@@ -65,7 +65,7 @@ pub fn called(
     bundle: &[u8],
     other: &[u8],
     failing: (u64, u64),
-) -> Result<Left, Fail> {
+) -> Result<CallResult, Fail> {
     let mut shelf = MemoryShelf::open(alloc, vec![in alloc; failing.0]?);
     shelf.add("a.b", bundle)?;
     shelf.add("other", other)?;
@@ -75,7 +75,7 @@ pub fn called(
         words.push(String::from_str(alloc, word)?)?;
     }
     let status = run_program(alloc, &ProgramWords::Taken(words), &mut shelf, &mut sink);
-    Ok(Left {
+    Ok(CallResult {
         status,
         shelf,
         sink,
@@ -100,7 +100,7 @@ fn comes_to(
 }
 
 /// Words of runs, the code of their images, what they end with, and their records.
-static RUNS: [(&str, &str, Outcome, &[u8]); 5] = [
+static RUNS: [(&str, &str, ReportRow, &[u8]); 5] = [
     (WHOLE_LINE, SMALLEST, WHOLE_RUN, &RECORD),
     (
         "run a.b a.r --number 7 --steps 4",
@@ -111,7 +111,7 @@ static RUNS: [(&str, &str, Outcome, &[u8]); 5] = [
     (
         "run a.b a.r --steps 0 --number 0",
         SMALLEST,
-        Outcome {
+        ReportRow {
             ends: ("budget", 0, 0),
             console: ("", EMPTY),
             ram: SMALLEST_RAM,
@@ -124,7 +124,7 @@ static RUNS: [(&str, &str, Outcome, &[u8]); 5] = [
         // A breakpoint with all control and status registers 0, whose trap goes to 0.
         "run a.b a.r --steps 1 --number 0",
         BREAKS,
-        Outcome {
+        ReportRow {
             ends: ("budget", 1, 0),
             console: ("", EMPTY),
             ram: BREAKS_RAM,
@@ -140,7 +140,7 @@ static RUNS: [(&str, &str, Outcome, &[u8]); 5] = [
         // Address 0 is no RAM, so its fetch is a fault.
         "run a.b a.r --steps 2 --number 0",
         BREAKS,
-        Outcome {
+        ReportRow {
             ends: ("budget", 2, 0),
             console: ("", EMPTY),
             ram: BREAKS_RAM,

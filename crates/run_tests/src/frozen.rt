@@ -1,6 +1,6 @@
 //! Runs that are frozen and go on, over files in memory. What both parts must write comes from the whole run.
 
-use crate::calls::{Left, SMALLEST};
+use crate::calls::{CallResult, SMALLEST};
 use crate::checks::{holds, same};
 use crate::images::image;
 use crate::programs::{CALLS, EXITS, FLIPS, HALTS, REMAPS, RESUMES_3_AND_8, RESUMES_AGAIN, START};
@@ -13,7 +13,7 @@ use std::test::*;
 
 /// The files of a shelf, beside the stream `s`, whose bytes are 0, 1, 2 and so on, a front of it and of the vectors.
 #[derive(Clone, Copy)]
-struct Files<'a> {
+struct FrozenRunFiles<'a> {
     /// The bundle `a.b`.
     bundle: &'a [u8],
     /// The state `f`.
@@ -34,7 +34,12 @@ fn rising(alloc: Global, first: u8, count: u8) -> Result<Vec<u8>, Fail> {
 }
 
 /// What the words leave over these files, if the call on files of this number fails. Calls are counted from 1.
-fn called_on(alloc: Global, line: &str, files: &Files<'_>, failing: u64) -> Result<Left, Fail> {
+fn called_on(
+    alloc: Global,
+    line: &str,
+    files: &FrozenRunFiles<'_>,
+    failing: u64,
+) -> Result<CallResult, Fail> {
     let mut shelf = MemoryShelf::open(alloc, vec![in alloc; failing]?);
     shelf.add("a.b", files.bundle)?;
     shelf.add("f", files.state)?;
@@ -47,7 +52,7 @@ fn called_on(alloc: Global, line: &str, files: &Files<'_>, failing: u64) -> Resu
         words.push(String::from_str(alloc, word)?)?;
     }
     let status = run_program(alloc, &ProgramWords::Taken(words), &mut shelf, &mut sink);
-    Ok(Left {
+    Ok(CallResult {
         status,
         shelf,
         sink,
@@ -55,8 +60,8 @@ fn called_on(alloc: Global, line: &str, files: &Files<'_>, failing: u64) -> Resu
 }
 
 /// Files with this bundle, no state, and vectors for what these images need.
-fn files_with(bundle: &[u8]) -> Files<'_> {
-    Files {
+fn files_with(bundle: &[u8]) -> FrozenRunFiles<'_> {
+    FrozenRunFiles {
         bundle,
         state: b"",
         vectors: 112,
@@ -65,7 +70,7 @@ fn files_with(bundle: &[u8]) -> Files<'_> {
 }
 
 /// The run of a bundle that is frozen after this many steps.
-fn frozen(alloc: Global, files: &Files<'_>, steps: u32) -> Result<Left, Fail> {
+fn frozen(alloc: Global, files: &FrozenRunFiles<'_>, steps: u32) -> Result<CallResult, Fail> {
     let line = format!(in alloc; "freeze a.b a.r f --ivs v --steps {steps} --stream s")?;
     called_on(alloc, &line, files, 0)
 }
@@ -106,7 +111,7 @@ fn is_one_run(
     let whole = called_on(alloc, &line, &files, 0)?;
     let first = frozen(alloc, &files, steps)?;
     same(rt, &first.status, &Status::Frozen, row);
-    let files = Files {
+    let files = FrozenRunFiles {
         state: first.shelf.bytes("f"),
         ..files
     };
@@ -142,7 +147,7 @@ const WRITES: &str = "
 
 /// Turns, both parts of a kernel, blocks, programs, and pairs: after how many steps the run is frozen, and how many it goes on
 /// for. A program is resumed in step 5, stores in step 7 and calls in step 12.
-type Row = (
+type FrozenRow = (
     &'static str,
     &'static [u8],
     [&'static str; 2],
@@ -151,7 +156,7 @@ type Row = (
     &'static [(u32, u32)],
 );
 
-static RUNS: [Row; 7] = [
+static RUNS: [FrozenRow; 7] = [
     (
         "a kernel",
         &[0],
@@ -241,7 +246,7 @@ const NO_LOADS: &[u8] =
 #[test]
 fn a_worked_state(rt: HostRuntime) -> Result<(), Fail> {
     let bundle = worked_image(rt.alloc())?;
-    let files = Files {
+    let files = FrozenRunFiles {
         vectors: 32,
         ..files_with(bundle.as_slice())
     };
@@ -257,7 +262,7 @@ fn a_worked_state(rt: HostRuntime) -> Result<(), Fail> {
         "lengths of record and state",
     );
     holds(&rt, state.ends_with(&STATE_DIGEST), "state");
-    let files = Files { state, ..files };
+    let files = FrozenRunFiles { state, ..files };
     let rest = called_on(
         rt.alloc(),
         "thaw a.b b.r f --steps 92 --stream s",
@@ -287,7 +292,7 @@ fn a_run_that_stops_before(rt: HostRuntime) -> Result<(), Fail> {
     let smallest = image(rt.alloc(), &[0], &[SMALLEST], 0, &[])?;
     let worked = worked_image(rt.alloc())?;
     for (bundle, steps) in [(&smallest, 4), (&smallest, 8), (&worked, 14)] {
-        let files = Files {
+        let files = FrozenRunFiles {
             vectors: 0,
             ..files_with(bundle.as_slice())
         };
@@ -315,7 +320,7 @@ fn too_few_vectors(rt: HostRuntime) -> Result<(), Fail> {
     let whole = called_on(rt.alloc(), line, &files_with(bundle.as_slice()), 0)?;
     let record = whole.shelf.bytes("a.r");
     for &(steps, vectors, length) in &LACKING {
-        let files = Files {
+        let files = FrozenRunFiles {
             vectors,
             ..files_with(bundle.as_slice())
         };
@@ -414,7 +419,7 @@ fn refused_words(rt: HostRuntime) -> Result<(), Fail> {
     let files = files_with(bundle.as_slice());
     let first = frozen(rt.alloc(), &files, 8)?;
     for &(line, few, status, output) in &REFUSED {
-        let files = Files {
+        let files = FrozenRunFiles {
             state: first.shelf.bytes("f"),
             few,
             ..files
@@ -451,7 +456,7 @@ fn damaged_states(rt: HostRuntime) -> Result<(), Fail> {
             *byte ^= 1;
         }
         file.truncate(length);
-        let files = Files {
+        let files = FrozenRunFiles {
             state: file.as_slice(),
             ..files
         };
@@ -460,7 +465,7 @@ fn damaged_states(rt: HostRuntime) -> Result<(), Fail> {
         same(&rt, &found, &(Status::BadState, output.as_bytes()), output);
     }
     let smallest = image(rt.alloc(), &[0], &[SMALLEST], 0, &[])?;
-    let files = Files {
+    let files = FrozenRunFiles {
         bundle: smallest.as_slice(),
         state: first.shelf.bytes("f"),
         ..files
@@ -512,7 +517,7 @@ fn failing_calls_of_the_rest(rt: HostRuntime) -> Result<(), Fail> {
     let files = files_with(bundle.as_slice());
     let line = "freeze a.b a.r f --ivs v --steps 3 --number 0";
     let first = called_on(rt.alloc(), line, &files, 0)?;
-    let files = Files {
+    let files = FrozenRunFiles {
         state: first.shelf.bytes("f"),
         ..files
     };

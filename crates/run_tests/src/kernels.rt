@@ -3,7 +3,7 @@
 use crate::calls::called;
 use crate::checks::same;
 use crate::images::image;
-use crate::reports::{EMPTY, Outcome, report};
+use crate::reports::{EMPTY, ReportRow, report};
 use command_parts::Status;
 use std::test::*;
 
@@ -42,12 +42,12 @@ const LOADS_BY_A_TABLE: &str = "
 ";
 
 /// The digests are those of the stores and registers above, by another program.
-static CODES: [(&str, &str, u32, Outcome); 2] = [
+static CODES: [(&str, &str, u32, ReportRow); 2] = [
     (
         "a refused READ",
         READS_BLOCK_64,
         64,
-        Outcome {
+        ReportRow {
             ends: ("halt 1", 6, 0),
             console: ("", EMPTY),
             ram: "48025c1079713174cb732e62b38b66c78d2b1034440293d197067ffe6967b5d2",
@@ -62,7 +62,7 @@ static CODES: [(&str, &str, u32, Outcome); 2] = [
         "a load by a page table",
         LOADS_BY_A_TABLE,
         0,
-        Outcome {
+        ReportRow {
             ends: ("halt 7", 28, 0),
             console: ("", EMPTY),
             ram: "0b11d375a32656dc5fdf032a57a20db01e37ce9b1b5162ea23b5cb6c6f79477f",
@@ -99,7 +99,7 @@ fn runs_of_code(rt: HostRuntime) -> Result<(), Fail> {
 }
 
 /// The second hart begins with the first segment too, and goes on into the second one.
-const TURNS: Outcome = Outcome {
+const TURNS: ReportRow = ReportRow {
     ends: ("budget", 3, 0),
     console: ("", EMPTY),
     ram: "20e4c1730273d8feb3eafbfdee3fe0e68468487dbf62936307a563cae1dc42cc",

@@ -1,16 +1,16 @@
 //! Runs of guest images with programs of one page.
 
-use crate::calls::{Left, called};
+use crate::calls::{CallResult, called};
 use crate::checks::{holds, same};
 use crate::images::image;
-use crate::reports::{EMPTY, Outcome, report};
+use crate::reports::{EMPTY, ReportRow, report};
 use cloak_commands::{ProgramWords, read_again, sentence};
 use command_parts::Status;
 use std::alloc::Global;
 use std::test::*;
 
 /// The run of an image for this many steps under a stream of this many bytes: 0, 1, 2 and so on.
-fn ran(alloc: Global, bundle: &[u8], steps: u32, bytes: u8) -> Result<Left, Fail> {
+fn ran(alloc: Global, bundle: &[u8], steps: u32, bytes: u8) -> Result<CallResult, Fail> {
     let mut stream = Vec::new(alloc);
     for byte in 0..bytes {
         stream.push(byte)?;
@@ -72,7 +72,7 @@ pub const CALLS: &str = "
 /// Ends its context.
 pub const EXITS: &str = "lui x17, 0x4F560\naddi x17, x17, 7\necall";
 
-const CALLED: Outcome = Outcome {
+const CALLED: ReportRow = ReportRow {
     ends: ("halt 7", 14, 2),
     console: ("", EMPTY),
     ram: "2da50ffcd931d216d4839fe1c98ec2c33929a52a7ef3ed3e96ca928ca971d80a",

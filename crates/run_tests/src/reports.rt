@@ -9,7 +9,7 @@ pub const EMPTY: &str = "e3b0c44298fc1c149afbf4c8996fb92427ae41e4649b934ca495991
 /// What a run ends with: why it stops, its steps and its draws; the bytes of its console and their digest; of each hart
 /// its line up to the timer, which is 0, and by number the registers of both kinds that are not 0.
 #[derive(Clone, Copy)]
-pub struct Outcome {
+pub struct ReportRow {
     pub ends: (&'static str, u32, u32),
     pub console: (&'static str, &'static str),
     pub ram: &'static str,
@@ -43,7 +43,7 @@ fn add_values(lines: &mut String, values: &[(u32, u32)]) -> Result<(), Fail> {
 }
 
 /// The bytes of the console, a line feed and the report, without lines of programs.
-pub fn report(alloc: Global, said: Outcome) -> Result<String, Fail> {
+pub fn report(alloc: Global, said: ReportRow) -> Result<String, Fail> {
     let (stop, steps, draws) = said.ends;
     let (shown, console) = said.console;
     let (length, ram, disk) = (shown.len(), said.ram, said.disk);

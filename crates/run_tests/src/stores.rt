@@ -1,6 +1,6 @@
 //! Runs over cloaked files, over files in memory.
 
-use crate::calls::Left;
+use crate::calls::CallResult;
 use crate::checks::{holds, same};
 use crate::images::image;
 use cloak_commands::{ProgramWords, run_program};
@@ -25,7 +25,7 @@ const NO_FILES: [u8; 20] = [
 
 /// The files of a shelf, beside the secret.
 #[derive(Clone, Copy)]
-struct Files<'a> {
+struct StoreRunFiles<'a> {
     /// The bundle `a.b`.
     bundle: &'a [u8],
     /// The store file `a.s`.
@@ -35,8 +35,8 @@ struct Files<'a> {
 }
 
 /// The files that words left.
-fn files_of(left: &Left) -> Files<'_> {
-    Files {
+fn files_of(left: &CallResult) -> StoreRunFiles<'_> {
+    StoreRunFiles {
         bundle: left.shelf.bytes("a.b"),
         store: left.shelf.bytes("a.s"),
         next: left.shelf.bytes("b.b"),
@@ -44,7 +44,12 @@ fn files_of(left: &Left) -> Files<'_> {
 }
 
 /// What the words leave over these files, when the call of this number on files fails. Calls are counted from 1.
-fn stored(alloc: Global, line: &str, files: &Files<'_>, failing: u64) -> Result<Left, Fail> {
+fn stored(
+    alloc: Global,
+    line: &str,
+    files: &StoreRunFiles<'_>,
+    failing: u64,
+) -> Result<CallResult, Fail> {
     let mut shelf = MemoryShelf::open(alloc, vec![in alloc; failing]?);
     shelf.add("a.b", files.bundle)?;
     shelf.add("a.s", files.store)?;
@@ -56,7 +61,7 @@ fn stored(alloc: Global, line: &str, files: &Files<'_>, failing: u64) -> Result<
         words.push(String::from_str(alloc, word)?)?;
     }
     let status = run_program(alloc, &ProgramWords::Taken(words), &mut shelf, &mut sink);
-    Ok(Left {
+    Ok(CallResult {
         status,
         shelf,
         sink,
@@ -64,9 +69,9 @@ fn stored(alloc: Global, line: &str, files: &Files<'_>, failing: u64) -> Result<
 }
 
 /// What a first run leaves of an image that halts, when the call of this number on files fails.
-fn first_run(alloc: Global, failing: u64) -> Result<Left, Fail> {
+fn first_run(alloc: Global, failing: u64) -> Result<CallResult, Fail> {
     let bundle = image(alloc, &[0], &[HALTS], 0, &[])?;
-    let files = Files {
+    let files = StoreRunFiles {
         bundle: bundle.as_slice(),
         store: b"",
         next: b"",
@@ -154,7 +159,7 @@ fn damaged_store_files(rt: HostRuntime) -> Result<(), Fail> {
             *byte ^= 1;
         }
         file.truncate(length);
-        let files = Files {
+        let files = StoreRunFiles {
             store: file.as_slice(),
             ..files_of(&first)
         };

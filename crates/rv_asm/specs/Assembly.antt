@@ -129,11 +129,11 @@ SpellsItem (Instruction i) w = (w < 2 ^ 32) × (instruction w ≡ Some i)
 SpellsItem (Atomic a) w = (w < 2 ^ 32) × (atomic_instruction w ≡ Some a)
 SpellsItem (Data n) w = w ≡ n
 
-abbrev pub AreWords : List ImageWord → List ℕ → Type 0
-AreWords [] [] = Unit {0}
-AreWords [] (w ∷ ws) = ⊥
-AreWords (i ∷ is) [] = ⊥
-AreWords (i ∷ is) (w ∷ ws) = SpellsItem i w × AreWords is ws
+abbrev pub AreSpelled : List ImageWord → List ℕ → Type 0
+AreSpelled [] [] = Unit {0}
+AreSpelled [] (w ∷ ws) = ⊥
+AreSpelled (i ∷ is) [] = ⊥
+AreSpelled (i ∷ is) (w ∷ ws) = SpellsItem i w × AreSpelled is ws
 
 -- a fault is the text's, except for want of memory
 abbrev pub FailsAs : {Y : Type 0} → AsmFault → Result Y AsmFault → Type 0

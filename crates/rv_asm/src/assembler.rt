@@ -7,7 +7,7 @@ ghost use Rattle.rv_asm.specs.declared.fault.AsmFault.TheVariants as faults;
 ghost use Rattle.rv_asm.specs.declared.image_word.ImageWord.{ImageWord};
 ghost use Rattle.rv_asm.specs.Statements.{Reads, read, IsLineReady, IsItemInRange};
 ghost use Rattle.rv_asm.specs.Assembly.{lines_of, offset_between, relative, items_of_line, line_items, items_from};
-ghost use Rattle.rv_asm.specs.Assembly.{assembled, SpellsItem, AreWords, FailsAs, AnswersAs, table};
+ghost use Rattle.rv_asm.specs.Assembly.{assembled, SpellsItem, AreSpelled, FailsAs, AnswersAs, table};
 ghost use Rattle.rv_asm.specs.Listing.{listed, AreItems};
 
 use crate::atomic::encode_atomic;
@@ -188,7 +188,7 @@ fn word_of(item: &ImageWord) -> u32
 
 fn words_of(alloc: Global, items: &[ImageWord]) -> Result<Vec<u32>, AllocError>
     requires { All IsItemInRange items.now }
-    ensures { IfOk result (λ v. AreWords items.now v.items) }
+    ensures { IfOk result (λ v. AreSpelled items.now v.items) }
 {
     let mut words = Vec::new(alloc);
     for item in items {
@@ -201,7 +201,8 @@ fn words_of(alloc: Global, items: &[ImageWord]) -> Result<Vec<u32>, AllocError>
 #[tactic(auto, unfolding(crate::specs::Assembly::assembled))]
 pub fn assemble(alloc: Global, text: &str) -> Result<Vec<u32>, AsmFault>
     requires { length text.now < 2 ^ 32 }
-    ensures { MatchResult result (λ v. (items : List ImageWord) × (assembled text.now ≡ Ok items) × AreWords items v.items)
+    ensures { MatchResult result (λ v. (items : List ImageWord) × (assembled text.now ≡ Ok items)
+        × AreSpelled items v.items)
         (λ e. FailsAs e (assembled text.now)) }
 {
     let text = text.as_bytes();

@@ -1,29 +1,56 @@
 -- What each change of a world keeps, each question and each change of a script keeps.
-use Rattle.std.proofs.Common.{ℕ}
+use Rattle.std.proofs.Common.{◌≡◌, ℕ}
+use Rattle.cloak_base.specs.declared.names.PageId.{PageId}
 use Rattle.cloak_model.specs.World.{World}
-use Rattle.cloak_model.specs.AskPages.{ask_copy, ask_forget}
-use Rattle.domain_isolation.proofs.Scripts.{Question, Reach, Get, Put, Clear, Change, Write, Copy, Forget, asked, changed}
+use Rattle.cloak_model.specs.AskPages.{ask_read, ask_write, ask_put, ask_copy, ask_forget}
+use Rattle.script_fold.proofs.Aligned.{IsAligned}
+use Rattle.script_fold.proofs.Scripts.{Question, Reach, Get, Put, Clear, Change, Write, Copy, Forget, asked, changed}
 use Rattle.script_fold.proofs.Folding.{Keeps}
-use Rattle.script_fold.proofs.Questions.{Kept, keeps_reach, keeps_read, keeps_write, keeps_get, keeps_put, keeps_clear}
+use Rattle.script_fold.proofs.Questions.{Kept, Replies, Offers, replies_of, offers_of, keeps_reached_page, keeps_get, keeps_clear, keeps_put, keeps_write}
 
-keeps_asked : (R : World → World → Type 0) (k : Kept R) {d : ℕ} (question : Question d) (w : World) → R w (asked question w).world
-keeps_asked R k (Reach q own va kind) w = keeps_reach R k q va kind w
-keeps_asked R k (Get va width) w = keeps_get R k va width w
-keeps_asked R k (Put va width value) w = keeps_put R k va width value w
-keeps_asked R k {d} (Clear marked) w = keeps_clear R k d marked w
+-- What is kept of what a step of domain d asks: answers, offers of its own pages, stores elsewhere, and changes.
+pub record StepKept (d : ℕ) (R : World → World → Type 0) : Type 0 where
+  pub replies : Replies R
+  pub offers : (q : PageId) → q.domain ≡ d → (va : ℕ) → Offers R q va
+  pub puts : (va width value : ℕ) → IsAligned va width → (w : World) → R w (ask_put va width value w).world
+  pub writes : (q : PageId) (at width value : ℕ) (w : World) → R w (ask_write q at width value w).world
+  pub copies : (d from to : ℕ) (w : World) → R w (ask_copy d from to w).world
+  pub forgets : (d resource : ℕ) (w : World) → R w (ask_forget d resource w).world
 
-keeps_changed : (R : World → World → Type 0) (k : Kept R) → ((d from to : ℕ) (w : World) → R w (ask_copy d from to w).world) →
-    ((d resource : ℕ) (w : World) → R w (ask_forget d resource w).world) → {d : ℕ} (change : Change d) (w : World) → R w (changed change w).world
-keeps_changed R k copies forgets (Write q own at width value) w = keeps_write R k q at width value w
-keeps_changed R k copies forgets {d} (Copy from to) w = copies d from to w
-keeps_changed R k copies forgets {d} (Forget resource) w = forgets d resource w
+keeps_asked : {d : ℕ} (R : World → World → Type 0) (k : StepKept d R) (question : Question d) (w : World) →
+    R w (asked question w).world
+keeps_asked R k (Reach q own va kind) w = keeps_reached_page R k.replies q va (k.offers q own va) kind w
+keeps_asked R k (Get va width) w = keeps_get R k.replies va width w
+keeps_asked R k (Put va width value at) w = k.puts va width value at w
+keeps_asked {d} R k (Clear marked) w = keeps_clear R k.replies d marked w
+
+keeps_changed : {d : ℕ} (R : World → World → Type 0) (k : StepKept d R) (change : Change d) (w : World) →
+    R w (changed change w).world
+keeps_changed R k (Write q own at width value) w = k.writes q at width value w
+keeps_changed {d} R k (Copy from to) w = k.copies d from to w
+keeps_changed {d} R k (Forget resource) w = k.forgets d resource w
+
+same_read : (R : World → World → Type 0) → ((w : World) → R w w) → (q : PageId) (at width : ℕ) (w : World) →
+    R w (ask_read q at width w).world
+unfolding ask_read
+same_read R same q at width w = same w
+
+pub keeps_by : (d : ℕ) (R : World → World → Type 0) → StepKept d R → Keeps d R
+keeps_by d R k = record {
+  same = k.replies.opens.settles.same;
+  chained = k.replies.opens.settles.chained;
+  ask = λ question w. keeps_asked R k question w;
+  read = λ q at width w. same_read R k.replies.opens.settles.same q at width w;
+  change = λ change w. keeps_changed R k change w;
+}
 
 pub kept_by : (R : World → World → Type 0) (k : Kept R) → ((d from to : ℕ) (w : World) → R w (ask_copy d from to w).world) →
     ((d resource : ℕ) (w : World) → R w (ask_forget d resource w).world) → (d : ℕ) → Keeps d R
-kept_by R k copies forgets d = record {
-  same = k.same;
-  chained = k.chained;
-  ask = λ question w. keeps_asked R k question w;
-  read = λ q at width w. keeps_read R k q at width w;
-  change = λ change w. keeps_changed R k copies forgets change w;
-}
+kept_by R k copies forgets d = keeps_by d R (record {
+  replies = replies_of R k;
+  offers = λ q own va. offers_of R k q va;
+  puts = λ va width value at w. keeps_put R k va width value w;
+  writes = λ q at width value w. keeps_write R k q at width value w;
+  copies = copies;
+  forgets = forgets;
+})

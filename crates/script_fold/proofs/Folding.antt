@@ -2,12 +2,12 @@
 use Rattle.std.proofs.Common.{ℕ, sym, subst}
 use Rattle.cloak_base.specs.declared.names.PageId.{PageId}
 use Rattle.cloak_model.specs.AskPages.{ask_read}
-use Rattle.cloak_model.specs.Asking.{Told}
+use Rattle.cloak_model.specs.Asking.{Told, Asking}
 use Rattle.cloak_model.specs.DomainState.{Domain}
-use Rattle.cloak_model.specs.DomainStep.{DomainStepped, domain_step}
+use Rattle.cloak_model.specs.DomainStep.{domain_step}
 use Rattle.cloak_model.specs.World.{World}
-use Rattle.domain_isolation.proofs.Scripts.{Question, Change, Script, Gives, Asks, Reads, Changes, asked, changed, played}
-use Rattle.domain_isolation.proofs.StepScripts.{step_scripted}
+use Rattle.script_fold.proofs.Scripts.{Question, Change, Script, Gives, Asks, Reads, Changes, EndClaims, Scripted, asked, changed, played}
+use Rattle.script_fold.proofs.StepScripts.{step_scripted}
 
 pub record Keeps (d : ℕ) (R : World → World → Type 0) : Type 0 where
   pub same : (w : World) → R w w
@@ -27,8 +27,11 @@ script_keeps R k (Reads q own at width more) w =
 script_keeps R k (Changes change more) w =
     k.chained _ _ _ (k.change change w) (script_keeps R k more (changed change w).world)
 
+pub scripted_keeps : {d : ℕ} {A : Type 0} {e : EndClaims A} {ask : Asking A} (R : World → World → Type 0) → Keeps d R →
+    Scripted d e ask → (w : World) → R w (ask w).world
+scripted_keeps {d} {A} R k s w =
+    subst (λ (t : Told A). R w t.world) (sym (s.plays w)) (script_keeps R k s.script w)
+
 pub step_keeps : (R : World → World → Type 0) (slot : ℕ) (d : Domain) → Keeps d.control.number R → (w : World) →
     R w (domain_step slot d w).world
-step_keeps R slot d k w =
-    let s = step_scripted slot d in
-    subst (λ (t : Told DomainStepped). R w t.world) (sym (s.plays w)) (script_keeps R k s.script w)
+step_keeps R slot d k w = scripted_keeps R k (step_scripted slot d) w

@@ -1,6 +1,15 @@
+pub mod Runs
+pub mod Aligned
+pub mod Scripts
+pub mod InstructionScripts
+pub mod CopyScripts
+pub mod ForkScripts
+pub mod StepScripts
 pub mod Folding
 pub mod Questions
 pub mod ByQuestions
+pub mod Later
 pub mod Endings
+pub mod KernelWalks
 pub mod Rooted
 pub mod Tables

@@ -9,7 +9,7 @@ use Rattle.cloak_model.specs.DomainState.{Domain}
 use Rattle.cloak_model.specs.DomainStep.{domain_step}
 use Rattle.cloak_model.specs.Ending.{ask_end}
 use Rattle.script_fold.proofs.Folding.{step_keeps}
-use Rattle.script_fold.proofs.Questions.{Kept}
+use Rattle.script_fold.proofs.Questions.{Kept, settles_of}
 use Rattle.script_fold.proofs.ByQuestions.{kept_by}
 use Rattle.script_fold.proofs.Endings.{keeps_end}
 use Rattle.std.specs.Str.{bytes_eq}
@@ -132,4 +132,4 @@ pub rooted_domain_step : (slot : ℕ) (d : Domain) (w : World) → SameRoot w (d
 rooted_domain_step slot d w = step_keeps SameRoot slot d (kept_by SameRoot root_changes rooted_copy rooted_forget d.control.number) w
 
 pub rooted_end : (d : ℕ) (w : World) → SameRoot w (ask_end d w).world
-rooted_end d w = keeps_end SameRoot root_changes rooted_forget d w
+rooted_end d w = keeps_end SameRoot (settles_of SameRoot root_changes) rooted_forget d w

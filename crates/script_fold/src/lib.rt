@@ -1,8 +1,9 @@
-//! A law on the definitions alone: what every question and every change of a program's step keeps, the step keeps. The
-//! script of a step (`domain_isolation`, `proofs/Scripts`) is gone through once for all such properties
-//! (`proofs/Folding`), and each question once for what each change of a world keeps (`proofs/Questions`). All that the end
-//! of a domain asks keeps it too (`proofs/Endings`). The laws here have one of these properties: the page tables that
-//! spaces were first resumed with. `limit_law` stands on the same for owed pages.
+//! A law on the definitions alone: what every question and every change of a program's step keeps, the step keeps. A
+//! step is a script: it asks and changes, one after another, each by the answers before it (`proofs/Scripts`). The
+//! script of a step (`proofs/StepScripts`, and the scripts of its parts) is gone through once for all such properties
+//! (`proofs/Folding`), and each question once for what each change of a world keeps (`proofs/Questions`). All that the
+//! end of a domain asks keeps it too (`proofs/Endings`). The parts of a program's step stand on that, and the laws on
+//! steps do. The laws here have one of these properties: the page tables that spaces were first resumed with.
 //!
 //! No body changes a law, so there is no wrong body to refuse here. With this changed definition, tried on a copy, the
 //! proofs did not go through: the pages of a resource are dropped with all page tables that are recorded.

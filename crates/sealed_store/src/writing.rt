@@ -3,7 +3,7 @@ ghost use Rattle.std.specs.Prelude.{◌≡◌, ◌≤◌, ◌<◌, ◌+◌, ◌*
 ghost use Rattle.cloak_model.specs.Bits.{word};
 ghost use Rattle.cloak_model.specs.StoredFiles.{page_bytes, file_bytes, table_bytes, store_bytes};
 ghost use Rattle.protect_meta.specs.FileTable.{file_at};
-ghost use Rattle.sealed_store.specs.Writing.{IsWritten};
+ghost use Rattle.sealed_store.specs.Writing.{IsWrittenAt};
 
 use crate::seal::hmac;
 use cloak_base::Meta;
@@ -15,7 +15,7 @@ pub const LONGEST_STORE: usize = 201_524;
 /// Writes these bytes after the first `at` of a room, and returns where they end.
 fn put(into: &mut [u8], at: usize, bytes: &[u8]) -> usize
     requires room { at + length bytes.now ≤ length into.old }
-    ensures { IsWritten into.old at bytes.now into.new result }
+    ensures { IsWrittenAt into.old at bytes.now into.new result }
 {
     let end = at + bytes.len();
     into[at..end].copy_from_slice(bytes);
@@ -25,7 +25,7 @@ fn put(into: &mut [u8], at: usize, bytes: &[u8]) -> usize
 /// Writes a number.
 fn put_word(into: &mut [u8], at: usize, n: u32) -> usize
     requires room { at + 4 ≤ length into.old }
-    ensures { IsWritten into.old at (word n) into.new result }
+    ensures { IsWrittenAt into.old at (word n) into.new result }
 {
     put(into, at, &n.to_le_bytes())
 }
@@ -33,7 +33,7 @@ fn put_word(into: &mut [u8], at: usize, n: u32) -> usize
 /// Writes what is known of a page, in at most 49 bytes.
 fn put_page(into: &mut [u8], at: usize, known: Option<Meta>) -> usize
     requires room { at + 49 ≤ length into.old }
-    ensures written { IsWritten into.old at (page_bytes known) into.new result }
+    ensures written { IsWrittenAt into.old at (page_bytes known) into.new result }
     ensures few { result ≤ at + 49 }
 {
     match known {
@@ -50,7 +50,7 @@ fn put_page(into: &mut [u8], at: usize, known: Option<Meta>) -> usize
 fn put_file(into: &mut [u8], at: usize, t: &FileTable, file: u32) -> usize
     requires file { file < length t.now }
     requires room { at + 12 + 49 * length (file_at t.now file).pages ≤ length into.old }
-    ensures written { IsWritten into.old at (file_bytes (file_at t.now file)) into.new result }
+    ensures written { IsWrittenAt into.old at (file_bytes (file_at t.now file)) into.new result }
     ensures few { result ≤ at + 12 + 49 * length (file_at t.now file).pages }
 {
     let (domain, number, pages) = t.file(file);
@@ -66,7 +66,7 @@ fn put_file(into: &mut [u8], at: usize, t: &FileTable, file: u32) -> usize
 /// Writes all but the code, and returns its length.
 fn put_table(into: &mut [u8], t: &FileTable, counter: u64) -> usize
     requires room { LONGEST_STORE ≤ length into.old }
-    ensures written { IsWritten into.old 0 (table_bytes counter t.now) into.new result }
+    ensures written { IsWrittenAt into.old 0 (table_bytes counter t.now) into.new result }
     ensures few { result + 32 ≤ LONGEST_STORE }
 {
     let count = t.count();

@@ -14,10 +14,10 @@ use Rattle.shadow_fold.specs.Entries.{is_for, is_target, is_table, is_frame, is_
 use Rattle.shadow_fold.specs.Table.{Table, one_more, is_known, looked, ending, killed, emptied, with_room, with_live, born}
 use Rattle.cloak_model.specs.Events.{Event, Look, Touch, Offer, Born, Read, Write, Drop, Space}
 use Rattle.shadow_fold.specs.Fold.{Fold, frame, regime_in, entry_in, is_own_table, born_unless, holds, table_holds, part_holds, touched, touched_where, with_held, with_table, granted, offered, after_event, after_events}
-use Rattle.shadow_fold.specs.Following.{Follows, killed_if, killed_each, HasAll, AreOfferCalls, AreBirthCalls, AreBirthCallsUnless, AreCallsFor, AreCallsForAll, CallsFollow}
+use Rattle.shadow_fold.specs.Following.{FollowsTable, killed_if, killed_each, HasAll, AreOfferCalls, AreBirthCalls, AreBirthCallsUnless, AreCallsFor, AreCallsForAll, CallsFollow}
 use Rattle.shadow_fold.proofs.Counting.{same_from_permutation, same_cons, passing, same_filter, same_any, same_length}
 
-follows_look : (v : Regime) (page : ℕ) (kind : Kind) (t u : Table) → Follows t u → Follows (looked v page kind t) (looked v page kind u)
+follows_look : (v : Regime) (page : ℕ) (kind : Kind) (t u : Table) → FollowsTable t u → FollowsTable (looked v page kind t) (looked v page kind u)
 unfolding looked is_known
 follows_look v page kind t u f = record {
   live = f.live;
@@ -30,22 +30,22 @@ follows_look v page kind t u f = record {
     known : list_any (is_for v page kind) t.live ≡ list_any (is_for v page kind) u.live
     known = same_any (is_for v page kind) _ _ f.live
 
-follows_end : (ends : Entry → Bool) (t u : Table) → Follows t u → Follows (ending ends t) (ending ends u)
+follows_end : (ends : Entry → Bool) (t u : Table) → FollowsTable t u → FollowsTable (ending ends t) (ending ends u)
 unfolding ending
 follows_end ends t u f = record { live = same_filter _ _ _ f.live; counts = f.counts }
 
-pub follows_kill : (f : Frame) (t u : Table) → Follows t u → Follows (killed f t) (killed f u)
+pub follows_kill : (f : Frame) (t u : Table) → FollowsTable t u → FollowsTable (killed f t) (killed f u)
 follows_kill f t u g = follows_end (is_table f) _ _ (follows_end (is_target f) t u g)
 
-follows_kill_if : (b : Bool) (f : Frame) (t u : Table) → Follows t u → Follows (killed_if b f t) (killed_if b f u)
+follows_kill_if : (b : Bool) (f : Frame) (t u : Table) → FollowsTable t u → FollowsTable (killed_if b f t) (killed_if b f u)
 follows_kill_if true f t u g = follows_kill f t u g
 follows_kill_if false f t u g = g
 
-follows_room : (t u : Table) → Follows t u → Follows (with_room t) (with_room u)
+follows_room : (t u : Table) → FollowsTable t u → FollowsTable (with_room t) (with_room u)
 unfolding with_room emptied
 follows_room t u f = by_test (nat_le 1024 (length t.live)) (nat_le 1024 (length u.live)) (ap (nat_le 1024) (same_length _ _ f.live))
   where
-    by_test : (a b : Bool) → a ≡ b → Follows (if a then emptied t else t) (if b then emptied u else u)
+    by_test : (a b : Bool) → a ≡ b → FollowsTable (if a then emptied t else t) (if b then emptied u else u)
     by_test true true e =
         record { live = λ p. refl; counts = λ i. record (f.counts i) { flushes = one_more (f.counts i).flushes } }
     by_test true false e = absurd (true≢false e)
@@ -53,15 +53,15 @@ follows_room t u f = by_test (nat_le 1024 (length t.live)) (nat_le 1024 (length 
     by_test false false e = f
 
 -- an entry that was not known is inserted, and one that was known stays
-follows_birth : (e : Entry) (t u t' : Table) → Follows t u → AreBirthCalls (is_known e.regime e.page e.kind t) e t t' → Follows t' (born e u)
+follows_birth : (e : Entry) (t u t' : Table) → FollowsTable t u → AreBirthCalls (is_known e.regime e.page e.kind t) e t t' → FollowsTable t' (born e u)
 unfolding born is_known
 follows_birth e t u t' f calls =
     by_test (list_any (is_for e.regime e.page e.kind) t.live) (list_any (is_for e.regime e.page e.kind) u.live)
     (same_any (is_for e.regime e.page e.kind) _ _ f.live) calls
   where
     by_test : (a b : Bool) → a ≡ b → AreBirthCalls a e t t'
-        → Follows t' (if b then u else with_live (e ∷ (with_room u).live) (with_room u))
-    by_test true true same calls = subst (λ t. Follows t u) (sym calls) f
+        → FollowsTable t' (if b then u else with_live (e ∷ (with_room u).live) (with_room u))
+    by_test true true same calls = subst (λ t. FollowsTable t u) (sym calls) f
     by_test true false same calls = absurd (true≢false same)
     by_test false true same calls = absurd (false≢true same)
     by_test false false same calls =
@@ -210,59 +210,59 @@ with_table_if : (b : Bool) (f : Frame) (q : Option PageId) (s : Fold)
 with_table_if true f q s = refl
 with_table_if false f q s = refl
 
-follows_touch : (f : Frame) (s : Fold) (t : Table) → Follows t s.table → Follows (killed_if (is_some (s.held f.0)) f t) (touched f s).table
+follows_touch : (f : Frame) (s : Fold) (t : Table) → FollowsTable t s.table → FollowsTable (killed_if (is_some (s.held f.0)) f t) (touched f s).table
 unfolding touched
 follows_touch f s t g =
-    subst (Follows (killed_if (is_some (s.held f.0)) f t)) (sym (with_table_if (is_some (s.held f.0)) f None s))
+    subst (FollowsTable (killed_if (is_some (s.held f.0)) f t)) (sym (with_table_if (is_some (s.held f.0)) f None s))
     (follows_kill_if (is_some (s.held f.0)) f t s.table g)
 
-follows_all : (passes : PageId → Bool) (fs : List Frame) (s : Fold) (t : Table) → HasAll s.held passes fs → Follows t s.table
-    → Follows (killed_each s.held passes fs t) (touched_where passes s).table
+follows_all : (passes : PageId → Bool) (fs : List Frame) (s : Fold) (t : Table) → HasAll s.held passes fs → FollowsTable t s.table
+    → FollowsTable (killed_each s.held passes fs t) (touched_where passes s).table
 unfolding touched_where
 follows_all passes fs s t all g =
-    subst (λ u. Follows u (ending (part_holds s.held passes) s.table)) (sym (each_is_all s.held passes fs t all))
+    subst (λ u. FollowsTable u (ending (part_holds s.held passes) s.table)) (sym (each_is_all s.held passes fs t all))
     (follows_end (part_holds s.held passes) t s.table g)
 
-follows_offer : (q : PageId) (g : Frame) (grant : Bool) (s : Fold) (t t' : Table) → Follows t s.table
-    → AreOfferCalls (holds (same_page q) (s.held g.0)) q g grant s t t' → Follows t' (offered q g grant s).table
+follows_offer : (q : PageId) (g : Frame) (grant : Bool) (s : Fold) (t t' : Table) → FollowsTable t s.table
+    → AreOfferCalls (holds (same_page q) (s.held g.0)) q g grant s t t' → FollowsTable t' (offered q g grant s).table
 unfolding offered
 follows_offer q g grant s t t' f calls = by_test (holds (same_page q) (s.held g.0)) calls
   where
     s' : Fold
     s' = touched_where (same_page q) (touched g s)
 
-    by_test : (b : Bool) → AreOfferCalls b q g grant s t t' → Follows t' (if b then s else granted q g grant s').table
-    by_test true calls = subst (λ u. Follows u s.table) (sym calls) f
+    by_test : (b : Bool) → AreOfferCalls b q g grant s t t' → FollowsTable t' (if b then s else granted q g grant s').table
+    by_test true calls = subst (λ u. FollowsTable u s.table) (sym calls) f
     by_test false calls =
         let fs = calls.0 in
         let t1 = killed_if (is_some (s.held g.0)) g t in
         let t2 = killed_each (touched g s).held (same_page q) fs t1 in
-        let h : Follows t2 s'.table = follows_all (same_page q) fs (touched g s) t1 calls.1 (follows_touch g s t f) in
-        subst (λ u. Follows u (granted q g grant s').table) (sym calls.2)
-        (subst (Follows (killed_if grant g t2)) (sym (with_table_if grant g (Some q) s')) (follows_kill_if grant g t2 s'.table h))
+        let h : FollowsTable t2 s'.table = follows_all (same_page q) fs (touched g s) t1 calls.1 (follows_touch g s t f) in
+        subst (λ u. FollowsTable u (granted q g grant s').table) (sym calls.2)
+        (subst (FollowsTable (killed_if grant g t2)) (sym (with_table_if grant g (Some q) s')) (follows_kill_if grant g t2 s'.table h))
 
-follows_birth_unless : (b : Bool) (e : Entry) (t u t' : Table) → Follows t u → AreBirthCallsUnless b e t t' → Follows t' (born_unless b e u)
-follows_birth_unless true e t u t' f calls = subst (λ x. Follows x u) (sym calls) f
+follows_birth_unless : (b : Bool) (e : Entry) (t u t' : Table) → FollowsTable t u → AreBirthCallsUnless b e t t' → FollowsTable t' (born_unless b e u)
+follows_birth_unless true e t u t' f calls = subst (λ x. FollowsTable x u) (sym calls) f
 follows_birth_unless false e t u t' f calls = follows_birth e t u t' f calls
 
 module _ (space : Option SpaceId) where
-  pub follows_event : (e : Event) (s : Fold) (t t' : Table) → Follows t s.table → AreCallsFor space e s t t' → Follows t' (after_event space e s).table
+  pub follows_event : (e : Event) (s : Fold) (t t' : Table) → FollowsTable t s.table → AreCallsFor space e s t t' → FollowsTable t' (after_event space e s).table
   unfolding after_event
   follows_event (Look satp a) s t t' f calls =
       let regime = regime_in space satp a in
-      subst (λ u. Follows u (looked regime (a.va / 4096) a.kind s.table)) (sym calls) (follows_look regime (a.va / 4096) a.kind t s.table f)
-  follows_event (Touch g) s t t' f calls = subst (λ u. Follows u (touched (frame g) s).table) (sym calls) (follows_touch (frame g) s t f)
+      subst (λ u. FollowsTable u (looked regime (a.va / 4096) a.kind s.table)) (sym calls) (follows_look regime (a.va / 4096) a.kind t s.table f)
+  follows_event (Touch g) s t t' f calls = subst (λ u. FollowsTable u (touched (frame g) s).table) (sym calls) (follows_touch (frame g) s t f)
   follows_event (Offer q g grant) s t t' f calls = follows_offer q (frame g) grant s t t' f calls
   follows_event (Born satp a walked cloaked) s t t' f calls =
       let e = entry_in space satp a walked cloaked in follows_birth_unless (is_own_table e) e t s.table t' f calls
-  follows_event (Read g) s t t' f calls = subst (λ u. Follows u s.table) (sym calls) f
-  follows_event (Write g) s t t' f calls = subst (λ u. Follows u (ending (is_table (frame g)) s.table)) (sym calls) (follows_end _ t s.table f)
-  follows_event (Drop d resource) s t t' f calls = subst (λ u. Follows u (touched_where (is_of d resource) s).table) (sym calls.2) (follows_all (is_of d resource) calls.0 s t calls.1 f)
-  follows_event (Space changed) s t t' f calls = subst (λ u. Follows u (ending (is_of_space changed) s.table)) (sym calls) (follows_end (is_of_space changed) t s.table f)
+  follows_event (Read g) s t t' f calls = subst (λ u. FollowsTable u s.table) (sym calls) f
+  follows_event (Write g) s t t' f calls = subst (λ u. FollowsTable u (ending (is_table (frame g)) s.table)) (sym calls) (follows_end _ t s.table f)
+  follows_event (Drop d resource) s t t' f calls = subst (λ u. FollowsTable u (touched_where (is_of d resource) s).table) (sym calls.2) (follows_all (is_of d resource) calls.0 s t calls.1 f)
+  follows_event (Space changed) s t t' f calls = subst (λ u. FollowsTable u (ending (is_of_space changed) s.table)) (sym calls) (follows_end (is_of_space changed) t s.table f)
 
-  follows_all_events : (events : List Event) (s : Fold) (t t' : Table) → Follows t s.table → AreCallsForAll space events s t t' → Follows t' (after_events space events s).table
+  follows_all_events : (events : List Event) (s : Fold) (t t' : Table) → FollowsTable t s.table → AreCallsForAll space events s t t' → FollowsTable t' (after_events space events s).table
   unfolding after_events
-  follows_all_events [] s t t' f calls = subst (λ u. Follows u s.table) (sym calls) f
+  follows_all_events [] s t t' f calls = subst (λ u. FollowsTable u s.table) (sym calls) f
   follows_all_events (e ∷ events) s t t' f calls = follows_all_events events (after_event space e s) calls.0 t' (follows_event e s t calls.0 f calls.1) calls.2
 
 pub follows_events : CallsFollow

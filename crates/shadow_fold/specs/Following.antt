@@ -13,7 +13,7 @@ use Rattle.cloak_model.specs.Events.{Event, Look, Touch, Offer, Born, Read, Writ
 use Rattle.shadow_fold.specs.Fold.{Fold, frame, regime_in, entry_in, is_own_table, holds, touched, after_event, after_events}
 
 -- the same entries are live, in any order, as no test can tell them apart, and the counts are the same
-pub record Follows (t u : Table) : Type 0 where
+pub record FollowsTable (t u : Table) : Type 0 where
   pub live : (passes : Entry → Bool) → length (filter passes t.live) ≡ length (filter passes u.live)
   pub counts : t.counts ≡ u.counts
 
@@ -71,5 +71,5 @@ module _ (space : Option SpaceId) where
 
 -- The law: a table that followed the fold follows it after the events of a step.
 abbrev pub CallsFollow : Type 0
-CallsFollow = (space : Option SpaceId) (events : List Event) (s : Fold) (t t' : Table) → Follows t s.table
-    → AreCallsForAll space events s t t' → Follows t' (after_events space events s).table
+CallsFollow = (space : Option SpaceId) (events : List Event) (s : Fold) (t t' : Table) → FollowsTable t s.table
+    → AreCallsForAll space events s t t' → FollowsTable t' (after_events space events s).table

@@ -9,14 +9,14 @@ use Rattle.cloak_model.specs.Record.{is_cipher}
 
 -- What a step asked, for a context of this space, or outside: the events of its questions, and what was written; and the
 -- spaces whose regions it changed, or which it ended.
-pub record Asked : Type 0 where
+pub record AskedByStep : Type 0 where
   pub space : Option SpaceId
   pub events : List Event
   pub items : List Item
   pub changed : List SpaceId
 
 -- all its events
-abbrev pub events_in : Asked → List Event
+abbrev pub events_in : AskedByStep → List Event
 events_in a = a.events ++ map (λ s. Space s) a.changed
 
 abbrev pub is_read : Event → Bool
@@ -24,7 +24,7 @@ is_read (Read f) = true
 is_read _ = false
 
 -- the reads that what was asked calls for, but for those of page tables
-abbrev pub reads_due : Asked → ℕ
+abbrev pub reads_due : AskedByStep → ℕ
 reads_due a = count_by is_read a.events + count_by is_cipher a.items
 
 -- how often frames were read, and how many looks missed

@@ -28,7 +28,7 @@ use Rattle.shadow_law.specs.Agreeing.{HeldPages, present, frame, OwedIsHeld}
 use Rattle.shadow_law.proofs.Walks.{walk_kept}
 
 -- target and table frames of an entry
-pub record Parts (P : ℕ → Type 0) (e : Entry) : Type 0 where
+pub record EachFrame (P : ℕ → Type 0) (e : Entry) : Type 0 where
   pub target : P e.frame.0
   pub first : IfSome e.pt1 (λ f. P f.0)
   pub second : IfSome e.pt0 (λ f. P f.0)
@@ -41,21 +41,21 @@ pub both_some : (P Q R : Frame → Type 0) (o : Option Frame) → ((f : Frame) �
 both_some P Q R None step h k = h
 both_some P Q R (Some f) step h k = step f h k
 
-pub map_parts : (P Q : ℕ → Type 0) (e : Entry) → ((x : ℕ) → P x → Q x) → Parts P e → Parts Q e
+pub map_parts : (P Q : ℕ → Type 0) (e : Entry) → ((x : ℕ) → P x → Q x) → EachFrame P e → EachFrame Q e
 map_parts P Q e step h = record {
   target = step e.frame.0 h.target;
   first = map_some (λ f. P f.0) (λ f. Q f.0) e.pt1 (λ f. step f.0) h.first;
   second = map_some (λ f. P f.0) (λ f. Q f.0) e.pt0 (λ f. step f.0) h.second;
 }
 
-pub all_parts : (P : ℕ → Type 0) (e : Entry) → ((x : ℕ) → P x) → Parts P e
+pub all_parts : (P : ℕ → Type 0) (e : Entry) → ((x : ℕ) → P x) → EachFrame P e
 all_parts P e every = record { target = every e.frame.0; first = all_some e.pt1; second = all_some e.pt0 }
   where
     all_some : (o : Option Frame) → IfSome o (λ f. P f.0)
     all_some None = tt
     all_some (Some f) = every f.0
 
-both_parts : (P Q R : ℕ → Type 0) (e : Entry) → ((x : ℕ) → P x → Q x → R x) → Parts P e → Parts Q e → Parts R e
+both_parts : (P Q R : ℕ → Type 0) (e : Entry) → ((x : ℕ) → P x → Q x → R x) → EachFrame P e → EachFrame Q e → EachFrame R e
 both_parts P Q R e step h k = record {
   target = step e.frame.0 h.target k.target;
   first = both_some (λ f. P f.0) (λ f. Q f.0) (λ f. R f.0) e.pt1 (λ f. step f.0) h.first k.first;
@@ -82,7 +82,7 @@ not_tables : (f : ℕ) (e : Entry) → is_table (frame f) e ≡ false → IfSome
 unfolding is_table
 not_tables f e out = let h = or_false _ _ out in (not_frame f e.pt1 h.0, not_frame f e.pt0 h.1)
 
-pub not_part : (f : ℕ) (e : Entry) → is_target (frame f) e ≡ false → is_table (frame f) e ≡ false → Parts (λ x. x ≡ f → ⊥) e
+pub not_part : (f : ℕ) (e : Entry) → is_target (frame f) e ≡ false → is_table (frame f) e ≡ false → EachFrame (λ x. x ≡ f → ⊥) e
 unfolding is_target
 not_part f e target table =
     let t = not_tables f e table in record { target = other_number e.frame.0 f target; first = t.0; second = t.1 }
@@ -91,7 +91,7 @@ not_table_held : (held : HeldPages) (passes : PageId → Bool) (o : Option Frame
 not_table_held held passes None e = tt
 not_table_held held passes (Some f) e = e
 
-not_holding : (held : HeldPages) (passes : PageId → Bool) (e : Entry) → part_holds held passes e ≡ false → Parts (λ x. holds passes (held x) ≡ false) e
+not_holding : (held : HeldPages) (passes : PageId → Bool) (e : Entry) → part_holds held passes e ≡ false → EachFrame (λ x. holds passes (held x) ≡ false) e
 unfolding part_holds
 not_holding held passes e none =
     let h = or_false _ _ none in let k = or_false _ _ h.1 in
@@ -111,7 +111,7 @@ spared_trans x a b c f g = record { ram = g.ram ∙ f.ram; owed = g.owed ∙ f.o
 
 -- an entry whose frames are spared, and hold what they held
 pub keeps : (held held' : HeldPages) (m m' : CloakedMemory) (e : Entry) → length m'.ram ≡ length m.ram
-    → Parts (λ x. Spared x m m' × (held' x ≡ held x)) e → EntryAgrees (present held m) e → EntryAgrees (present held' m') e
+    → EachFrame (λ x. Spared x m m' × (held' x ≡ held x)) e → EntryAgrees (present held m) e → EntryAgrees (present held' m') e
 keeps held held' m m' e count parts agrees = record {
   walks = walk_kept m.ram m'.ram _ _ _ (record {
     count = count;

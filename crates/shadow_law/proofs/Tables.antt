@@ -20,7 +20,7 @@ use Rattle.shadow_fold.specs.Table.{Table, ending, killed}
 use Rattle.shadow_fold.proofs.Agreeing.{keeps_ending}
 use Rattle.shadow_fold.proofs.Follows.{ending_twice, ending_none}
 use Rattle.shadow_law.specs.Agreeing.{HeldPages, present, frame, OwedIsHeld, CleanIsShown, ChangeKeeps}
-use Rattle.shadow_law.proofs.Changes.{Parts, Spared, all_parts, map_parts, keeps, not_part, or_false, offer_spares, offer_count, write_keeps, touch_keeps, remap_keeps}
+use Rattle.shadow_law.proofs.Changes.{EachFrame, Spared, all_parts, map_parts, keeps, not_part, or_false, offer_spares, offer_count, write_keeps, touch_keeps, remap_keeps}
 use Rattle.shadow_law.proofs.Hits.{untouched, owed_offer, no_owing, clean_offer}
 
 -- all entries keep it if none ends
@@ -122,7 +122,7 @@ refuse_agrees held m q g write t owed none out fails =
     spares x = subst (λ (o : AfterOffer). Spared x m o.memory) (sym is_plain)
         (refused_spares q x g write (m.ledger.recorded q) m (λ is. fails (ap (λ (o : AfterOffer). o.answer) is_plain ∙ is)))
 
-    every : (e : Entry) → Parts (λ x. Spared x m (offer q g write m).memory × (held x ≡ held x)) e
+    every : (e : Entry) → EachFrame (λ x. Spared x m (offer q g write m).memory × (held x ≡ held x)) e
     every e = all_parts (λ x. Spared x m (offer q g write m).memory × (held x ≡ held x)) e (λ x. (spares x, refl))
 
 -- the offer of the page that the frame holds: at most the frame is owed it then

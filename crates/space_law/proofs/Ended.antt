@@ -12,62 +12,54 @@ use Rattle.cloak_model.specs.declared.resource.Region.{Region}
 use Rattle.cloak_model.specs.Cloaking.{CloakedMemory}
 use Rattle.cloak_model.specs.Contexts.{domain_of, same_space}
 use Rattle.cloak_model.specs.DomainState.{Domain}
-use Rattle.cloak_model.specs.Ending.{all_marked, settled_for, ask_end, cloak_for, spaces_of, ended_domain}
+use Rattle.cloak_model.specs.Ending.{ask_end, cloak_for, spaces_of, ended_domain}
 use Rattle.cloak_model.specs.Joint.{Turn, hart_in, turn_of, domain_met, end_domain, ends_once, ends_resumed, ends_asked, answers_violation}
 use Rattle.cloak_model.specs.Opening.{numbers_below}
 use Rattle.cloak_model.specs.Parts.{Joint}
-use Rattle.cloak_model.specs.World.{World, Cloaked, ram_of}
+use Rattle.cloak_model.specs.World.{World, Cloaked}
 use Rattle.shadow_fold.specs.Agreement.{IsMapped}
 use Rattle.shadow_fold.specs.Births.{MakeAll}
 use Rattle.shadow_fold.specs.Events.{with_end, ended_once, ended_resumed, ended_asked, ended_by, asked_of, asked_with_end}
-use Rattle.shadow_fold.specs.Reads.{Asked}
+use Rattle.shadow_fold.specs.Reads.{AskedByStep}
+use Rattle.script_fold.proofs.Endings.{keeps_end}
 use Rattle.space_law.specs.Mapping.{page_of, mapped_in, StepKeepsPages, StepMakesMapped}
 use Rattle.space_law.proofs.Mapped.{mapped_turn}
-use Rattle.space_law.proofs.Questions.{Maps, maps_refl, maps_trans, maps_if_marked, asks_forgets, are_append}
+use Rattle.space_law.proofs.Questions.{Maps, map_settles, maps_forget, are_append}
 use Rattle.space_law.proofs.Regions.{page_kept}
 use Rattle.space_law.proofs.Turns.{Has, IsUnchanged, left_false, same_self, set_page, turn_has}
 
 -- Entries.
 
 -- what is asked makes entries of pages that lie there alone
-abbrev pub MakesFor : (SpaceId → ℕ → Option PageId) → Asked → Type 0
+abbrev pub MakesFor : (SpaceId → ℕ → Option PageId) → AskedByStep → Type 0
 MakesFor mapped a = MakeAll (IsMapped mapped) a.space a.events
 
 module _ (mapped : SpaceId → ℕ → Option PageId) where
-  pub maps_settled_for : (s : Option SpaceId) (domain f n : ℕ) (w : World) → Maps mapped s w (settled_for domain f n w)
-  unfolding settled_for
-  maps_settled_for s domain f zero w = maps_refl mapped s w
-  maps_settled_for s domain f (suc n) w =
-      maps_trans mapped s w _ _ (maps_if_marked mapped s domain all_marked f w) (maps_settled_for s domain (f + 1) n _)
-
   pub asks_end : (s : Option SpaceId) (domain : ℕ) (w : World) → Maps mapped s w (ask_end domain w).world
-  unfolding ask_end
-  asks_end s domain w =
-      maps_trans mapped s w _ _ (maps_settled_for s domain 0 (length (ram_of w)) w)
-      (asks_forgets mapped s domain (numbers_below 16) _)
+  asks_end s domain w = keeps_end (Maps mapped s) (map_settles mapped s) (maps_forget mapped s) domain w
 
-  pub with_end_makes : (d : ℕ) (domain : Domain) (m : CloakedMemory) (a : Asked) → MakesFor mapped a →
+  pub with_end_makes : (d : ℕ) (domain : Domain) (m : CloakedMemory) (a : AskedByStep) → MakesFor mapped a →
       MakesFor mapped (with_end d domain m a)
   with_end_makes d domain m a makes =
       are_append mapped a.space a.events _ makes ((asks_end a.space d (Cloaked (cloak_for m d))).by tt)
 
-  pub once_makes : (ended : Bool) (d : ℕ) (domain : Domain) (m : CloakedMemory) (a : Asked) → MakesFor mapped a →
+  pub once_makes : (ended : Bool) (d : ℕ) (domain : Domain) (m : CloakedMemory) (a : AskedByStep) → MakesFor mapped a →
       MakesFor mapped (ended_once ended d domain m a)
   once_makes true d domain m a makes = makes
   once_makes false d domain m a makes = with_end_makes d domain m a makes
 
-  pub resumed_makes : (found : Option Domain) (d : ℕ) (m : CloakedMemory) (a : Asked) → MakesFor mapped a →
+  pub resumed_makes : (found : Option Domain) (d : ℕ) (m : CloakedMemory) (a : AskedByStep) → MakesFor mapped a →
       MakesFor mapped (ended_resumed found d m a)
   resumed_makes None d m a makes = makes
   resumed_makes (Some domain) d m a makes = once_makes domain.control.ended d domain m a makes
 
-  pub asked_makes : (found : Option Domain) (d : ℕ) (m : CloakedMemory) (a : Asked) → MakesFor mapped a →
+  pub asked_makes : (found : Option Domain) (d : ℕ) (m : CloakedMemory) (a : AskedByStep) → MakesFor mapped a →
       MakesFor mapped (ended_asked found d m a)
   asked_makes None d m a makes = makes
   asked_makes (Some domain) d m a makes = with_end_makes d domain m a makes
 
   -- the end of a domain makes no entry
-  pub end_makes : (inside : Option ℕ) (v : Option Violation) (j : Joint) (a : Asked) → MakesFor mapped a →
+  pub end_makes : (inside : Option ℕ) (v : Option Violation) (j : Joint) (a : AskedByStep) → MakesFor mapped a →
       MakesFor mapped (ended_by inside v j a)
   end_makes inside None j a makes = makes
   end_makes None (Some v) j a makes = resumed_makes (slice_get j.domains (domain_met v)) (domain_met v) j.memory a makes
@@ -153,7 +145,7 @@ module _ (s : SpaceId) where
         right_false _ _ (sym (list_any-append (λ x. same_space x s) changed (spaces_of d domain)) ∙ out)
 
     -- a step that asked this, and what follows it
-    module _ (a : Asked) (t : Turn) (step : IsUnchanged s va q a.changed → Has s va q t.joint) where
+    module _ (a : AskedByStep) (t : Turn) (step : IsUnchanged s va q a.changed → Has s va q t.joint) where
       ends_has : (d : ℕ) (domain : Domain) (v : Violation) → slice_get t.joint.domains d ≡ Some domain →
           IsUnchanged s va q (with_end d domain t.joint.memory a).changed → Has s va q (end_domain d domain v t).joint
       ends_has d domain v there out =

@@ -12,13 +12,13 @@ use Rattle.shadow_fold.specs.Agreement.{IsMapped}
 use Rattle.shadow_fold.specs.Births.{MakeAll}
 use Rattle.cloak_model.specs.DomainAlone.{runs_on}
 use Rattle.shadow_fold.specs.Events.{asked_if, asked_running, asked_inside, asked_of}
-use Rattle.shadow_fold.specs.Reads.{Asked}
+use Rattle.shadow_fold.specs.Reads.{AskedByStep}
 use Rattle.space_law.specs.Mapping.{page_of, mapped_in, AreAllWhole, TurnMakesMapped}
 use Rattle.space_law.proofs.Births.{makes_mapped}
 use Rattle.space_law.proofs.Outside.{makes_outside}
 
 -- what was asked made entries of pages that lie in its space
-abbrev pub AskedMapped : Joint → Asked → Type 0
+abbrev pub AskedMapped : Joint → AskedByStep → Type 0
 AskedMapped j a = MakeAll (IsMapped (mapped_in j)) a.space a.events
 
 module _ (j : Joint) (whole : AreAllWhole j) where

@@ -1,25 +1,26 @@
 -- The entries that questions make are of pages that lie in the space of the context that asks; of a hart outside they are
 -- of no page.
-use Rattle.std.proofs.Common.{◌≡◌, ℕ, zero, suc, ◌+◌, ◌*◌, ◌/◌, Bool, true, false, cond, List, [], ◌∷◌, ◌++◌, length, Option, Some, None, Result, Ok, Err}
+use Rattle.std.proofs.Common.{◌≡◌, ℕ, ◌+◌, ◌*◌, ◌/◌, Bool, true, false, cond, List, [], ◌∷◌, ◌++◌, Option, Some, None, Ok, Err}
 use Rattle.cloak_base.specs.declared.names.Kind.{Kind}
-use Rattle.cloak_base.specs.declared.names.Kind.TheVariants.{Load, Store}
 use Rattle.cloak_base.specs.declared.names.PageId.{PageId}
 use Rattle.cloak_base.specs.declared.names.SpaceId.{SpaceId}
 use Rattle.cloak_model.specs.declared.access.Access.{Access}
 use Rattle.cloak_model.specs.declared.answer.Answer.{Answer}
 use Rattle.cloak_model.specs.declared.answer.Answer.TheVariants as told
 use Rattle.cloak_model.specs.declared.item.Item.{Item}
-use Rattle.rv_atomic.specs.declared.atomic.AtomicOp.{AtomicOp}
-use Rattle.cloak_model.specs.Ask.{ask_word, ask_second, ask_after, ask_first, ask_walk, ask_inside, ask_translate, ask_led, opened, ask_value, ask_store, loaded_at, ask_load, stored_to, ask_store_at, ask_frame, ask_fill, ask_mark, ask_unmark, ask_marked, stored_if, reserved_at, ask_reserve, conditional_at, ask_store_conditional, combined_at, ask_combine}
-use Rattle.cloak_model.specs.AskPages.{answer_item, replies, if_drawn, is_store, offer_events, inside_access, ask_inside_address, offered_by, ask_offer, reached, reach_by_table, get_at, got, get_by_table, put_at, stored_inside, put_by_table, settled_if_marked, clear_from, next_answer, ask_reach, ask_write, ask_get, ask_put, ask_clear, ask_copy, ask_forget}
-use Rattle.cloak_model.specs.Asking.{Told, Asking}
+use Rattle.cloak_model.specs.Ask.{opened}
+use Rattle.cloak_model.specs.AskPages.{answer_item, replies, offer_events, inside_access, put_at, ask_reach, ask_write, ask_get, ask_put, ask_clear, ask_copy, ask_forget}
+use Rattle.cloak_model.specs.Asking.{Told}
 use Rattle.cloak_model.specs.Cloaking.{CloakedMemory, Offer, Ready, Mismatch, Missed, settle, offer}
 use Rattle.cloak_model.specs.Events.{Event, Look, Touch, Read, Write, Drop, births_by}
 use Rattle.cloak_model.specs.Events.{Offer as offers}
 use Rattle.cloak_model.specs.Fork.{ask_copies, ask_forgets}
 use Rattle.cloak_base.specs.Constants.{frame_of}
-use Rattle.cloak_model.specs.Walk.{Walk, FirstWord, Ends, GoesOn, first_entry, walk}
-use Rattle.cloak_model.specs.World.{World, Handed, Flat, Cloaked, Alone, ram_of, regime_of, events_of, noted, settled, stored_at, filled_frame, written, with_plain, with_marks, cipher_items}
+use Rattle.cloak_model.specs.Walk.{Walk, walk}
+use Rattle.cloak_model.specs.World.{World, Flat, Cloaked, Alone, ram_of, regime_of, events_of, noted, settled, stored_at, filled_frame, written, with_plain, with_marks}
+use Rattle.script_fold.proofs.Endings.{keeps_forgets}
+use Rattle.script_fold.proofs.KernelWalks.{Reaches}
+use Rattle.script_fold.proofs.Questions.{Settles, Opens, Replies, Offers, keeps_reached_page, keeps_get, keeps_stored, keeps_clear}
 use Rattle.shadow_fold.specs.Agreement.{IsMapped}
 use Rattle.shadow_fold.specs.Births.{MakeAll}
 
@@ -110,43 +111,16 @@ module _ (mapped : SpaceId → ℕ → Option PageId) (s : Option SpaceId) where
       maps_trans w v (opened satp a pa w) (maps_settled (frame_of pa) w)
       (maps_noted _ v (births_open satp a (walk (ram_of v) satp a)))
 
-  -- The walk.
+  pub map_settles : Settles (Maps mapped s)
+  map_settles = record { same = maps_refl; chained = maps_trans; settled = maps_settled }
 
-  pub maps_word : (pa : ℕ) (w : World) → Maps mapped s w (ask_word pa w).world
-  unfolding ask_word
-  maps_word pa w = maps_either _ _ _ w (maps_settled (frame_of pa) w) (maps_refl w)
-
-  pub maps_second : (a : Access) (at1 at0 : ℕ) (w : World) → Maps mapped s w (ask_second a at1 at0 w).world
-  unfolding ask_second
-  maps_second a at1 at0 w = maps_word at0 w
-
-  pub maps_after : (a : Access) (at1 : ℕ) (word : FirstWord) (w : World) → Maps mapped s w (ask_after a at1 word w).world
-  unfolding ask_after
-  maps_after a at1 (Ends walk) w = maps_refl w
-  maps_after a at1 (GoesOn at0) w = maps_second a at1 at0 w
-
-  pub maps_first : (a : Access) (at1 : ℕ) (w : World) → Maps mapped s w (ask_first a at1 w).world
-  unfolding ask_first
-  maps_first a at1 w = maps_trans _ _ _ (maps_word at1 w) (maps_after a at1 _ _)
-
-  pub maps_walk : (satp : ℕ) (a : Access) (w : World) → Maps mapped s w (ask_walk satp a w).world
-  unfolding ask_walk
-  maps_walk satp a w = maps_either _ _ _ w (maps_first a (first_entry satp a.va) w) (maps_refl w)
-
-  pub maps_inside : (a : Access) (walk : Walk) (w : World) → Maps mapped s w (ask_inside a walk w).world
-  unfolding ask_inside
-  maps_inside a (Err cause) w = maps_refl w
-  maps_inside a (Ok walked) w = maps_refl w
-
-  pub maps_led : (satp : ℕ) (a : Access) (w : World) → Maps mapped s w (ask_led satp a w).world
-  unfolding ask_led ask_translate
-  maps_led satp a w =
-      maps_trans _ _ _ (maps_noted (Look satp a ∷ []) w (tt, tt))
-      (maps_trans _ _ _ (maps_walk satp a _) (maps_inside a _ _))
-
-  pub maps_address : (va : ℕ) (kind : Kind) (w : World) → Maps mapped s w (ask_inside_address va kind w).world
-  unfolding ask_inside_address
-  maps_address va kind w = maps_led (regime_of w).satp (inside_access w va kind) w
+  pub map_opens : Opens (Maps mapped s)
+  map_opens = record {
+    settles = map_settles;
+    looked = λ satp a w. maps_noted (Look satp a ∷ []) w (tt, tt);
+    opened = maps_opened;
+    read = λ f w. maps_noted (Read f ∷ []) w (tt, tt);
+  }
 
   -- Answers.
 
@@ -154,60 +128,13 @@ module _ (mapped : SpaceId → ℕ → Option PageId) (s : Option SpaceId) where
   unfolding replies
   maps_replies a w = maps_written (answer_item (regime_of w).domain a) w
 
-  pub maps_drawn : (ask : Asking Answer) (w : World) → Maps mapped s w (ask w).world →
-      Maps mapped s w (if_drawn ask w).world
-  unfolding if_drawn
-  maps_drawn ask w next = maps_either _ _ _ w (maps_replies told.Stopped w) next
-
-  pub maps_get_at : (pa width : ℕ) (w : World) → Maps mapped s w (get_at pa width w).world
-  unfolding get_at
-  maps_get_at pa width w = maps_trans _ _ _ (maps_noted (Read (frame_of pa) ∷ []) w (tt, tt)) (maps_replies _ _)
-
-  pub maps_got : (va width : ℕ) (to : Result ℕ ℕ) (w : World) → Maps mapped s w (got va width to w).world
-  unfolding got
-  maps_got va width (Err cause) w = maps_replies _ w
-  maps_got va width (Ok pa) w =
-      maps_trans _ _ _ (maps_opened (regime_of w).satp (inside_access w va Load) pa w)
-      (maps_drawn (get_at pa width) _ (maps_get_at pa width _))
-
-  pub maps_get : (va width : ℕ) (w : World) → Maps mapped s w (get_by_table va width w).world
-  unfolding get_by_table
-  maps_get va width w = maps_trans _ _ _ (maps_address va Load w) (maps_drawn _ _ (maps_got va width _ _))
-
-  pub maps_put_at : (pa width value : ℕ) (w : World) → Maps mapped s w (put_at pa width value w).world
-  unfolding put_at
-  maps_put_at pa width value w =
-      maps_trans _ _ _ (maps_stored pa width value w) (maps_trans _ _ _ (maps_written _ _) (maps_replies told.Ok _))
-
-  pub maps_stored_inside : (va width value : ℕ) (to : Result ℕ ℕ) (w : World) →
-      Maps mapped s w (stored_inside va width value to w).world
-  unfolding stored_inside
-  maps_stored_inside va width value (Err cause) w = maps_replies _ w
-  maps_stored_inside va width value (Ok pa) w =
-      maps_trans _ _ _ (maps_opened (regime_of w).satp (inside_access w va Store) pa w)
-      (maps_drawn (put_at pa width value) _ (maps_put_at pa width value _))
-
-  pub maps_put : (va width value : ℕ) (w : World) → Maps mapped s w (put_by_table va width value w).world
-  unfolding put_by_table
-  maps_put va width value w =
-      maps_trans _ _ _ (maps_address va Store w) (maps_drawn _ _ (maps_stored_inside va width value _ _))
-
-  pub either_world : (b : Bool) (w v : World) → Maps mapped s w v → Maps mapped s w (cond b v w)
-  either_world true w v later = later
-  either_world false w v later = maps_refl w
-
-  pub maps_if_marked : (domain : ℕ) (marked : List Bool) (f : ℕ) (w : World) →
-      Maps mapped s w (settled_if_marked domain marked f w)
-  unfolding settled_if_marked
-  maps_if_marked domain marked f w = either_world _ w (settled f w) (maps_settled f w)
-
-  pub maps_clear_from : (domain : ℕ) (marked : List Bool) (f n : ℕ) (w : World) →
-      Maps mapped s w (clear_from domain marked f n w).world
-  unfolding clear_from
-  maps_clear_from domain marked f zero w = maps_replies told.Ok w
-  maps_clear_from domain marked f (suc n) w =
-      maps_trans _ _ _ (maps_if_marked domain marked f w)
-      (maps_drawn (clear_from domain marked (f + 1) n) _ (maps_clear_from domain marked (f + 1) n _))
+  map_replies : Replies (Maps mapped s)
+  map_replies = record {
+    opens = map_opens;
+    replied = maps_replies;
+    told = λ h rest. record { by = λ all. all };
+    unfit = λ h. record { by = λ all. all };
+  }
 
   -- A page is reached.
 
@@ -221,86 +148,42 @@ module _ (mapped : SpaceId → ℕ → Option PageId) (s : Option SpaceId) where
   offer_mapped q g m Mismatch = (tt, tt)
   offer_mapped q g m Missed = missed_mapped (settle g m).missed q g
 
-  pub maps_offered : (q : PageId) (va : ℕ) (kind : Kind) (g : ℕ) (o : Offer) (w : World) → LiesAt mapped s q va →
-      Maps mapped s w (offered_by q va kind g o w).world
-  unfolding offered_by
-  maps_offered q va kind g Ready w lies =
-      let satp : ℕ = (regime_of w).satp in
-      let a : Access = inside_access w va kind in
-      maps_trans _ _ _ (maps_noted _ w (births_page mapped s satp a q (walk (ram_of w) satp a) lies)) (maps_replies told.Ok _)
-  maps_offered q va kind g Missed w lies = maps_replies told.Stopped w
-  maps_offered q va kind g Mismatch (Flat ram) lies = maps_replies told.Stopped (Flat ram)
-  maps_offered q va kind g Mismatch (Cloaked c) lies =
-      maps_trans _ (Cloaked _) _ (record { by = λ all. all }) (maps_replies told.Stopped _)
-  maps_offered q va kind g Mismatch (Alone h) lies = maps_replies told.Stopped (Alone h)
-
-  pub maps_offer : (q : PageId) (va : ℕ) (kind : Kind) (g : ℕ) (w : World) → LiesAt mapped s q va →
-      Maps mapped s w (ask_offer q va kind g w).world
-  unfolding ask_offer
-  maps_offer q va kind g (Flat ram) lies = maps_refl (Flat ram)
-  maps_offer q va kind g (Cloaked c) lies =
-      let o = offer q g (is_store kind) c.memory in
-      maps_trans (Cloaked c)
-      (Cloaked
-      (record c {
-        memory = o.memory;
-        items = c.items ++ cipher_items o.ciphers;
-        events = c.events ++ offer_events q g c.memory o.answer;
-      })) _
-      (record { by = λ all. are_append c.events _ all (offer_mapped q g c.memory o.answer) })
-      (maps_offered q va kind g o.answer _ lies)
-  maps_offer q va kind g (Alone h) lies = maps_refl (Alone h)
-
-  pub maps_reached : (q : PageId) (va : ℕ) (kind : Kind) (to : Result ℕ ℕ) (w : World) → LiesAt mapped s q va →
-      Maps mapped s w (reached q va kind to w).world
-  unfolding reached
-  maps_reached q va kind (Err cause) w lies = maps_replies _ w
-  maps_reached q va kind (Ok pa) w lies = maps_offer q va kind (frame_of pa) w lies
-
-  pub maps_reach : (q : PageId) (va : ℕ) (kind : Kind) (w : World) → LiesAt mapped s q va →
-      Maps mapped s w (reach_by_table q va kind w).world
-  unfolding reach_by_table
-  maps_reach q va kind w lies =
-      maps_trans _ _ _ (maps_address va kind w) (maps_drawn _ _ (maps_reached q va kind _ _ lies))
-
-  -- an answer that was handed in makes nothing known
-  pub maps_next : (is_fit : Answer → Bool) (answers : List Answer) (h : Handed) →
-      Maps mapped s (Alone h) (next_answer is_fit answers h).world
-  unfolding next_answer
-  maps_next is_fit [] h = record { by = λ all. all }
-  maps_next is_fit (a ∷ rest) h =
-      maps_either (is_fit a) _ _ (Alone h) (record { by = λ all. all }) (record { by = λ all. all })
+  map_offers : (q : PageId) (va : ℕ) → LiesAt mapped s q va → Offers (Maps mapped s) q va
+  map_offers q va lies = record {
+    offered = λ g write c. record {
+      by = λ all. are_append c.events _ all (offer_mapped q g c.memory (offer q g write c.memory).answer);
+    };
+    granted = λ kind w.
+        let satp : ℕ = (regime_of w).satp in
+        let a : Access = inside_access w va kind in
+        maps_noted _ w (births_page mapped s satp a q (walk (ram_of w) satp a) lies);
+    mismatched = λ g c. record { by = λ all. all };
+  }
 
   -- The questions.
 
   pub asks_reach : (q : PageId) (va : ℕ) (kind : Kind) (w : World) → LiesAt mapped s q va →
       Maps mapped s w (ask_reach q va kind w).world
-  unfolding ask_reach
-  asks_reach q va kind (Flat ram) lies = maps_refl (Flat ram)
-  asks_reach q va kind (Cloaked c) lies = maps_reach q va kind (Cloaked c) lies
-  asks_reach q va kind (Alone h) lies = maps_next _ h.answers h
+  asks_reach q va kind w lies = keeps_reached_page (Maps mapped s) map_replies q va (map_offers q va lies) kind w
 
   pub asks_write : (q : PageId) (at width value : ℕ) (w : World) → Maps mapped s w (ask_write q at width value w).world
   unfolding ask_write
   asks_write q at width value w = maps_plain _ _ w
 
   pub asks_get : (va width : ℕ) (w : World) → Maps mapped s w (ask_get va width w).world
-  unfolding ask_get
-  asks_get va width (Flat ram) = maps_refl (Flat ram)
-  asks_get va width (Cloaked c) = maps_get va width (Cloaked c)
-  asks_get va width (Alone h) = maps_next _ h.answers h
+  asks_get va width w = keeps_get (Maps mapped s) map_replies va width w
+
+  maps_put_at : (pa width value : ℕ) (w : World) → Maps mapped s w (put_at pa width value w).world
+  unfolding put_at
+  maps_put_at pa width value w =
+      maps_trans _ _ _ (maps_stored pa width value w) (maps_trans _ _ _ (maps_written _ _) (maps_replies told.Ok _))
 
   pub asks_put : (va width value : ℕ) (w : World) → Maps mapped s w (ask_put va width value w).world
-  unfolding ask_put
-  asks_put va width value (Flat ram) = maps_refl (Flat ram)
-  asks_put va width value (Cloaked c) = maps_put va width value (Cloaked c)
-  asks_put va width value (Alone h) = maps_next _ h.answers h
+  asks_put va width value w =
+      keeps_stored (Maps mapped s) map_replies width (λ pa value' v. maps_put_at pa width value' v) va value w
 
   pub asks_clear : (domain : ℕ) (marked : List Bool) (w : World) → Maps mapped s w (ask_clear domain marked w).world
-  unfolding ask_clear
-  asks_clear domain marked (Flat ram) = maps_refl (Flat ram)
-  asks_clear domain marked (Cloaked c) = maps_clear_from domain marked 0 (length c.memory.ram) (Cloaked c)
-  asks_clear domain marked (Alone h) = maps_next _ h.answers h
+  asks_clear domain marked w = keeps_clear (Maps mapped s) map_replies domain marked w
 
   pub maps_copy : (domain from to : ℕ) (w : World) → Maps mapped s w (ask_copy domain from to w).world
   unfolding ask_copy
@@ -323,97 +206,14 @@ module _ (mapped : SpaceId → ℕ → Option PageId) (s : Option SpaceId) where
       maps_trans _ _ _ (maps_copy domain copy.0 copy.1 w) (asks_copies domain rest _)
 
   pub asks_forgets : (domain : ℕ) (list : List ℕ) (w : World) → Maps mapped s w (ask_forgets domain list w).world
-  unfolding ask_forgets
-  asks_forgets domain [] w = maps_refl w
-  asks_forgets domain (n ∷ rest) w = maps_trans _ _ _ (maps_forget domain n w) (asks_forgets domain rest _)
+  asks_forgets domain list w = keeps_forgets (Maps mapped s) maps_refl maps_trans maps_forget domain list w
 
-  -- Those of a hart outside.
+  -- What a hart outside reaches.
 
-  pub maps_value : (satp : ℕ) (a : Access) (pa width : ℕ) (w : World) → Maps mapped s w (ask_value satp a pa width w).world
-  unfolding ask_value
-  maps_value satp a pa width w =
-      maps_trans _ _ _ (maps_opened satp a pa w) (maps_noted (Read (frame_of pa) ∷ []) _ (tt, tt))
-
-  pub maps_store : (satp : ℕ) (a : Access) (pa width value : ℕ) (w : World) →
-      Maps mapped s w (ask_store satp a pa width value w).world
-  unfolding ask_store
-  maps_store satp a pa width value w = maps_trans _ _ _ (maps_opened satp a pa w) (maps_stored pa width value _)
-
-  pub maps_loaded : (satp : ℕ) (a : Access) (width : ℕ) (to : Result ℕ ℕ) (w : World) →
-      Maps mapped s w (loaded_at satp a width to w).world
-  unfolding loaded_at
-  maps_loaded satp a width (Err cause) w = maps_refl w
-  maps_loaded satp a width (Ok pa) w = maps_value satp a pa width w
-
-  pub maps_stored_to : (satp : ℕ) (a : Access) (width value : ℕ) (to : Result ℕ ℕ) (w : World) →
-      Maps mapped s w (stored_to satp a width value to w).world
-  unfolding stored_to
-  maps_stored_to satp a width value (Err cause) w = maps_refl w
-  maps_stored_to satp a width value (Ok pa) w = maps_store satp a pa width value w
-
-  pub asks_load : (satp : ℕ) (a : Access) (width : ℕ) (w : World) → Maps mapped s w (ask_load satp a width w).world
-  unfolding ask_load
-  asks_load satp a width w = maps_trans _ _ _ (maps_led satp a w) (maps_loaded satp a width _ _)
-
-  pub asks_store : (satp : ℕ) (a : Access) (width value : ℕ) (w : World) →
-      Maps mapped s w (ask_store_at satp a width value w).world
-  unfolding ask_store_at
-  asks_store satp a width value w = maps_trans _ _ _ (maps_led satp a w) (maps_stored_to satp a width value _ _)
-
-  pub asks_frame : (f : ℕ) (w : World) → Maps mapped s w (ask_frame f w).world
-  unfolding ask_frame
-  asks_frame f w = maps_trans _ _ _ (maps_settled f w) (maps_noted (Read f ∷ []) _ (tt, tt))
-
-  pub asks_fill : (f : ℕ) (bytes : List ℕ) (w : World) → Maps mapped s w (ask_fill f bytes w).world
-  unfolding ask_fill
-  asks_fill f bytes w = maps_trans _ _ _ (maps_settled f w) (maps_filled f bytes _)
-
-  -- Atomic instructions.
-
-  pub asks_mark : (hart pa : ℕ) (w : World) → Maps mapped s w (ask_mark hart pa w).world
-  unfolding ask_mark
-  asks_mark hart pa w = maps_marks _ w
-
-  pub asks_unmark : (hart : ℕ) (w : World) → Maps mapped s w (ask_unmark hart w).world
-  unfolding ask_unmark
-  asks_unmark hart w = maps_marks _ w
-
-  pub maps_reserved : (satp : ℕ) (a : Access) (hart : ℕ) (to : Result ℕ ℕ) (w : World) →
-      Maps mapped s w (reserved_at satp a hart to w).world
-  unfolding reserved_at
-  maps_reserved satp a hart (Err cause) w = maps_refl w
-  maps_reserved satp a hart (Ok pa) w = maps_trans _ _ _ (maps_value satp a pa 4 w) (asks_mark hart pa _)
-
-  pub asks_reserve : (satp : ℕ) (a : Access) (hart : ℕ) (w : World) → Maps mapped s w (ask_reserve satp a hart w).world
-  unfolding ask_reserve
-  asks_reserve satp a hart w = maps_trans _ _ _ (maps_led satp a w) (maps_reserved satp a hart _ _)
-
-  pub maps_stored_if : (is_reserved : Bool) (hart pa value : ℕ) (w : World) →
-      Maps mapped s w (stored_if is_reserved hart pa value w).world
-  unfolding stored_if
-  maps_stored_if true hart pa value w = maps_trans _ _ _ (maps_stored pa 4 value w) (asks_unmark hart _)
-  maps_stored_if false hart pa value w = asks_unmark hart w
-
-  pub maps_conditional : (satp : ℕ) (a : Access) (hart value : ℕ) (to : Result ℕ ℕ) (w : World) →
-      Maps mapped s w (conditional_at satp a hart value to w).world
-  unfolding conditional_at ask_marked
-  maps_conditional satp a hart value (Err cause) w = maps_refl w
-  maps_conditional satp a hart value (Ok pa) w =
-      maps_trans _ _ _ (maps_value satp a pa 4 w) (maps_stored_if _ hart pa value _)
-
-  pub asks_store_conditional : (satp : ℕ) (a : Access) (hart value : ℕ) (w : World) →
-      Maps mapped s w (ask_store_conditional satp a hart value w).world
-  unfolding ask_store_conditional
-  asks_store_conditional satp a hart value w =
-      maps_trans _ _ _ (maps_led satp a w) (maps_conditional satp a hart value _ _)
-
-  pub maps_combined : (satp : ℕ) (a : Access) (op : AtomicOp) (operand : ℕ) (to : Result ℕ ℕ) (w : World) →
-      Maps mapped s w (combined_at satp a op operand to w).world
-  unfolding combined_at
-  maps_combined satp a op operand (Err cause) w = maps_refl w
-  maps_combined satp a op operand (Ok pa) w = maps_trans _ _ _ (maps_value satp a pa 4 w) (maps_stored pa 4 _ _)
-
-  pub asks_combine : (satp : ℕ) (a : Access) (op : AtomicOp) (operand : ℕ) (w : World) →
-      Maps mapped s w (ask_combine satp a op operand w).world
-  unfolding ask_combine
-  asks_combine satp a op operand w = maps_trans _ _ _ (maps_led satp a w) (maps_combined satp a op operand _ _)
+  pub map_reaches : Reaches (Maps mapped s)
+  map_reaches = record {
+    opens = map_opens;
+    stored_at = maps_stored;
+    marked = λ hart mark w. maps_marks _ w;
+    filled = maps_filled;
+  }

@@ -8,7 +8,7 @@ use Rattle.cloak_model.specs.declared.image.Bundle.{Bundle}
 use Rattle.cloak_model.specs.Joint.{Moment, Turn, joint_step, after_turn, stop_of}
 use Rattle.cloak_model.specs.Opening.{Opened}
 use Rattle.cloak_model.specs.Run.{first_moment, joint_after, turns_from, unless_stopped}
-use Rattle.cloak_machine.specs.Counting.{Counts}
+use Rattle.cloak_machine.specs.Counting.{CountsAccesses}
 use Rattle.cloak_machine.specs.declared.machine.Machine.{Machine}
 use Rattle.run_command.proofs.StepFacts.{GoesOn}
 use Rattle.run_command.proofs.RunFacts.{behind_none, turns_from-next, turns_from-none}
@@ -61,27 +61,27 @@ left_next machine n budget m on within =
     (unless_stopped (stop_of t) (turns_from (budget - (n + 1))) (after_turn here t)))
 
 -- no step yet
-pub counts-start : (machine : Machine) (budget : ℕ) (m : Moment) (s : Fold) → Counts machine s →
-    Counts machine (after_turns m (take 0 (turns_from budget m)) s)
+pub counts-start : (machine : Machine) (budget : ℕ) (m : Moment) (s : Fold) → CountsAccesses machine s →
+    CountsAccesses machine (after_turns m (take 0 (turns_from budget m)) s)
 unfolding after_turns
 counts-start machine budget m s counts =
-    subst (λ (ts : List Turn). Counts machine (after_turns m ts s)) (sym (take-append_seam [] (turns_from budget m)))
+    subst (λ (ts : List Turn). CountsAccesses machine (after_turns m ts s)) (sym (take-append_seam [] (turns_from budget m)))
     counts
 
 -- the counts after the next step
 counts_behind : (old new : Machine) (n budget : ℕ) (m : Moment) (s : Fold) (on : GoesOn old n budget m) →
-    Counts old (after_turns m (take n (turns_from budget m)) s) →
-    ((x : Fold) → Counts old x → Counts new (after_step (moment_behind m on.made) x)) →
-    Counts new (after_turns m (on.made ++ joint_step (moment_behind m on.made) ∷ []) s)
+    CountsAccesses old (after_turns m (take n (turns_from budget m)) s) →
+    ((x : Fold) → CountsAccesses old x → CountsAccesses new (after_step (moment_behind m on.made) x)) →
+    CountsAccesses new (after_turns m (on.made ++ joint_step (moment_behind m on.made) ∷ []) s)
 counts_behind old new n budget m s on counts step =
-    subst (λ (x : Fold). Counts new x) (sym (after_turns-last m on.made (joint_step (moment_behind m on.made)) s))
+    subst (λ (x : Fold). CountsAccesses new x) (sym (after_turns-last m on.made (joint_step (moment_behind m on.made)) s))
     (step (after_turns m on.made s)
-    (subst (λ (ts : List Turn). Counts old (after_turns m ts s)) (made_is old n budget m on) counts))
+    (subst (λ (ts : List Turn). CountsAccesses old (after_turns m ts s)) (made_is old n budget m on) counts))
 
 pub counts-more : (old new : Machine) (n budget : ℕ) (m : Moment) (s : Fold) (on : GoesOn old n budget m) →
-    n < budget → Counts old (after_turns m (take n (turns_from budget m)) s) →
-    ((x : Fold) → Counts old x → Counts new (after_step (moment_behind m on.made) x)) →
-    Counts new (after_turns m (take (n + 1) (turns_from budget m)) s)
+    n < budget → CountsAccesses old (after_turns m (take n (turns_from budget m)) s) →
+    ((x : Fold) → CountsAccesses old x → CountsAccesses new (after_step (moment_behind m on.made) x)) →
+    CountsAccesses new (after_turns m (take (n + 1) (turns_from budget m)) s)
 counts-more old new n budget m s on within counts step =
     let here = moment_behind m on.made in
     let t = joint_step here in
@@ -90,15 +90,15 @@ counts-more old new n budget m s on within counts step =
     ap (λ (ts : List Turn). take (n + 1) ts) (left_next old n budget m on within)
     ∙ take_front (on.made ++ t ∷ []) rest (n + 1)
     (let long = length-append on.made (t ∷ []) in let so_far = on.count in omega (arith, long, so_far)) in
-    subst (λ (ts : List Turn). Counts new (after_turns m ts s)) (sym front)
+    subst (λ (ts : List Turn). CountsAccesses new (after_turns m ts s)) (sym front)
     (counts_behind old new n budget m s on counts step)
 
 -- after a step that stopped the run there is none
 pub counts-stopped : (old new : Machine) (given : Option Stop) (cause : Stop) (n budget : ℕ) (m : Moment) (s : Fold)
     (on : GoesOn old n budget m) → given ≡ stop_of (joint_step (moment_behind m on.made)) → given ≡ Some cause →
-    n < budget → Counts old (after_turns m (take n (turns_from budget m)) s) →
-    ((x : Fold) → Counts old x → Counts new (after_step (moment_behind m on.made) x)) →
-    Counts new (after_turns m (turns_from budget m) s)
+    n < budget → CountsAccesses old (after_turns m (take n (turns_from budget m)) s) →
+    ((x : Fold) → CountsAccesses old x → CountsAccesses new (after_step (moment_behind m on.made) x)) →
+    CountsAccesses new (after_turns m (turns_from budget m) s)
 counts-stopped old new given cause n budget m s on answer stopped within counts step =
     let here = moment_behind m on.made in
     let t = joint_step here in
@@ -107,18 +107,18 @@ counts-stopped old new given cause n budget m s on answer stopped within counts 
     ∙ ap (λ (o : Option Stop). (on.made ++ t ∷ []) ++ unless_stopped o (turns_from (budget - (n + 1)))
     (after_turn here t)) (sym answer ∙ stopped)
     ∙ append-nil (on.made ++ t ∷ []) in
-    subst (λ (ts : List Turn). Counts new (after_turns m ts s)) (sym all)
+    subst (λ (ts : List Turn). CountsAccesses new (after_turns m ts s)) (sym all)
     (counts_behind old new n budget m s on counts step)
 
 -- all steps of the budget
 pub counts-all : (machine : Machine) (n budget : ℕ) (m : Moment) (s : Fold) (on : GoesOn machine n budget m) →
-    n ≡ budget → Counts machine (after_turns m (take n (turns_from budget m)) s) →
-    Counts machine (after_turns m (turns_from budget m) s)
+    n ≡ budget → CountsAccesses machine (after_turns m (take n (turns_from budget m)) s) →
+    CountsAccesses machine (after_turns m (turns_from budget m) s)
 counts-all machine n budget m s on whole counts =
     let all : turns_from budget m ≡ on.made =
     on.left ∙ ap (λ (ts : List Turn). on.made ++ ts)
     (turns_from-none n budget (moment_behind m on.made) whole) ∙ append-nil on.made in
-    subst (λ (ts : List Turn). Counts machine (after_turns m ts s)) (made_is machine n budget m on ∙ sym all) counts
+    subst (λ (ts : List Turn). CountsAccesses machine (after_turns m ts s)) (made_is machine n budget m on ∙ sym all) counts
 
 -- the counts that a machine tells after all steps of a run
 pub counts_told : (b : Bundle) (steps : ℕ) (o : Opened) (counts : ShadowCounts) →

@@ -5,7 +5,7 @@ ghost use Rattle.cloak_model.specs.declared.image.Bundle.{Bundle};
 ghost use Rattle.cloak_model.specs.Joint.{Moment};
 ghost use Rattle.cloak_model.specs.Opening.{Opened, opening};
 ghost use Rattle.cloak_model.specs.Run.{first_moment, joint_after, most_steps, run_of, turns_from};
-ghost use Rattle.cloak_machine.specs.Counting.{Counts};
+ghost use Rattle.cloak_machine.specs.Counting.{CountsAccesses};
 ghost use Rattle.cloak_machine.specs.Standing.{StandsForMoment, steps_made};
 ghost use Rattle.run_command.specs.Running.{MadeAll, NoClash, NoClashYet};
 ghost use Rattle.shadow_fold.specs.Events.{after_turns};
@@ -32,9 +32,9 @@ fn run_counted(machine: &mut Machine, steps: u32) -> Option<Stop>
     ensures makes { (m : Moment) → StandsForMoment machine.old m →
         NoClashYet (joint_after m.joint (turns_from steps m)) →
         MadeAll machine.new result m (turns_from steps m) }
-    ensures counts { (m : Moment) (s : Fold) → StandsForMoment machine.old m → Counts machine.old s →
+    ensures counts { (m : Moment) (s : Fold) → StandsForMoment machine.old m → CountsAccesses machine.old s →
         NoClashYet (joint_after m.joint (turns_from steps m)) →
-        Counts machine.new (after_turns m (turns_from steps m) s) }
+        CountsAccesses machine.new (after_turns m (turns_from steps m) s) }
 {
     let mut unheard = Unheard {};
     for made in 0..steps {

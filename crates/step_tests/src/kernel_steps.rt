@@ -258,10 +258,10 @@ fn interrupts_and_returns(rt: HostRuntime) -> Result<(), Fail> {
 }
 
 /// A row of the table below.
-type Call = (&'static str, u32, u32, u32, Kernel, u32, u32);
+type HostCallRow = (&'static str, u32, u32, u32, Kernel, u32, u32);
 
 /// Host calls: x17, x10 and x11; the ending, x10 and the timer after it.
-static CALLS: [Call; 11] = [
+static CALLS: [HostCallRow; 11] = [
     ("PUT", 0, 0x141, 7, Kernel::Put(0x41), 0, 9),
     ("TIMER", 1, 100, 7, Kernel::Stay, 0, 100),
     ("READ", 2, 1, 0x8000_1000, Kernel::Stay, 0, 9),
@@ -284,7 +284,7 @@ static CALLS: [Call; 11] = [
 ];
 
 /// Makes the call of a row.
-fn called(rt: &impl Abort, alloc: Global, row: &Call) -> Result<(), Fail> {
+fn called(rt: &impl Abort, alloc: Global, row: &HostCallRow) -> Result<(), Fail> {
     let &(name, call, first, second, ending, answer, timer) = row;
     let mut h = hart(Mode::S, 0, 0);
     h.regs.set(17, call);

@@ -15,7 +15,7 @@ use Rattle.cloak_model.specs.Report.{report}
 use Rattle.cloak_model.specs.Run.{Run, any_refused, cause_of, closing, first_moment, joint_after, last_stop, most_steps, run_from, run_of, turns_from, turns_pieces}
 use Rattle.cloak_model.specs.StoredFiles.{FileContents, IsTable}
 use Rattle.cloak_model.specs.StoredRun.{contents_of}
-use Rattle.cloak_machine.specs.declared.end.End.{End}
+use Rattle.cloak_machine.specs.declared.end.RunEnd.{RunEnd}
 use Rattle.cloak_machine.specs.declared.machine.Machine.{Machine}
 use Rattle.command_words.specs.Command as spec
 use Rattle.disk_law.proofs.Runs.{disk_stays}
@@ -24,10 +24,10 @@ use Rattle.run_command.specs.Running.{BeginsRun, MadeAll, NoClash, first_pieces,
 use Rattle.run_command.proofs.Lawful.{is_lawful}
 use Rattle.run_command.proofs.RunFacts.{emits_as}
 use Rattle.cloaked_side.proofs.Emitting.{emits_then}
-use Rattle.store_command.specs.declared.prepare.Left.{Left}
-use Rattle.store_command.specs.declared.prepare.Prepared.{Prepared}
+use Rattle.store_command.specs.declared.prepare.ForStoring.{ForStoring}
+use Rattle.store_command.specs.declared.prepare.PreparedStore.{PreparedStore}
 use Rattle.store_command.specs.Leaving.{first_due}
-use Rattle.store_command.specs.Preparing.{IsOpened, IsPrepared}
+use Rattle.store_command.specs.Preparing.{OpensRun, IsPrepared}
 use Rattle.store_command.specs.Recording.{RunsOver, run_over}
 use Rattle.cloak_machine.proofs.Keys.{closing_keys}
 use Rattle.store_command.specs.Writing.{EndsAs, EndsUnless, Finishes, WritesFirst}
@@ -45,15 +45,15 @@ first_of_run b steps o =
 
 -- nothing more was given once the outlet failed
 pub first_front : {E : Type 0} {gave : E → E → List Piece → Type 0} {failed : Bool} {e f : E} {machine : Machine}
-    {stopped : Option Stop} (old new : Left) (b : Bundle) (steps : ℕ) (o : Opened) →
+    {stopped : Option Stop} (old new : ForStoring) (b : Bundle) (steps : ℕ) (o : Opened) →
     BeginsRun gave failed e f machine stopped b o (turns_from steps (first_moment b o.joint)) →
     ((ps : List Piece) → Emits gave f f ps) → WritesFirst gave e f old new None (run_of b steps o)
 first_front {E} {gave} {failed} {e} {f} {machine} {stopped} old new b steps o begins none =
     record { emits = emits_as (first_of_run b steps o) (emits_then begins.emits (none _)); ends = tt }
 
 -- the place for the disk has the size of the disk as the steps were made
-pub place_after : {machine : Machine} {left : Left} {b : Bundle} {from : Beginning} {o : Opened} (steps : ℕ) →
-    IsOpened machine left b from o →
+pub place_after : {machine : Machine} {left : ForStoring} {b : Bundle} {from : Beginning} {o : Opened} (steps : ℕ) →
+    OpensRun machine left b from o →
     left.disk_end ≡ left.disk_from + length (joint_after o.joint (turns_from steps (first_moment b o.joint))).disk
 place_after {machine} {left} {b} {from} {o} steps opened =
     opened.disk ∙ ap (λ n. left.disk_from + n) (sym (disk_stays b from o opened.opens steps))
@@ -73,7 +73,7 @@ count_turns b steps o =
 
 -- the end of a machine that made all steps of a run
 ends_as : {E : Type 0} {gave : E → E → List Piece → Type 0} {e f : E} {machine : Machine} {stopped : Option Stop}
-    {cause : Stop} {end : End} {old new : Left} (b : Bundle) (steps : ℕ) (o : Opened) →
+    {cause : Stop} {end : RunEnd} {old new : ForStoring} (b : Bundle) (steps : ℕ) (o : Opened) →
     let turns = turns_from steps (first_moment b o.joint) in
     let m = moment_behind (first_moment b o.joint) turns in
     MadeAll machine stopped (first_moment b o.joint) turns → cause ≡ unwrap_or stopped stop.Budget →
@@ -97,7 +97,7 @@ ends_as {E} {gave} {e} {f} {machine} {stopped} {cause} {end} {old} {new} b steps
     }
 
 pub first_whole : {E : Type 0} {gave : E → E → List Piece → Type 0} {failed : Bool} {e f h : E} {machine : Machine}
-    {stopped : Option Stop} {cause : Stop} {end : End} {old new : Left} (b : Bundle) (steps : ℕ) (o : Opened) →
+    {stopped : Option Stop} {cause : Stop} {end : RunEnd} {old new : ForStoring} (b : Bundle) (steps : ℕ) (o : Opened) →
     let turns = turns_from steps (first_moment b o.joint) in
     let m = moment_behind (first_moment b o.joint) turns in
     BeginsRun gave failed e f machine stopped b o turns → failed ≡ false → cause ≡ unwrap_or stopped stop.Budget →
@@ -114,22 +114,22 @@ first_whole {E} {gave} {failed} {e} {f} {h} {machine} {stopped} {cause} {end} {o
     }
 
 -- of which nothing is told, as the outlet failed at the closing
-pub first_unended : {E : Type 0} {gave : E → E → List Piece → Type 0} {e f : E} {old new : Left} {end : End} {r : Run} →
+pub first_unended : {E : Type 0} {gave : E → E → List Piece → Type 0} {e f : E} {old new : ForStoring} {end : RunEnd} {r : Run} →
     WritesFirst gave e f old new (Some end) r → WritesFirst gave e f old new None r
 first_unended {E} {gave} {e} {f} {old} {new} {end} {r} writes = record { emits = writes.emits; ends = tt }
 
 -- The outlet failed exactly if there is no end.
 
-pub failed_is : (failed : Bool) (given : Option End) → EndsUnless failed given → failed ≡ is_none given
+pub failed_is : (failed : Bool) (given : Option RunEnd) → EndsUnless failed given → failed ≡ is_none given
 failed_is failed None ends = ends
 failed_is failed (Some end) ends = ends
 
 -- The runs over all contents.
 
 pub runs_over : {names : spec.StoreNames} {counter : ℕ} {randomness : spec.Randomness}
-    {held : List ℕ → Option (List ℕ)} {prepared : Prepared}
+    {held : List ℕ → Option (List ℕ)} {prepared : PreparedStore}
     (p : IsPrepared names counter randomness held prepared) (steps : ℕ) (Leaves : Run → Type 0) → steps ≤ most_steps →
-    ((from : Beginning) (o : Opened) → IsOpened prepared.machine prepared.left p.sources.bundle from o →
+    ((from : Beginning) (o : Opened) → OpensRun prepared.machine prepared.left p.sources.bundle from o →
     NoClash (run_of p.sources.bundle steps o) → Leaves (run_of p.sources.bundle steps o)) →
     (files : List FileContents) → AreFiles p.sources files → RunsOver p.sources steps Leaves files
 runs_over {names} {counter} {randomness} {held} {prepared} p steps Leaves few each files are =

@@ -13,7 +13,7 @@ use Rattle.cloak_model.specs.Exchange.{Piece, recorded, shown, record_magic, ite
 use Rattle.cloak_model.specs.Run.{Run, closing_pieces, due, report_of, turns_pieces}
 use Rattle.cloak_model.specs.StoredFiles.{FileContents, store_bytes}
 use Rattle.cloak_model.specs.StoredRun.{contents_of}
-use Rattle.cloak_machine.specs.declared.end.End.{End}
+use Rattle.cloak_machine.specs.declared.end.RunEnd.{RunEnd}
 use Rattle.cloak_machine.specs.Ending.{end_is_refused, end_report}
 use Rattle.command_words.specs.Command as spec
 use Rattle.command_parts.specs.declared.status.Status.{Status}
@@ -24,11 +24,11 @@ use Rattle.command_parts.proofs.FaultFacts.{raised, counted, failed, risen, succ
 use Rattle.run_command.specs.Outlet.{WroteAll, WroteFront, pieces_left}
 use Rattle.run_command.specs.Recording.{GrowsSome}
 use Rattle.run_command.specs.Running.{IsStatusOfStop, status_of}
-use Rattle.run_command.proofs.BegunFacts.{AreLow, AtPieces, Begun, fault_since, front_of_text, grows_from}
+use Rattle.run_command.proofs.BegunFacts.{AreLow, AtPieces, HasBegunRecord, fault_since, front_of_text, grows_from}
 use Rattle.run_command.proofs.OutletFacts.{Puts-parts, recorded_bytes-append, shown_bytes-append}
-use Rattle.store_command.specs.declared.prepare.Left.{Left}
+use Rattle.store_command.specs.declared.prepare.ForStoring.{ForStoring}
 use Rattle.store_command.specs.Leaving.{BreaksOff, BreaksOffFirst, HasFiles, HasFirst, HasOldOrFront, LeavesAll, OtherThanStored, first_due, last_due, new_bytes, next_bytes}
-use Rattle.store_command.specs.Preparing.{IsLeft}
+use Rattle.store_command.specs.Preparing.{IsForStoring}
 use Rattle.store_command.specs.Recording.{RunsOver, Stores}
 use Rattle.store_command.specs.Writing.{BrokeInNew, BrokeInNext, EndsAs, KeepsRoom, LeavesFiles, WritesFiles, WroteFiles, with_bytes_at}
 use Rattle.store_command.proofs.Lengths.{disk_replaced}
@@ -43,7 +43,7 @@ flipped : {a b : List ℕ} → a ≢ b → b ≢ a
 flipped {a} {b} apart = λ same. apart (sym same)
 
 pub has_first : {S O : Type 0} {names : spec.StoreNames} {before mid after : Outside S O} {r : Run} →
-    Begun names.record_name before mid → WroteAll names.record_name mid after (first_due r) →
+    HasBegunRecord names.record_name before mid → WroteAll names.record_name mid after (first_due r) →
     HasFirst names r before after
 has_first {S} {O} {names} {before} {mid} {after} {r} begun all = record {
   file = Tells_after (mid.files.held names.record_name) (after.files.held names.record_name) []
@@ -52,7 +52,7 @@ has_first {S} {O} {names} {before} {mid} {after} {r} begun all = record {
 }
 
 pub breaks_first : {S O : Type 0} {names : spec.StoreNames} {before mid after : Outside S O} {r : Run} → AreLow before →
-    Begun names.record_name before mid → WroteFront names.record_name mid after (first_due r) →
+    HasBegunRecord names.record_name before mid → WroteFront names.record_name mid after (first_due r) →
     BreaksOffFirst names r before after
 breaks_first {S} {O} {names} {before} {mid} {after} {r} low begun front = record {
   cut = front.cut;
@@ -65,13 +65,13 @@ breaks_first {S} {O} {names} {before} {mid} {after} {r} low begun front = record
 
 -- What is left for the files.
 
-pub new_is : (counter : ℕ) {s : StoreSources} {old new : Left} {end : End} {r : Run} → IsLeft s old →
+pub new_is : (counter : ℕ) {s : StoreSources} {old new : ForStoring} {end : RunEnd} {r : Run} → IsForStoring s old →
     KeepsRoom old new → EndsAs old new end r → r.stop ≢ stop.NoRandom →
     store_bytes new.mac (counter + 1) new.table ≡ new_bytes s counter r
 new_is counter {s} {old} {new} {end} {r} left keeps ends drawn =
     λ i. store_bytes ((keeps.mac ∙ left.mac) i) (counter + 1) (ends.table drawn i)
 
-pub next_is : {s : StoreSources} {old new : Left} {end : End} {r : Run} → IsLeft s old → EndsAs old new end r →
+pub next_is : {s : StoreSources} {old new : ForStoring} {end : RunEnd} {r : Run} → IsForStoring s old → EndsAs old new end r →
     bundle_bytes s.version s.bundle ≡ s.bytes → length r.closed.joint.disk ≡ length s.bundle.kernel.disk →
     new.next.items ≡ next_bytes s r
 next_is {s} {old} {new} {end} {r} left ends spelled long =
@@ -270,16 +270,16 @@ shown_due r =
     ∙ ap (λ (l : List ℕ). shown_bytes (first_due r) ++ (codes "\n" ++ l)) (append-nil (report_of r))))
 
 -- what was shown of the lines of an end
-pub record ShowsEnd {S O : Type 0} (end : End) (r : Result Unit Failed) (mid after : Outside S O) : Type 0 where
+pub record ShowsEnd {S O : Type 0} (end : RunEnd) (r : Result Unit Failed) (mid after : Outside S O) : Type 0 where
   pub puts : Puts mid.output.taken after.output.taken mid.output.faults after.output.faults
       (codes "\n" ++ end_report end) r
   pub files : after.files ≡ mid.files
 
-lines_of : {old new : Left} {end : End} {r : Run} → EndsAs old new end r → codes "\n" ++ end_report end ≡ last_due r
+lines_of : {old new : ForStoring} {end : RunEnd} {r : Run} → EndsAs old new end r → codes "\n" ++ end_report end ≡ last_due r
 lines_of {old} {new} {end} {r} ends = ap (λ (l : List ℕ). codes "\n" ++ l) ends.report
 
-pub breaks_last : {S O : Type 0} {names : spec.StoreNames} {counter : ℕ} {s : StoreSources} {r : Run} {old new : Left}
-    {end : End} {before mid after : Outside S O} (shows : Result Unit Failed) → AreLow before →
+pub breaks_last : {S O : Type 0} {names : spec.StoreNames} {counter : ℕ} {s : StoreSources} {r : Run} {old new : ForStoring}
+    {end : RunEnd} {before mid after : Outside S O} (shows : Result Unit Failed) → AreLow before →
     AtFiles names before mid → HasBoth names counter s r before mid → EndsAs old new end r →
     ShowsEnd end shows mid after → is_err shows ≡ true → BreaksOff names counter s r before after
 breaks_last {S} {O} {names} {counter} {s} {r} {old} {new} {end} {before} {mid} {after} shows low at has ends lines ill =
@@ -301,8 +301,8 @@ breaks_last {S} {O} {names} {counter} {s} {r} {old} {new} {end} {before} {mid} {
       faults = raised (Rose-after _ _ _ at.nothing_rose.faults (risen _ _ shows ill parts.2)) low.faults;
     })))
 
-pub leaves_all : {S O : Type 0} {names : spec.StoreNames} {counter : ℕ} {s : StoreSources} {r : Run} {old new : Left}
-    {end : End} {given : Status} {before mid after : Outside S O} (shows : Result Unit Failed) →
+pub leaves_all : {S O : Type 0} {names : spec.StoreNames} {counter : ℕ} {s : StoreSources} {r : Run} {old new : ForStoring}
+    {end : RunEnd} {given : Status} {before mid after : Outside S O} (shows : Result Unit Failed) →
     HasBoth names counter s r before mid → EndsAs old new end r → ShowsEnd end shows mid after →
     is_err shows ≡ false → given ≡ status_of end.stop (end_is_refused end) →
     LeavesAll names counter s r given before after
@@ -357,7 +357,7 @@ not_begun {S} {O} names counter steps s before now after out r read low file oth
     )
 
 pub front_of_first : {S O : Type 0} {names : spec.StoreNames} {counter steps : ℕ} {s : StoreSources}
-    {before mid after : Outside S O} {pieces : List Piece} → AreLow before → Begun names.record_name before mid →
+    {before mid after : Outside S O} {pieces : List Piece} → AreLow before → HasBegunRecord names.record_name before mid →
     WroteFront names.record_name mid after pieces →
     ((files : List FileContents) → AreFiles s files →
     RunsOver s steps (λ r. BreaksOff names counter s r before after) files) →
@@ -415,7 +415,7 @@ front_of_files {S} {O} {names} {counter} {steps} {s} {new} {next} {before} {mid}
       },
     )
 
-pub front_of_last : {S O : Type 0} {names : spec.StoreNames} {counter steps : ℕ} {s : StoreSources} (end : End)
+pub front_of_last : {S O : Type 0} {names : spec.StoreNames} {counter steps : ℕ} {s : StoreSources} (end : RunEnd)
     {before mid after : Outside S O} (shows : Result Unit Failed) → AreLow before → AtFiles names before mid →
     ShowsEnd end shows mid after → is_err shows ≡ true →
     ((files : List FileContents) → AreFiles s files →
@@ -446,7 +446,7 @@ front_of_last {S} {O} {names} {counter} {steps} {s} end {before} {mid} {after} s
       },
     )
 
-pub all_of_last : {S O : Type 0} {names : spec.StoreNames} {counter steps : ℕ} {s : StoreSources} (end : End)
+pub all_of_last : {S O : Type 0} {names : spec.StoreNames} {counter steps : ℕ} {s : StoreSources} (end : RunEnd)
     {given : Status} {before mid after : Outside S O} (shows : Result Unit Failed) → AtFiles names before mid →
     ShowsEnd end shows mid after → is_err shows ≡ false → IsStatusOfStop given →
     ((files : List FileContents) → AreFiles s files →

@@ -22,8 +22,8 @@ use Rattle.command_parts.specs.NoRun.{NoRun}
 use Rattle.command_parts.specs.Outside.{FilesOutside, OnlyRead}
 use Rattle.command_parts.specs.Storing as given
 use Rattle.command_parts.specs.Storing.{AsksStored, IsOld, IsSecret, StoreSources, secret_length}
-use Rattle.store_command.specs.declared.prepare.Left.{Left}
-use Rattle.store_command.specs.declared.prepare.Prepared.{Prepared}
+use Rattle.store_command.specs.declared.prepare.ForStoring.{ForStoring}
+use Rattle.store_command.specs.declared.prepare.PreparedStore.{PreparedStore}
 use Rattle.store_command.specs.declared.secret.Secret.{Secret}
 
 -- Reading.
@@ -58,14 +58,14 @@ refused_by (fault.NoRoom domain) = refusal.NoRoom domain
 refused_by fault.NoMemory = refusal.NoMemory
 
 -- There is room for what is known at the end, and there are no files yet.
-pub record CanEnd (left : Left) : Type 0 where
+pub record CanEnd (left : ForStoring) : Type 0 where
   pub empty : left.table ≡ []
   pub room : largest_store ≤ length left.room.items
   pub place : left.disk_from ≤ left.disk_end
   pub within : left.disk_end ≤ length left.next.items
 
 -- the files of the end are made of these sources
-pub record IsLeft (s : StoreSources) (left : Left) : Type 0 where
+pub record IsForStoring (s : StoreSources) (left : ForStoring) : Type 0 where
   pub mac : left.mac ≡ s.secret.mac
   pub next : left.next.items ≡ s.bytes
   pub from : left.disk_from ≡ disk_at s.bundle
@@ -74,25 +74,25 @@ pub record IsLeft (s : StoreSources) (left : Left) : Type 0 where
 -- The words ask for a run from these sources. For all contents that the table stands for, it opens, and the machine is
 -- that of its first moment. Image and stream are of bytes.
 pub record IsPrepared (names : spec.StoreNames) (counter : ℕ) (randomness : spec.Randomness)
-    (held : List ℕ → Option (List ℕ)) (prepared : Prepared) : Type 0 where
+    (held : List ℕ → Option (List ℕ)) (prepared : PreparedStore) : Type 0 where
   pub sources : StoreSources
   pub asks : AsksStored names counter randomness held sources
   pub opens : OpensStored sources.bundle sources.secret.keys sources.stream sources.table (Ok prepared.machine)
   pub placings : placings_of prepared.machine ≡ map placing sources.bundle.programs
-  pub left : IsLeft sources prepared.left
+  pub left : IsForStoring sources prepared.left
   pub image_bytes : IsOfBytes sources.bundle
   pub stream_bytes : IsStreamOfBytes sources.stream
 
 -- a run that can begin, or why there is none; the files were at most read
 abbrev pub PreparesStored : {S : Type 0} → spec.StoreNames → (counter steps : ℕ) → spec.Randomness → FilesOutside S →
-    FilesOutside S → Result Prepared Refusal → Type 0
+    FilesOutside S → Result PreparedStore Refusal → Type 0
 PreparesStored names counter steps randomness before after (Ok prepared) =
     OnlyRead before after × IsPrepared names counter randomness before.held prepared
 PreparesStored names counter steps randomness before after (Err refused) =
     NoRun (spec.Store names counter steps randomness) refused before after
 
 -- The run of this bundle opens so, the machine is that of its first moment, and what is left has a place for its disk.
-pub record IsOpened (machine : Machine) (left : Left) (b : Bundle) (from : Beginning) (o : Opened) : Type 0 where
+pub record OpensRun (machine : Machine) (left : ForStoring) (b : Bundle) (from : Beginning) (o : Opened) : Type 0 where
   pub opens : opening_from b from ≡ Ok o
   pub placings : placings_of machine ≡ map placing b.programs
   pub stands : StandsForMoment machine (first_moment b o.joint)

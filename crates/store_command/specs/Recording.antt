@@ -12,7 +12,7 @@ use Rattle.command_parts.specs.Storing.{AreFiles, StoreSources}
 use Rattle.run_command.specs.Answering.{IsLawful}
 use Rattle.run_command.specs.Recording.{FailedSome, GrowsSome}
 use Rattle.run_command.specs.Running.{IsStatusOfStop, NoClash}
-use Rattle.store_command.specs.declared.prepare.Prepared.{Prepared}
+use Rattle.store_command.specs.declared.prepare.PreparedStore.{PreparedStore}
 use Rattle.store_command.specs.Leaving.{BeginsNoRecord, BreaksOff, LeavesAll, OtherThanStored}
 use Rattle.store_command.specs.Preparing.{PreparesStored}
 
@@ -60,7 +60,7 @@ Stores names counter steps s before after given =
     ⊎ ((given ≡ status.WriteFault) × StoresFront names counter steps s before after)
 
 -- What making a run that was prepared returns, seen from before its files were read.
-abbrev pub StoresPrepared : {S O : Type 0} → spec.StoreNames → (counter steps : ℕ) → spec.Randomness → Prepared →
+abbrev pub StoresPrepared : {S O : Type 0} → spec.StoreNames → (counter steps : ℕ) → spec.Randomness → PreparedStore →
     Outside S O → Outside S O → Status → Type 0
 StoresPrepared {S} {O} names counter steps randomness prepared now after given =
     (before : FilesOutside S)

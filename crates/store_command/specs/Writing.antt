@@ -10,14 +10,14 @@ use Rattle.cloak_model.specs.Opening.{Opened}
 use Rattle.cloak_model.specs.Run.{Run, is_refused, report_of}
 use Rattle.cloak_model.specs.StoredFiles.{table_of}
 use Rattle.cloak_model.specs.StoredRun.{contents_of}
-use Rattle.cloak_machine.specs.declared.end.End.{End}
+use Rattle.cloak_machine.specs.declared.end.RunEnd.{RunEnd}
 use Rattle.cloak_machine.specs.Ending.{end_is_refused, end_report}
 use Rattle.cloak_machine.specs.Standing.{FinishesAs}
 use Rattle.command_words.specs.Command as spec
 use Rattle.io_traits.specs.Told.{Rose, Tells, OtherFiles}
 use Rattle.command_parts.specs.Outside.{FilesOutside, Outside}
 use Rattle.run_command.specs.Outlet.{Writes}
-use Rattle.store_command.specs.declared.prepare.Left.{Left}
+use Rattle.store_command.specs.declared.prepare.ForStoring.{ForStoring}
 use Rattle.store_command.specs.Leaving.{HasOldOrFront, first_due}
 
 -- What is due first.
@@ -27,12 +27,12 @@ abbrev pub with_bytes_at : ℕ → List ℕ → List ℕ → List ℕ
 with_bytes_at at bytes all = take at all ++ (bytes ++ drop (at + length bytes) all)
 
 -- the key and the room stay
-pub record KeepsRoom (old new : Left) : Type 0 where
+pub record KeepsRoom (old new : ForStoring) : Type 0 where
   pub mac : new.mac ≡ old.mac
   pub room : length new.room.items ≡ length old.room.items
 
 -- The machine of this moment was closed so, and what is left tells of its files and its disk then.
-pub record Finishes {E : Type 0} (gave : E → E → List Piece → Type 0) (e e' : E) (old new : Left) (end : End)
+pub record Finishes {E : Type 0} (gave : E → E → List Piece → Type 0) (e e' : E) (old new : ForStoring) (end : RunEnd)
     (stopped : Stop) (m : Moment) (closed : Opened) : Type 0 where
   pub finishes : FinishesAs gave e e' end stopped m closed
   pub table : end.stop ≢ stop.NoRandom → new.table ≡ table_of (contents_of closed.joint)
@@ -40,7 +40,7 @@ pub record Finishes {E : Type 0} (gave : E → E → List Piece → Type 0) (e e
   pub next : new.next.items ≡ with_bytes_at old.disk_from closed.joint.disk old.next.items
 
 -- The end of a machine is that of a run, and what is left tells of its files and its disk as it was closed.
-pub record EndsAs (old new : Left) (end : End) (r : Run) : Type 0 where
+pub record EndsAs (old new : ForStoring) (end : RunEnd) (r : Run) : Type 0 where
   pub table : r.stop ≢ stop.NoRandom → new.table ≡ table_of (contents_of r.closed.joint)
   pub fit : r.stop ≢ stop.NoRandom → AreContents r.closed.joint.memory.ledger.keys (contents_of r.closed.joint)
   pub stop : end.stop ≡ r.stop
@@ -49,23 +49,23 @@ pub record EndsAs (old new : Left) (end : End) (r : Run) : Type 0 where
   pub next : new.next.items ≡ with_bytes_at old.disk_from r.closed.joint.disk old.next.items
 
 -- there is an end unless the outlet failed
-abbrev pub EndsUnless : Bool → Option End → Type 0
+abbrev pub EndsUnless : Bool → Option RunEnd → Type 0
 EndsUnless failed None = failed ≡ true
 EndsUnless failed (Some end) = failed ≡ false
 
 -- what is due first of a run was given
-pub record WritesFirst {E : Type 0} (gave : E → E → List Piece → Type 0) (e e' : E) (old new : Left)
-    (given : Option End) (r : Run) : Type 0 where
+pub record WritesFirst {E : Type 0} (gave : E → E → List Piece → Type 0) (e e' : E) (old new : ForStoring)
+    (given : Option RunEnd) (r : Run) : Type 0 where
   pub emits : Emits gave e e' (first_due r)
   pub ends : IfSome given (λ end. EndsAs old new end r)
 
 -- some pieces were written, or a front of them if there is no end
-abbrev pub WritesSome : {S O : Type 0} → List ℕ → Option End → Outside S O → Outside S O → Type 0
+abbrev pub WritesSome : {S O : Type 0} → List ℕ → Option RunEnd → Outside S O → Outside S O → Type 0
 WritesSome name given before after = (pieces : List Piece) × Writes (is_none given) name before after pieces
 
 -- what is due first of a run was written, or a front of it if there is no end
-pub record RecordsFirst {S O : Type 0} (name : List ℕ) (before after : Outside S O) (old new : Left)
-    (given : Option End) (r : Run) : Type 0 where
+pub record RecordsFirst {S O : Type 0} (name : List ℕ) (before after : Outside S O) (old new : ForStoring)
+    (given : Option RunEnd) (r : Run) : Type 0 where
   pub writes : Writes (is_none given) name before after (first_due r)
   pub ends : IfSome given (λ end. EndsAs old new end r)
 

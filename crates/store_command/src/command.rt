@@ -10,10 +10,10 @@ ghost use Rattle.store_command.specs.Preparing.{CanEnd};
 ghost use Rattle.store_command.specs.Recording.{StoresPrepared};
 
 use crate::files::leave_files;
-use crate::prepare::{Prepared, prepare_stored};
+use crate::prepare::{PreparedStore, prepare_stored};
 use crate::run::record_first;
 use cloak_base::Failed;
-use cloak_machine::End;
+use cloak_machine::RunEnd;
 use command_parts::{Status, refuse};
 use command_words::StoreRequest;
 use io_traits::{Shelf, Sink, put_all};
@@ -21,7 +21,7 @@ use run_command::stop_status;
 use std::alloc::Global;
 
 /// Shows the rest of the console's line and the report.
-fn show_end<O: Sink>(out: &mut O, end: &End) -> Result<(), Failed>
+fn show_end<O: Sink>(out: &mut O, end: &RunEnd) -> Result<(), Failed>
     ensures { PutsTo O.Sink out.old out.new (codes "\n" ++ end_report end.now) result }
 {
     put_all(out, b"\n")?;
@@ -30,7 +30,7 @@ fn show_end<O: Sink>(out: &mut O, end: &End) -> Result<(), Failed>
 
 /// Makes a run that is prepared, and writes all that is due of it, up to the first call that fails.
 fn record_stored<S: Shelf, O: Sink>(
-    prepared: Prepared,
+    prepared: PreparedStore,
     store: &StoreRequest<'_>,
     shelf: &mut S,
     out: &mut O,
@@ -43,7 +43,7 @@ fn record_stored<S: Shelf, O: Sink>(
         (randomness_of store.now.randomness) prepared
         (outside S.Shelf O.Sink shelf.old out.old) (outside S.Shelf O.Sink shelf.new out.new) result }
 {
-    let Prepared { machine, mut left } = prepared;
+    let PreparedStore { machine, mut left } = prepared;
     let files = &store.files;
     if shelf.begin(files.record_name).is_err() {
         return Status::WriteFault;

@@ -6,7 +6,7 @@ ghost use Rattle.command_words.specs.Request.{names_of};
 ghost use Rattle.command_parts.specs.Outside.{files as files_of};
 ghost use Rattle.store_command.specs.Writing.{LeavesFiles, WritesFiles};
 
-use crate::prepare::Left;
+use crate::prepare::ForStoring;
 use cloak_base::{Failed, Stop};
 use command_parts::write_file;
 use command_words::StoreFiles;
@@ -18,7 +18,7 @@ fn write_files<S: Shelf>(
     shelf: &mut S,
     files: &StoreFiles<'_>,
     counter: u64,
-    left: &mut Left,
+    left: &mut ForStoring,
 ) -> Result<(), Failed>
     requires apart { files.now.new_name.now ≢ files.now.next_name.now }
     requires room { largest_store ≤ length left.old.room.items }
@@ -36,7 +36,7 @@ pub(crate) fn leave_files<S: Shelf>(
     shelf: &mut S,
     files: &StoreFiles<'_>,
     counter: u64,
-    left: &mut Left,
+    left: &mut ForStoring,
 ) -> Result<(), Failed>
     requires apart { files.now.new_name.now ≢ files.now.next_name.now }
     requires room { largest_store ≤ length left.old.room.items }

@@ -20,14 +20,14 @@ use std::alloc::Global;
 
 /// A machine before its first step, with all memory that the command needs until its end.
 #[derive(Drop)]
-pub(crate) struct Prepared {
+pub(crate) struct PreparedStore {
     pub machine: Machine,
-    pub left: Left,
+    pub left: ForStoring,
 }
 
 /// What the files of the end are made of.
 #[derive(Drop)]
-pub(crate) struct Left {
+pub(crate) struct ForStoring {
     /// The key for the code of the store file.
     pub mac: [u8; 16],
     /// What the files hold: empty until the end.
@@ -107,7 +107,7 @@ pub(crate) fn prepare_stored<S: Shelf>(
     alloc: Global,
     store: &StoreRequest<'_>,
     shelf: &mut S,
-) -> Result<Prepared, Refusal>
+) -> Result<PreparedStore, Refusal>
     requires settled { S.is_settled shelf.old }
     requires reading { S.reading_faults shelf.old < 2 ^ 64 - 1 }
     ensures prepares { PreparesStored (names_of store.now.files) store.now.counter store.now.steps
@@ -152,7 +152,7 @@ pub(crate) fn prepare_stored<S: Shelf>(
         Err(fault) => return Err(refusal_of(fault)),
     };
     table.clear();
-    let left = Left {
+    let left = ForStoring {
         mac: secret.mac,
         table,
         room,
@@ -160,5 +160,5 @@ pub(crate) fn prepare_stored<S: Shelf>(
         disk_from,
         disk_end,
     };
-    Ok(Prepared { machine, left })
+    Ok(PreparedStore { machine, left })
 }

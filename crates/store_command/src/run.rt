@@ -10,12 +10,12 @@ ghost use Rattle.cloak_machine.specs.Standing.{StandsForMoment, steps_made};
 ghost use Rattle.run_command.specs.Outlet.{Gave};
 ghost use Rattle.run_command.specs.Running.{NoClash};
 ghost use Rattle.command_parts.specs.Outside.{outside};
-ghost use Rattle.store_command.specs.Preparing.{CanEnd, IsOpened};
+ghost use Rattle.store_command.specs.Preparing.{CanEnd, OpensRun};
 ghost use Rattle.store_command.specs.Writing.{EndsUnless, Finishes, KeepsRoom, RecordsFirst, WritesFirst, WritesSome};
 
-use crate::prepare::Left;
+use crate::prepare::ForStoring;
 use cloak_base::Stop;
-use cloak_machine::{End, Machine};
+use cloak_machine::{Machine, RunEnd};
 use exchange_log::LONGEST;
 use io_traits::{Shelf, Sink};
 use run_command::{Outlet, RecordPen, write_steps};
@@ -25,8 +25,8 @@ fn finish<S: Shelf, O: Sink>(
     machine: Machine,
     stop: Stop,
     outlet: &mut Outlet<'_, '_, '_, S, O>,
-    left: &mut Left,
-) -> End
+    left: &mut ForStoring,
+) -> RunEnd
     requires left { CanEnd left.old }
     ensures room { KeepsRoom left.old left.new }
     ensures emits_some { EmitsSome (Gave S.Shelf O.Sink) outlet.old outlet.new }
@@ -48,8 +48,8 @@ fn write_first<S: Shelf, O: Sink>(
     machine: Machine,
     steps: u32,
     outlet: &mut Outlet<'_, '_, '_, S, O>,
-    left: &mut Left,
-) -> Option<End>
+    left: &mut ForStoring,
+) -> Option<RunEnd>
     requires fresh { steps_made machine ≡ 0 }
     requires few { steps ≤ most_steps }
     requires left { CanEnd left.old }
@@ -58,7 +58,7 @@ fn write_first<S: Shelf, O: Sink>(
     ensures room { KeepsRoom left.old left.new }
     ensures emits_some { EmitsSome (Gave S.Shelf O.Sink) outlet.old outlet.new }
     ensures ends { EndsUnless outlet.new.pen.failed result }
-    ensures writes { (b : Bundle) (from : Beginning) (o : Opened) → IsOpened machine left.old b from o →
+    ensures writes { (b : Bundle) (from : Beginning) (o : Opened) → OpensRun machine left.old b from o →
         NoClash (run_of b steps o) →
         WritesFirst (Gave S.Shelf O.Sink) outlet.old outlet.new left.old left.new result (run_of b steps o) }
 {
@@ -81,8 +81,8 @@ pub(crate) fn record_first<S: Shelf, O: Sink>(
     name: &str,
     shelf: &mut S,
     out: &mut O,
-    left: &mut Left,
-) -> Option<End>
+    left: &mut ForStoring,
+) -> Option<RunEnd>
     requires begun { S.is_last shelf.old name.now }
     requires fresh { steps_made machine ≡ 0 }
     requires few { steps ≤ most_steps }
@@ -90,7 +90,7 @@ pub(crate) fn record_first<S: Shelf, O: Sink>(
     ensures room { KeepsRoom left.old left.new }
     ensures some { WritesSome name.now result
         (outside S.Shelf O.Sink shelf.old out.old) (outside S.Shelf O.Sink shelf.new out.new) }
-    ensures records { (b : Bundle) (from : Beginning) (o : Opened) → IsOpened machine left.old b from o →
+    ensures records { (b : Bundle) (from : Beginning) (o : Opened) → OpensRun machine left.old b from o →
         NoClash (run_of b steps o) →
         RecordsFirst name.now (outside S.Shelf O.Sink shelf.old out.old) (outside S.Shelf O.Sink shelf.new out.new)
         left.old left.new result (run_of b steps o) }

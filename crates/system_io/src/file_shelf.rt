@@ -4,10 +4,10 @@ ghost use Rattle.io_traits.specs.Told.{Counts, SameFiles, Tells, OtherFiles};
 ghost use Rattle.system_io.specs.Disks.{Extends};
 ghost use Rattle.system_io.specs.Files.{IsOpen, SameCounts, SameFile, held_in};
 
-use crate::disk::{Disk, write_front};
+use crate::file_system::{FileSystem, write_front};
 use crate::gathered::Gathered;
 use crate::named_file::NamedFile;
-use crate::reader::Reader;
+use crate::reader::FileReader;
 use cloak_base::{Failed, NoMemory};
 use io_traits::Shelf;
 use std::alloc::Global;
@@ -23,16 +23,16 @@ use std::marker::Model;
 /// The one file that is being read stays open, and is read up to 64 KiB ahead. What was read ahead is forgotten
 /// when another file is read, and at each `begin` and `append`.
 #[derive(Drop)]
-pub struct FileShelf<D: Disk + Drop> {
+pub struct FileShelf<D: FileSystem + Drop> {
     disk: D,
     writing: NamedFile<D::File>,
     gathered: Gathered,
-    reader: Reader<D::File>,
+    reader: FileReader<D::File>,
     reading_faults: u64,
     writing_faults: u64,
 }
 
-impl<D: Disk + Drop> Model for FileShelf<D> {
+impl<D: FileSystem + Drop> Model for FileShelf<D> {
     ghost use Rattle.std.specs.Prelude.{is_some, string_bytes};
     ghost use Rattle.system_io.specs.Files.{ShelfState, IsSound};
 
@@ -52,7 +52,7 @@ impl<D: Disk + Drop> Model for FileShelf<D> {
         s.gathered s.reader };
 }
 
-impl<D: Disk + Drop> FileShelf<D> {
+impl<D: FileSystem + Drop> FileShelf<D> {
     /// A shelf with no fault yet.
     pub fn open(alloc: Global, disk: D) -> Result<FileShelf<D>, NoMemory>
         ensures reading { IfOk result (λ shelf. shelf.reading ≡ 0) }
@@ -62,7 +62,7 @@ impl<D: Disk + Drop> FileShelf<D> {
     {
         let writing = NamedFile::none(alloc)?;
         let gathered = Gathered::open(alloc)?;
-        let reader = Reader::none(alloc)?;
+        let reader = FileReader::none(alloc)?;
         Ok(FileShelf {
             disk,
             writing,
@@ -226,7 +226,7 @@ impl<D: Disk + Drop> FileShelf<D> {
     }
 }
 
-impl<D: Disk + Drop> Shelf for FileShelf<D> {
+impl<D: FileSystem + Drop> Shelf for FileShelf<D> {
     ghost held = { held_in D.told };
 
     ghost reading_faults = { λ s. s.reading };

@@ -1,5 +1,5 @@
 //! Small pieces are gathered before they are written out.
-ghost use Rattle.std.specs.Prelude.{◌≡◌, ◌≤◌, ◌+◌, ◌-◌, ◌++◌, ◌↔◌, [], length, take, drop, IsTrue, IfOk, false};
+ghost use Rattle.std.specs.Prelude.{◌≡◌, ◌≤◌, ◌+◌, ◌-◌, ◌++◌, ◌∷◌, ◌<◌, ◌↔◌, [], length, take, drop, IsTrue, IfOk, false};
 
 use cloak_base::NoMemory;
 use std::alloc::Global;
@@ -104,9 +104,41 @@ impl Gathered {
     }
 }
 
+/// Puts one byte after the first `at`.
+#[inline(always)]
+fn put_byte(room: &mut [u8], at: usize, byte: u8)
+    requires { at < length room.old }
+    ensures put { take (at + 1) room.new ≡ take at room.old ++ byte ∷ [] }
+    ensures same_room { length room.new ≡ length room.old }
+{
+    room[at] = byte;
+}
+
+/// Puts two bytes after the first `at`.
+#[inline(always)]
+fn put_two(room: &mut [u8], at: usize, a: u8, b: u8)
+    requires { at + 2 ≤ length room.old }
+    ensures put { take (at + 2) room.new ≡ take at room.old ++ a ∷ b ∷ [] }
+    ensures same_room { length room.new ≡ length room.old }
+{
+    put_byte(room, at, a);
+    put_byte(room, at + 1, b);
+}
+
+/// Puts four bytes after the first `at`.
+#[inline(always)]
+fn put_four(room: &mut [u8], at: usize, a: u8, b: u8, c: u8, d: u8)
+    requires { at + 4 ≤ length room.old }
+    ensures put { take (at + 4) room.new ≡ take at room.old ++ a ∷ b ∷ c ∷ d ∷ [] }
+    ensures same_room { length room.new ≡ length room.old }
+{
+    put_two(room, at, a, b);
+    put_two(room, at + 2, c, d);
+}
+
 /// Puts these bytes after the first `at`, and returns where they end.
 #[inline(always)]
-fn put_after(room: &mut [u8], at: usize, bytes: &[u8]) -> usize
+fn put_all_after(room: &mut [u8], at: usize, bytes: &[u8]) -> usize
     requires { at + length bytes.now ≤ length room.old }
     ensures end { result ≡ at + length bytes.now }
     ensures put { take result room.new ≡ take at room.old ++ bytes.now }
@@ -115,4 +147,32 @@ fn put_after(room: &mut [u8], at: usize, bytes: &[u8]) -> usize
     let end = at + bytes.len();
     room[at..end].copy_from_slice(bytes);
     end
+}
+
+/// The same. The bytes of a marker and of the most frequent answers are stored one by one: if the compiler knows how
+/// many they are, it makes one or two stores of that.
+#[inline(always)]
+fn put_after(room: &mut [u8], at: usize, bytes: &[u8]) -> usize
+    requires { at + length bytes.now ≤ length room.old }
+    ensures end { result ≡ at + length bytes.now }
+    ensures put { take result room.new ≡ take at room.old ++ bytes.now }
+    ensures same_room { length room.new ≡ length room.old }
+{
+    match *bytes {
+        [a, b] => {
+            put_two(room, at, a, b);
+            at + 2
+        }
+        [a, b, c, d, e] => {
+            put_byte(room, at, a);
+            put_four(room, at + 1, b, c, d, e);
+            at + 5
+        }
+        [a, b, c, d, e, f] => {
+            put_two(room, at, a, b);
+            put_four(room, at + 2, c, d, e, f);
+            at + 6
+        }
+        _ => put_all_after(room, at, bytes),
+    }
 }

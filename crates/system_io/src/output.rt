@@ -35,17 +35,17 @@ pub fn write_front<O: Output>(out: &mut O, piece: &[u8]) -> usize
 /// What prints, as an output. It tells no bytes, so nothing is proved of what it shows: that a call of the system
 /// writes what it returns is trusted.
 #[derive(Drop)]
-pub struct Console<P: Print + Drop> {
+pub struct SystemConsole<P: Print + Drop> {
     print: P,
 }
 
-impl<P: Print + Drop> Console<P> {
-    pub fn new(print: P) -> Console<P> {
-        Console { print }
+impl<P: Print + Drop> SystemConsole<P> {
+    pub fn new(print: P) -> SystemConsole<P> {
+        SystemConsole { print }
     }
 }
 
-impl<P: Print + Drop> Output for Console<P> {
+impl<P: Print + Drop> Output for SystemConsole<P> {
     ghost shown = { λ _. None };
 
     fn write(&mut self, piece: &[u8]) -> Result<usize, Failed> {

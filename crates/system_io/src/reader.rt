@@ -4,7 +4,7 @@ ghost use Rattle.std.specs.Prelude.{length, IfOk, IfSome, OnOk, false, Some};
 ghost use Rattle.io_traits.specs.Told.{IsCopied, Tells};
 ghost use Rattle.system_io.specs.Files.{IsReading, IsFilled};
 
-use crate::disk::Disk;
+use crate::file_system::FileSystem;
 use crate::named_file::NamedFile;
 use cloak_base::{Failed, NoMemory};
 use io_traits::copy_from;
@@ -20,7 +20,7 @@ const KEPT: usize = 8192;
 
 /// Reads one file at a time, which stays open. Small pieces that follow one another come from one window.
 #[derive(Drop)]
-pub struct Reader<F: Drop> {
+pub struct FileReader<F: Drop> {
     source: NamedFile<F>,
     /// Where the next read of the file begins.
     position: u64,
@@ -30,7 +30,7 @@ pub struct Reader<F: Drop> {
     filled: usize,
 }
 
-impl<F: Drop> Model for Reader<F> {
+impl<F: Drop> Model for FileReader<F> {
     ghost use Rattle.std.specs.Prelude.{◌≤◌, ◌≡◌, take, vec_len, string_bytes};
     ghost use Rattle.system_io.specs.Files.{ReaderState};
 
@@ -47,14 +47,14 @@ impl<F: Drop> Model for Reader<F> {
     ghost invariant = { λ s. (s.filled ≤ vec_len s.window) × (vec_len s.window ≡ 65536) };
 }
 
-impl<F: Drop> Reader<F> {
+impl<F: Drop> FileReader<F> {
     /// No file is open yet. All memory that is needed is taken here.
-    pub fn none(alloc: Global) -> Result<Reader<F>, NoMemory>
+    pub fn none(alloc: Global) -> Result<FileReader<F>, NoMemory>
         ensures { IfOk result (λ reader. IsNone reader.source) }
     {
         let source = NamedFile::none(alloc)?;
         let window = vec![in alloc; 0; WINDOW]?;
-        Ok(Reader {
+        Ok(FileReader {
             source,
             position: 0,
             window,
@@ -104,7 +104,7 @@ impl<F: Drop> Reader<F> {
 
     /// Copies bytes of the file of a name from an offset on, and returns how many: none only at the end, or for an empty
     /// piece. A file that is not there is empty.
-    pub fn read<D: Disk<File = F>>(
+    pub fn read<D: FileSystem<File = F>>(
         &mut self,
         disk: &D,
         name: &str,
@@ -125,7 +125,7 @@ impl<F: Drop> Reader<F> {
     }
 
     /// Opens the file of a name, if it is not the one that is open, and says whether it is there.
-    fn turn_to<D: Disk<File = F>>(&mut self, disk: &D, name: &str) -> Result<bool, Failed>
+    fn turn_to<D: FileSystem<File = F>>(&mut self, disk: &D, name: &str) -> Result<bool, Failed>
         requires { IsReading (D.told disk.now) D.is_of D.is_at self.old }
         ensures open { IfOk result (λ is_there. IsTrue is_there → IsSome self.new.source) }
         ensures name { IfOk result (λ is_there. IsTrue is_there → self.new.name ≡ name.now) }
@@ -146,7 +146,7 @@ impl<F: Drop> Reader<F> {
 
     /// Copies bytes of the open file from an offset on, and returns how many: none only at the end, or for an empty
     /// piece. After a failure no file is open.
-    fn read_at<D: Disk<File = F>>(
+    fn read_at<D: FileSystem<File = F>>(
         &mut self,
         disk: &D,
         at: u64,
@@ -185,7 +185,7 @@ impl<F: Drop> Reader<F> {
     }
 
     /// Reads from an offset on: a long piece straight, and a short one by way of the window.
-    fn read_on<D: Disk<File = F>>(
+    fn read_on<D: FileSystem<File = F>>(
         &mut self,
         disk: &D,
         at: u64,
@@ -208,7 +208,7 @@ impl<F: Drop> Reader<F> {
     }
 
     /// Moves the open file to an offset.
-    fn go_to<D: Disk<File = F>>(&mut self, disk: &D, at: u64) -> Result<(), Failed>
+    fn go_to<D: FileSystem<File = F>>(&mut self, disk: &D, at: u64) -> Result<(), Failed>
         requires reads { IsReading (D.told disk.now) D.is_of D.is_at self.old }
         ensures moved { OnOk result (self.new.position ≡ at) }
         ensures open { OnOk result (IsSome self.new.source) }
@@ -226,7 +226,7 @@ impl<F: Drop> Reader<F> {
     }
 
     /// Reads from the place of the open file, and not by way of the window.
-    fn read_straight<D: Disk<File = F>>(
+    fn read_straight<D: FileSystem<File = F>>(
         &mut self,
         disk: &D,
         into: &mut [u8],
@@ -247,7 +247,7 @@ impl<F: Drop> Reader<F> {
     }
 
     /// Fills the window from the place of the open file on. It has no byte from there on only if the file ends there.
-    fn read_ahead<D: Disk<File = F>>(&mut self, disk: &D) -> Result<(), Failed>
+    fn read_ahead<D: FileSystem<File = F>>(&mut self, disk: &D) -> Result<(), Failed>
         requires near { self.old.position < 2 ^ 63 }
         requires reads { IsReading (D.told disk.now) D.is_of D.is_at self.old }
         ensures before { OnOk result (self.new.start ≤ self.old.position) }
@@ -303,7 +303,7 @@ fn keep_last(window: &mut [u8], filled: usize) -> usize
 }
 
 /// Reads bytes of an open file into a window after its first `kept` bytes, and returns how many.
-fn fill<D: Disk>(
+fn fill<D: FileSystem>(
     disk: &D,
     file: &mut D::File,
     window: &mut [u8],

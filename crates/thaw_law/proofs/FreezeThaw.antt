@@ -13,7 +13,7 @@ use Rattle.cloak_model.specs.Report.{report, number_line}
 use Rattle.cloak_model.specs.Run.{Run, turns_from, joint_after, last_stop, turns_pieces, closing, cause_of, first_moment, run_of, run_of_turns, due, record_bytes, report_of}
 use Rattle.record_law.proofs.Writing.{writes_its_record}
 use Rattle.frozen_state.specs.Continuing.{first_turns, IsFrozenAfter, first_pieces, without_past, next_moment, run_on, pieces_after, report_after, due_after}
-use Rattle.thaw_law.specs.Past.{Loads, with_loads, with_past, turn_with_past, closed_with_past, loads_of}
+use Rattle.thaw_law.specs.Past.{PastLoads, with_loads, with_past, turn_with_past, closed_with_past, loads_of}
 use Rattle.thaw_law.specs.FreezeThaw.{IsFirstAndRest, RunsAreFirstAndRest, StoppedRunsAreWhole}
 use Rattle.thaw_law.proofs.Pieces.{recorded-append, shown-append, recorded-last, shown-last}
 use Rattle.thaw_law.proofs.Runs.{is_after, joint_after_past, last_stop_after, turns_restored, restored, closing_keeps_past}
@@ -35,7 +35,7 @@ joined o first before rest = record {
 
 -- What is read off it.
 
-same_controls : (loads : List Loads) (domains : List Domain) →
+same_controls : (loads : List PastLoads) (domains : List Domain) →
     map (λ (d : Domain). d.control) (with_loads loads domains) ≡ map (λ (d : Domain). d.control) domains
 same_controls [] domains = refl
 same_controls (past ∷ loads) [] = refl

@@ -15,26 +15,26 @@ use Rattle.cloak_model.specs.DomainStep.{DomainStepped, instruction_ended, copy_
 use Rattle.cloak_model.specs.Hypercalls.{Stepped, stays_inside}
 use Rattle.cloak_model.specs.InsideStep.{instruction_inside}
 use Rattle.cloak_model.specs.World.{World}
-use Rattle.thaw_law.specs.Past.{Loads, with_loads_before, with_loads}
+use Rattle.thaw_law.specs.Past.{PastLoads, with_loads_before, with_loads}
 
 -- Programs by their numbers.
 
 -- the past of a program
-abbrev pub past_at : List Loads → ℕ → Loads
+abbrev pub past_at : List PastLoads → ℕ → PastLoads
 past_at loads d = slice_index_or loads d []
 
 no_past : (found : Option Domain) → found ≡ option_map (with_loads_before []) found
 no_past None = refl
 no_past (Some d) = refl
 
-pub get_with_loads : (loads : List Loads) (domains : List Domain) (d : ℕ) →
+pub get_with_loads : (loads : List PastLoads) (domains : List Domain) (d : ℕ) →
     slice_get (with_loads loads domains) d ≡ option_map (with_loads_before (past_at loads d)) (slice_get domains d)
 get_with_loads [] domains d = no_past (slice_get domains d)
 get_with_loads (past ∷ loads) [] d = refl
 get_with_loads (past ∷ loads) (x ∷ domains) zero = refl
 get_with_loads (past ∷ loads) (x ∷ domains) (suc d) = get_with_loads loads domains d
 
-pub set_with_loads : (loads : List Loads) (domains : List Domain) (d : ℕ) (x : Domain) →
+pub set_with_loads : (loads : List PastLoads) (domains : List Domain) (d : ℕ) (x : Domain) →
     slice_set (with_loads loads domains) d (with_loads_before (past_at loads d) x)
     ≡ with_loads loads (slice_set domains d x)
 set_with_loads [] domains d x = refl
@@ -45,20 +45,20 @@ set_with_loads (past ∷ loads) (y ∷ domains) (suc d) x =
 
 -- A step of a program.
 
-abbrev stepped_after : Loads → DomainStepped → DomainStepped
+abbrev stepped_after : PastLoads → DomainStepped → DomainStepped
 stepped_after past s = record s { domain = with_loads_before past s.domain }
 
-abbrev pub told_after : Loads → Told DomainStepped → Told DomainStepped
+abbrev pub told_after : PastLoads → Told DomainStepped → Told DomainStepped
 told_after past told = record told { answer = stepped_after past told.answer }
 
 -- a step that completed a load
-abbrev loaded : Stepped → World → Loads → Told DomainStepped
+abbrev loaded : Stepped → World → PastLoads → Told DomainStepped
 loaded step w loads = record {
   answer = record { domain = record { control = step.control; loads = loads }; went = step.went };
   world = w;
 }
 
-module _ (past : Loads) (slot : ℕ) where
+module _ (past : PastLoads) (slot : ℕ) where
   ended_after : (d : Domain) (c : Context) (how : Ran) (w : World) →
       instruction_ended slot (with_loads_before past d) c how w
       ≡ told_after past (instruction_ended slot d c how w)
@@ -81,7 +81,7 @@ module _ (past : Loads) (slot : ℕ) where
   copied_after d c copied.Refused = refl
   copied_after d c (copied.Loaded address byte) =
       let step = stays_inside slot c d.control in
-      ap (λ (loads : Loads). let s : DomainStepped =
+      ap (λ (loads : PastLoads). let s : DomainStepped =
       record { domain = record { control = step.control; loads = loads }; went = step.went } in s)
       (append_assoc past d.loads ((address, byte) ∷ []))
 

@@ -7,14 +7,14 @@ use Rattle.cloak_model.specs.Joint.{Moment, Turn, joint_step, after_turn, stop_o
 use Rattle.cloak_model.specs.Parts.{Joint}
 use Rattle.cloak_model.specs.Run.{unless_stopped, turns_from, joint_after, last_stop, turn_pieces, turns_pieces, closing}
 use Rattle.frozen_state.specs.Continuing.{without_loads, without_past}
-use Rattle.thaw_law.specs.Past.{Loads, with_loads, with_past, moment_with_past, turn_with_past, moment_without_past, loads_of, IsAfter, StepsKeepPast, RunsKeepPast, ClosingKeepsPast, RunsNeedNoPast}
+use Rattle.thaw_law.specs.Past.{PastLoads, with_loads, with_past, moment_with_past, turn_with_past, moment_without_past, loads_of, IsAfter, StepsKeepPast, RunsKeepPast, ClosingKeepsPast, RunsNeedNoPast}
 use Rattle.thaw_law.proofs.Programs.{get_with_loads}
 use Rattle.thaw_law.proofs.Steps.{step_after}
 
 pub steps_keep_past : StepsKeepPast
 steps_keep_past console loads m = step_after console loads m
 
-module _ (console : List ℕ) (loads : List Loads) where
+module _ (console : List ℕ) (loads : List PastLoads) where
   abbrev moment_after_past : Moment → Moment
   moment_after_past m = moment_with_past console loads m
 
@@ -78,7 +78,7 @@ pub restored : (j : Joint) → with_past j.console (loads_of j) (without_past j)
 restored j i = record j { console = append-nil j.console i; domains = domains_restored j.domains i }
 
 -- what does not see the past is told of each step as it was
-told_alike : {A : Type 0} (f : Turn → A) (console : List ℕ) (loads : List Loads) →
+told_alike : {A : Type 0} (f : Turn → A) (console : List ℕ) (loads : List PastLoads) →
     ((t : Turn) → f (turn_with_past console loads t) ≡ f t) → (turns : List Turn) →
     map f (map (turn_with_past console loads) turns) ≡ map f turns
 told_alike f console loads same [] = refl

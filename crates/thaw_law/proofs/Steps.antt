@@ -21,10 +21,10 @@ use Rattle.cloak_model.specs.KernelStep.{ticked}
 use Rattle.cloak_model.specs.Parts.{Joint}
 use Rattle.cloak_model.specs.Resuming.{AfterResume, with_roots, by_root, by_context, by_domain, resume}
 use Rattle.cloak_model.specs.World.{World, Cloaked, items_of}
-use Rattle.thaw_law.specs.Past.{Loads, with_loads_before, with_past, moment_with_past, turn_with_past}
+use Rattle.thaw_law.specs.Past.{PastLoads, with_loads_before, with_past, moment_with_past, turn_with_past}
 use Rattle.thaw_law.proofs.Programs.{past_at, get_with_loads, set_with_loads, told_after, domain_step_after}
 
-module _ (console : List ℕ) (loads : List Loads) where
+module _ (console : List ℕ) (loads : List PastLoads) where
   abbrev after : Joint → Joint
   after j = with_past console loads j
 

@@ -11,51 +11,51 @@ use Rattle.frozen_state.specs.Continuing.{without_past}
 -- A past put before.
 
 -- address and value of each
-abbrev pub Loads : Type 0
-Loads = List (ℕ × ℕ)
+abbrev pub PastLoads : Type 0
+PastLoads = List (ℕ × ℕ)
 
 -- a program that had completed these loads before its own
-abbrev pub with_loads_before : Loads → Domain → Domain
+abbrev pub with_loads_before : PastLoads → Domain → Domain
 with_loads_before loads d = record d { loads = loads ++ d.loads }
 
 -- The same of each program by its number. A program beyond the end of the list has no past.
-abbrev pub with_loads : List Loads → List Domain → List Domain
+abbrev pub with_loads : List PastLoads → List Domain → List Domain
 with_loads [] domains = domains
 with_loads (past ∷ more) [] = []
 with_loads (past ∷ more) (d ∷ domains) = with_loads_before past d ∷ with_loads more domains
 
 -- The past is put before: on the console, and of each program before its loads.
-abbrev pub with_past : List ℕ → List Loads → Joint → Joint
+abbrev pub with_past : List ℕ → List PastLoads → Joint → Joint
 with_past console loads j =
     record j { console = console ++ j.console; domains = with_loads loads j.domains }
 
-abbrev pub moment_with_past : List ℕ → List Loads → Moment → Moment
+abbrev pub moment_with_past : List ℕ → List PastLoads → Moment → Moment
 moment_with_past console loads m = record m { joint = with_past console loads m.joint }
 
 -- Items, the console's byte, violation and halt of the step stay.
-abbrev pub turn_with_past : List ℕ → List Loads → Turn → Turn
+abbrev pub turn_with_past : List ℕ → List PastLoads → Turn → Turn
 turn_with_past console loads t = record t { joint = with_past console loads t.joint }
 
 -- The items of the closing stay.
-abbrev pub closed_with_past : List ℕ → List Loads → Opened → Opened
+abbrev pub closed_with_past : List ℕ → List PastLoads → Opened → Opened
 closed_with_past console loads o = record o { joint = with_past console loads o.joint }
 
 -- The law: whatever the past is, it stays before what is made, and what is made does not depend on it.
 
 abbrev pub StepsKeepPast : Type 0
 StepsKeepPast =
-    (console : List ℕ) (loads : List Loads) (m : Moment) →
+    (console : List ℕ) (loads : List PastLoads) (m : Moment) →
     joint_step (moment_with_past console loads m) ≡ turn_with_past console loads (joint_step m)
 
 -- of at most n steps
 abbrev pub RunsKeepPast : Type 0
 RunsKeepPast =
-    (console : List ℕ) (loads : List Loads) (n : ℕ) (m : Moment) →
+    (console : List ℕ) (loads : List PastLoads) (n : ℕ) (m : Moment) →
     turns_from n (moment_with_past console loads m) ≡ map (turn_with_past console loads) (turns_from n m)
 
 abbrev pub ClosingKeepsPast : Type 0
 ClosingKeepsPast =
-    (console : List ℕ) (loads : List Loads) (j : Joint) →
+    (console : List ℕ) (loads : List PastLoads) (j : Joint) →
     closing (with_past console loads j) ≡ closed_with_past console loads (closing j)
 
 -- Without the past.
@@ -64,7 +64,7 @@ abbrev pub moment_without_past : Moment → Moment
 moment_without_past m = record m { joint = without_past m.joint }
 
 -- the loads of each program
-abbrev pub loads_of : Joint → List Loads
+abbrev pub loads_of : Joint → List PastLoads
 loads_of j = map (λ (d : Domain). d.loads) j.domains
 
 -- A machine has the past of one machine, and then what a second one has: console and loads of the first, followed by

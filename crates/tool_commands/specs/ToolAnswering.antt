@@ -8,12 +8,16 @@ use Rattle.record_text.specs.Reading.{never_unfit, record_text}
 use Rattle.record_text.specs.declared.selection.Selection.{Selection}
 use Rattle.read_back.specs.Reading.{ShowsRecord}
 use Rattle.run_story.specs.Answering.{ExplainAnswers}
+use Rattle.rv_asm.specs.Words.{magnitude}
+use Rattle.disassembly.specs.Disassembling.{DisasmAnswers}
+use Rattle.run_trace.specs.Answering.{TraceAnswers}
+use Rattle.run_trace.specs.declared.choice.TraceChoice.{TraceChoice}
 use Rattle.command_parts.specs.Outside.{Outside}
 use Rattle.command_parts.specs.Refusing.{Refuses}
 use Rattle.command_parts.specs.declared.refusal.Refusal.TheVariants as refusal
 use Rattle.command_parts.specs.declared.status.Status.{Status}
 use Rattle.command_parts.specs.declared.status.Status.TheVariants as status
-use Rattle.tool_words.specs.ToolCommand.{ToolAsked, Asm, Pack, Show, Explain, AreFaulty, AreNotTaken, AsksTool}
+use Rattle.tool_words.specs.ToolCommand.{ToolAsked, Asm, Disasm, Pack, Show, Trace, Explain, AreFaulty, AreNotTaken, AsksTool}
 use Rattle.tool_words.specs.ToolRequest.{tool_asked_of}
 use Rattle.tool_words.specs.declared.request.ToolWords.{ToolWords}
 use Rattle.tool_words.specs.declared.request.ToolWords.TheVariants.{Asks, Help, Faulty}
@@ -34,6 +38,29 @@ abbrev pub ShowAnswers : {S O : Type 0} → Option Selection → List ℕ → Ou
 ShowAnswers None record_name before after answer = Says kinds_line status.Usage before after answer
 ShowAnswers (Some meant) record_name before after answer = ShowsSelection meant record_name before after answer
 
+-- the address that is meant: 0 without an option, or what the text is as a number of the assembler
+abbrev pub base_asked : Option (List ℕ) → Option ℕ
+base_asked None = Some 0
+base_asked (Some text) = magnitude text
+
+-- the text is no address
+abbrev pub base_line : List ℕ
+base_line = codes "error: --base is no address\n"
+
+abbrev pub DisasmFrom : {S O : Type 0} → Option ℕ → List ℕ → Outside S O → Outside S O → Status → Type 0
+DisasmFrom None words_name before after answer = Says base_line status.Usage before after answer
+DisasmFrom (Some base) words_name before after answer = DisasmAnswers base words_name before after answer
+
+-- The steps of the run of the record of this name were shown, or why that cannot be, and no file was changed.
+pub record TracesRun {S O : Type 0} (bundle_name record_name : List ℕ) (choice : TraceChoice) (before after : Outside S O)
+    (answer : Status) : Type 0 where
+  pub answers : TraceAnswers bundle_name record_name choice before after answer
+  pub kept : SameFiles before.files.held after.files.held
+  pub writing : after.files.writing ≡ before.files.writing
+
+abbrev pub choice_asked : (from to : ℕ) → (hart : Option ℕ) → TraceChoice
+choice_asked from to hart = record { from = from; to = to; hart = hart }
+
 -- The violations of the run of the record of this name were told, or why that cannot be, and no file was changed.
 pub record ExplainsRun {S O : Type 0} (bundle_name record_name : List ℕ) (before after : Outside S O) (answer : Status) : Type 0 where
   pub answers : ExplainAnswers bundle_name record_name before after answer
@@ -43,9 +70,12 @@ pub record ExplainsRun {S O : Type 0} (bundle_name record_name : List ℕ) (befo
 -- How the tools answer what is asked of them.
 abbrev pub ToolAnswers : {S O : Type 0} → ToolAsked → Outside S O → Outside S O → Status → Type 0
 ToolAnswers (Asm text_name words_name) before after answer = AsmAnswers text_name words_name before after answer
+ToolAnswers (Disasm words_name base) before after answer = DisasmFrom (base_asked base) words_name before after answer
 ToolAnswers (Pack manifest bundle_name) before after answer = PackAnswers manifest bundle_name before after answer
 ToolAnswers (Show record_name from to only counts) before after answer =
     ShowAnswers (selection_asked from to only counts) record_name before after answer
+ToolAnswers (Trace bundle_name record_name from to hart) before after answer =
+    TracesRun bundle_name record_name (choice_asked from to hart) before after answer
 ToolAnswers (Explain bundle_name record_name) before after answer = ExplainsRun bundle_name record_name before after answer
 
 -- how they answer what was read of words

@@ -9,20 +9,20 @@ use std::test::*;
 
 /// What `asm` leaves of the text in a file `a.s`.
 #[derive(Drop)]
-struct Left {
+struct CallResult {
     status: Status,
     shelf: MemoryShelf,
     sink: MemorySink,
 }
 
-fn called(alloc: Global, text: &[u8]) -> Result<Left, Fail> {
+fn called(alloc: Global, text: &[u8]) -> Result<CallResult, Fail> {
     let mut shelf = MemoryShelf::open(alloc, Vec::new(alloc));
     let mut sink = MemorySink::open(alloc, Vec::new(alloc));
     if shelf.add("a.s", text).is_err() {
         return Err(Fail::from("no memory"));
     }
     let status = asm_command(alloc, "a.s", "a.w", &mut shelf, &mut sink);
-    Ok(Left {
+    Ok(CallResult {
         status,
         shelf,
         sink,

@@ -14,3 +14,7 @@ mod manifests;
 mod records;
 #[cfg(test)]
 mod stories;
+#[cfg(test)]
+mod texts;
+#[cfg(test)]
+mod traces;

@@ -9,7 +9,7 @@ use tool_commands::{CommandLine, run_tools};
 
 /// What a line left.
 #[derive(Drop)]
-struct Left {
+struct CallResult {
     status: Status,
     shelf: MemoryShelf,
     sink: MemorySink,
@@ -18,12 +18,20 @@ struct Left {
 /// A record of two steps with nothing in them.
 const RECORD: &[u8] = b"CLOAKREC\x10\x01\0\0\0\x10\x02\0\0\0\x11\x02\0\0\0\x12";
 
+/// ECALL, and a JAL to it.
+const WORDS: &[u8] = b"\x73\0\0\0\x6f\xf0\xdf\xff";
+
 /// Runs the tools with words that are separated by spaces.
-fn called(alloc: Global, line: &str) -> Result<Left, Fail> {
+fn called(alloc: Global, line: &str) -> Result<CallResult, Fail> {
     let mut shelf = MemoryShelf::open(alloc, Vec::new(alloc));
     let mut sink = MemorySink::open(alloc, Vec::new(alloc));
     let manifest = b"[[segment]]\naddress = 0x80000000\ntext = \"k.s\"\n";
-    let files: [(&str, &[u8]); 3] = [("k.s", b"ecall\n"), ("k.toml", manifest), ("a.r", RECORD)];
+    let files: [(&str, &[u8]); 4] = [
+        ("k.s", b"ecall\n"),
+        ("w.w", WORDS),
+        ("k.toml", manifest),
+        ("a.r", RECORD),
+    ];
     for (name, bytes) in files {
         if shelf.add(name, bytes).is_err() {
             return Err(Fail::from("no memory"));
@@ -34,7 +42,7 @@ fn called(alloc: Global, line: &str) -> Result<Left, Fail> {
         words.push(String::from_str(alloc, word)?)?;
     }
     let status = run_tools(alloc, &CommandLine::Taken(words), &mut shelf, &mut sink);
-    Ok(Left {
+    Ok(CallResult {
         status,
         shelf,
         sink,
@@ -67,7 +75,33 @@ fn each_command_does_its_own(rt: HostRuntime) -> Result<(), Fail> {
 }
 
 /// Words, the status, and what the output begins with.
-static LINES: [(&str, Status, &str); 5] = [
+static LINES: [(&str, Status, &str); 11] = [
+    (
+        "tools disasm w.w",
+        Status::Done,
+        "L00000000:\n    ecall\n    jal x0, L00000000\n",
+    ),
+    (
+        "tools disasm w.w --base 0x80000000",
+        Status::Done,
+        "L80000000:\n    ecall\n    jal x0, L80000000\n",
+    ),
+    (
+        "tools disasm w.w --base 4294967289",
+        Status::BadBundle,
+        "w.w: the words go past the last address\n",
+    ),
+    (
+        "tools disasm w.w --base w",
+        Status::Usage,
+        "error: --base is no address\n",
+    ),
+    (
+        "tools disasm k.s",
+        Status::BadBundle,
+        "k.s: the file ends within a word\n",
+    ),
+    ("tools trace k.b a.r --hart x", Status::Usage, "error: "),
     ("tools show a.r --from 1 --to 1", Status::Done, "step 1\n"),
     ("tools show a.r --only leave,put", Status::Done, ""),
     ("tools show a.r --only leaves", Status::Usage, "error: "),

@@ -9,14 +9,14 @@ use std::test::*;
 
 /// What `pack` leaves of a manifest: its status, the number of the bundle's bytes, and what is shown.
 #[derive(Drop)]
-struct Left {
+struct CallResult {
     status: Status,
     length: usize,
     shown: String,
 }
 
 /// Packs a manifest in a folder, beside the files `k.s` and `p.bin`.
-fn packed(alloc: Global, manifest: &str) -> Result<Left, Fail> {
+fn packed(alloc: Global, manifest: &str) -> Result<CallResult, Fail> {
     let mut shelf = MemoryShelf::open(alloc, Vec::new(alloc));
     let mut sink = MemorySink::open(alloc, Vec::new(alloc));
     let is_full = shelf.add("in/m.toml", manifest.as_bytes()).is_err()
@@ -27,7 +27,7 @@ fn packed(alloc: Global, manifest: &str) -> Result<Left, Fail> {
     }
     let status = pack_command(alloc, "in/m.toml", "m.b", &mut shelf, &mut sink);
     let shown = std::str::from_utf8(sink.taken()).unwrap_or("no text");
-    Ok(Left {
+    Ok(CallResult {
         status,
         length: shelf.bytes("m.b").len(),
         shown: String::from_str(alloc, shown)?,

@@ -1,7 +1,7 @@
 -- What `clap` says of the tools' command, and what is read of it.
 use Rattle.std.proofs.Common.{◌≡◌, ◌≢◌, ◌^◌, ◌&&◌, ℕ, Bool, true, false, true≢false, List, [], ◌∷◌, length, nat_lt, refl, sym, ap, ap₂}
 use Rattle.std.proofs.Common.{◌∙◌, inl, inr, lt-ltb, ltb-true, Option, Some, None, Result, Ok, Err}
-use Rattle.std.specs.Prelude.{option_map, unwrap_or}
+use Rattle.std.specs.Prelude.{option_and_then, option_map, unwrap_or}
 use Rattle.std.specs.Option.{option_map_or}
 use Rattle.std.specs.Result.{result_unwrap_or}
 use Rattle.std.proofs.lemmas.Option.{same_Some, none-some}
@@ -13,7 +13,7 @@ use Rattle.clap.specs.Walk.{Text}
 use Rattle.clap.specs.declared.error.Error.{Error}
 use Rattle.clap.specs.declared.error.kind.ErrorKind.TheVariants.{OutOfMemory}
 use Rattle.tool_words.specs.ToolForms.{tools_form}
-use Rattle.tool_words.specs.ToolCommand.{ToolAsked, is_step, step_or, tool_asked_by, tool_asked_with}
+use Rattle.tool_words.specs.ToolCommand.{ToolAsked, is_step, number_in, step_or, tool_asked_by, tool_asked_with}
 use Rattle.tool_words.specs.ToolRequest.{ReadsTool, SaysFault}
 use Rattle.tool_words.specs.declared.request.ToolWords.{ToolWords}
 use Rattle.tool_words.specs.declared.request.ToolWords.TheVariants.{Asks, Help, Faulty}
@@ -119,3 +119,30 @@ step_read {E} P (Some t) (Some v) otherwise parses none some =
 step_read {E} P (Some t) None otherwise parses none some =
     let read = some t refl in
     text_read {E = E} t (Err read.0) otherwise (parses t (Err read.0) read.1)
+
+-- The number of a text.
+
+number_ok : (E : Type 0) (text : Text) (n : ℕ) → ParsesUnsigned {E = E} 32 10 text (Ok n) → Some n ≡ number_in text
+number_ok E text n h =
+    let digits = without_leading_plus text in
+    rw (lt-ltb 0 (length digits) h.0.0.0, digits_pass digits h.0.0.1, lt-ltb (digits_value 10 digits) (2 ^ 32) h.0.1)
+    (ap (λ (v : ℕ). Some v) h.1)
+
+number_none : {E : Type 0} (text : Text) (e : E) → ParsesUnsigned 32 10 text (Err e) → None ≡ number_in text
+number_none text e h = go (is_step (without_leading_plus text)) refl
+  where
+    go : (b : Bool) → is_step (without_leading_plus text) ≡ b → None ≡ number_in text
+    go false is = rw is refl
+    go true is =
+        let outer = both _ _ is in
+        let inner = both _ _ outer.1 in
+        absurd (h ((ltb-true _ _ outer.0, digits_from (without_leading_plus text) inner.0), ltb-true _ _ inner.1))
+
+pub number_read : {E : Type 0} (P : Text → Result ℕ E → Type 0) (o : Option Text) (r : Option ℕ) →
+    ((t : Text) (x : Result ℕ E) → P t x → ParsesUnsigned 32 10 t x) → (o ≡ None → r ≡ None) →
+    ((t : Text) → o ≡ Some t → ReadsOne P t r) → r ≡ option_and_then number_in o
+number_read {E} P None r parses none some = none refl
+number_read {E} P (Some t) (Some v) parses none some = number_ok E t v (parses t (Ok v) (some t refl))
+number_read {E} P (Some t) None parses none some =
+    let read = some t refl in
+    number_none {E = E} t read.0 (parses t (Err read.0) read.1)

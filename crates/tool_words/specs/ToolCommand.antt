@@ -1,6 +1,6 @@
 -- What is asked of the tools.
 use Rattle.std.specs.Prelude.{ℕ, ◌≡◌, ◌⊎◌, ◌^◌, ◌-◌, ◌==◌, ◌&&◌, Bool, true, false, List, [], codes, length, nat_lt}
-use Rattle.std.specs.Prelude.{Option, Some, None, option_map, if◌then◌else◌}
+use Rattle.std.specs.Prelude.{Option, Some, None, option_and_then, option_map, if◌then◌else◌}
 use Rattle.std.specs.List.{list_all, slice_split}
 use Rattle.std.specs.Option.{option_map_or}
 use Rattle.std.specs.Char.{digit_value}
@@ -15,10 +15,14 @@ use Rattle.tool_words.specs.ToolForms.{tools_form}
 pub data ToolAsked : Type 0 where
   -- the words of an assembler text, written to a file
   Asm : (text_name words_name : List ℕ) → ToolAsked
+  -- a file of words as assembler text, with an address for the first of them
+  Disasm : (words_name : List ℕ) → (base : Option (List ℕ)) → ToolAsked
   -- the bundle that a manifest means, written to a file
   Pack : (manifest bundle_name : List ℕ) → ToolAsked
   -- the text of a record from one step to another, with the items only of kinds that are named, or how many there are
   Show : (record_name : List ℕ) → (from to : ℕ) → (only : Option (List (List ℕ))) → (counts : Bool) → ToolAsked
+  -- the steps of the run of a bundle that wrote a record, as the kernel makes them, of one hart or all
+  Trace : (bundle record_name : List ℕ) → (from to : ℕ) → (hart : Option ℕ) → ToolAsked
   -- the violations of the run of a bundle that wrote a record
   Explain : (bundle record_name : List ℕ) → ToolAsked
 
@@ -35,6 +39,15 @@ step_or otherwise text =
 -- the step that an option names, or the one that is meant without it
 abbrev pub step_named : (name : List ℕ) → ℕ → List Row → ℕ
 step_named name otherwise rows = option_map_or (step_or otherwise) (one_of name rows) otherwise
+
+-- the number of a text, if it is one of 32 bits
+abbrev pub number_in : List ℕ → Option ℕ
+number_in text =
+    if is_step (without_leading_plus text) then Some (digits_value 10 (without_leading_plus text)) else None
+
+-- the number that an option names, if it is given
+abbrev pub number_named : (name : List ℕ) → List Row → Option ℕ
+number_named name rows = option_and_then number_in (one_of name rows)
 
 -- the flag is given
 abbrev pub is_flagged : (name : List ℕ) → List Row → Bool
@@ -54,12 +67,19 @@ show_asked rows =
     (step_named (codes "to") last_step rows) (option_map names_in (first_of (codes "only") rows))
     (is_flagged (codes "counts") rows)
 
--- What a command asks with the texts that it found. There are no more than these four.
+abbrev pub trace_asked : List Row → ToolAsked
+trace_asked rows =
+    Trace (needed_text (codes "BUNDLE") rows) (needed_text (codes "RECORD") rows) (step_named (codes "from") 0 rows)
+    (step_named (codes "to") last_step rows) (number_named (codes "hart") rows)
+
+-- What a command asks with the texts that it found. There are no more than these six.
 unfoldable pub tool_asked_with : Text → List Row → ToolAsked
 tool_asked_with name rows =
     if is (codes "asm") name then Asm (needed_text (codes "TEXT") rows) (needed_text (codes "OUT") rows) else
+    if is (codes "disasm") name then Disasm (needed_text (codes "FILE") rows) (first_of (codes "base") rows) else
     if is (codes "pack") name then Pack (needed_text (codes "MANIFEST") rows) (needed_text (codes "BUNDLE") rows) else
     if is (codes "show") name then show_asked rows else
+    if is (codes "trace") name then trace_asked rows else
     Explain (needed_text (codes "BUNDLE") rows) (needed_text (codes "RECORD") rows)
 
 -- what the words ask for, of which the first is the program's name

@@ -1,4 +1,4 @@
--- What the tools take as words: one simple command of `clap` with four subcommands, and help.
+-- What the tools take as words: one simple command of `clap` with six subcommands, and help.
 use Rattle.std.specs.Prelude.{ℕ, true, List, [], ◌∷◌, Some, codes, fold, pos}
 use Rattle.clap.specs.Words.{App, Rule, new_app, new_rule, with_rule, with_subcommand}
 use Rattle.clap.specs.Simple.{on_top}
@@ -10,7 +10,7 @@ use Rattle.command_words.specs.Forms.{position}
 abbrev pub named_option : List ℕ → Rule
 named_option name = record (new_rule name) { long = Some name; value_names = 1 }
 
--- an option whose value is a step, 0 to 2^32 - 1
+-- an option whose value is a number, as a step, 0 to 2^32 - 1
 abbrev pub step_option : List ℕ → Rule
 step_option name = record (named_option name) { parser = Some (Signed (pos 0) (pos 4294967295)) }
 
@@ -25,6 +25,9 @@ command_with name rules = fold with_rule (new_app name) rules
 abbrev pub asm_form : App
 asm_form = command_with (codes "asm") (position (codes "TEXT") ∷ position (codes "OUT") ∷ [])
 
+abbrev pub disasm_form : App
+disasm_form = command_with (codes "disasm") (position (codes "FILE") ∷ named_option (codes "base") ∷ [])
+
 abbrev pub pack_form : App
 pack_form = command_with (codes "pack") (position (codes "MANIFEST") ∷ position (codes "BUNDLE") ∷ [])
 
@@ -32,6 +35,11 @@ abbrev pub show_form : App
 show_form = command_with (codes "show")
     (position (codes "RECORD") ∷ step_option (codes "from") ∷ step_option (codes "to")
     ∷ named_option (codes "only") ∷ flag (codes "counts") ∷ [])
+
+abbrev pub trace_form : App
+trace_form = command_with (codes "trace")
+    (position (codes "BUNDLE") ∷ position (codes "RECORD") ∷ step_option (codes "from") ∷ step_option (codes "to")
+    ∷ step_option (codes "hart") ∷ [])
 
 abbrev pub explain_form : App
 explain_form = command_with (codes "explain") (position (codes "BUNDLE") ∷ position (codes "RECORD") ∷ [])
@@ -42,4 +50,4 @@ tools_top = on_top (λ s. record s { has_version = true; arg_required_else_help 
 
 abbrev pub tools_form : App
 tools_form = fold with_subcommand tools_top
-    (asm_form.top ∷ pack_form.top ∷ show_form.top ∷ explain_form.top ∷ [])
+    (asm_form.top ∷ disasm_form.top ∷ pack_form.top ∷ show_form.top ∷ trace_form.top ∷ explain_form.top ∷ [])

@@ -7,8 +7,9 @@ use Rattle.clap.specs.declared.error.kind.ErrorKind.{ErrorKind}
 use Rattle.clap.specs.declared.error.kind.ErrorKind.TheVariants.{OutOfMemory}
 use Rattle.tool_words.specs.ToolCommand as spec
 use Rattle.tool_words.specs.declared.request.ShowRequest.{ShowRequest}
+use Rattle.tool_words.specs.declared.request.TraceRequest.{TraceRequest}
 use Rattle.tool_words.specs.declared.request.ToolRequest.{ToolRequest}
-use Rattle.tool_words.specs.declared.request.ToolRequest.TheVariants.{Asm, Pack, Show, Explain}
+use Rattle.tool_words.specs.declared.request.ToolRequest.TheVariants.{Asm, Disasm, Pack, Show, Trace, Explain}
 use Rattle.tool_words.specs.declared.request.ToolWords.{ToolWords}
 use Rattle.tool_words.specs.declared.request.ToolWords.TheVariants.{Asks, Help, Faulty}
 
@@ -18,10 +19,16 @@ names_of names = map (λ name. name.now) names.items
 abbrev pub asked_of_show : ShowRequest → spec.ToolAsked
 asked_of_show show = spec.Show show.record_name.now show.from show.to (option_map names_of show.only) show.counts
 
+abbrev pub asked_of_trace : TraceRequest → spec.ToolAsked
+asked_of_trace trace =
+    spec.Trace trace.bundle.now trace.record_name.now trace.from trace.to trace.hart
+
 abbrev pub tool_asked_of : ToolRequest → spec.ToolAsked
 tool_asked_of (Asm text words) = spec.Asm text.now words.now
+tool_asked_of (Disasm words base) = spec.Disasm words.now (option_map (λ text. text.now) base)
 tool_asked_of (Pack manifest bundle) = spec.Pack manifest.now bundle.now
 tool_asked_of (Show show) = asked_of_show show
+tool_asked_of (Trace trace) = asked_of_trace trace
 tool_asked_of (Explain bundle record_name) = spec.Explain bundle.now record_name.now
 
 -- What is read of words. The texts are those of `clap`.

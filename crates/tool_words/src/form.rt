@@ -28,12 +28,20 @@ fn named_option<'a>(alloc: Global, name: &'a str, value: &'a str, help: &'a str)
         .help(help)
 }
 
+/// An option whose value is a number, which help calls `value`.
+fn number_option<'a>(alloc: Global, name: &'a str, value: &'a str, help: &'a str) -> Arg<'a>
+    ensures rule { rule_of result ≡ spec.step_option name.entry.now }
+    ensures local { result.global ≡ false }
+{
+    named_option(alloc, name, value, help).value_parser(value_parser!(u32))
+}
+
 /// An option whose value is a step.
 fn step_option<'a>(alloc: Global, name: &'a str, help: &'a str) -> Arg<'a>
     ensures rule { rule_of result ≡ spec.step_option name.entry.now }
     ensures local { result.global ≡ false }
 {
-    named_option(alloc, name, "N", help).value_parser(value_parser!(u32))
+    number_option(alloc, name, "N", help)
 }
 
 /// An option whose value is names of kinds.
@@ -65,6 +73,27 @@ fn asm_form<'a>(alloc: Global) -> Result<Command<'a>, NoMemory>
         .arg(text)?
         .arg(out)?;
     Ok(asm)
+}
+
+fn disasm_form<'a>(alloc: Global) -> Result<Command<'a>, NoMemory>
+    ensures { IfOk result (HasForm spec.disasm_form) }
+{
+    let file = position(
+        alloc,
+        "FILE",
+        "The words, one after another, each with its lowest byte first",
+    );
+    let base = named_option(
+        alloc,
+        "base",
+        "ADDRESS",
+        "The address of the first word, decimal or hexadecimal after 0x [default: 0]",
+    );
+    let disasm = Command::new(alloc, "disasm")
+        .about("Show words as a text that assembles to them")
+        .arg(file)?
+        .arg(base)?;
+    Ok(disasm)
 }
 
 fn pack_form<'a>(alloc: Global) -> Result<Command<'a>, NoMemory>
@@ -105,6 +134,24 @@ fn show_form<'a>(alloc: Global) -> Result<Command<'a>, NoMemory>
     Ok(show)
 }
 
+fn trace_form<'a>(alloc: Global) -> Result<Command<'a>, NoMemory>
+    ensures { IfOk result (HasForm spec.trace_form) }
+{
+    let bundle = position(alloc, "BUNDLE", "The guest image");
+    let record = position(alloc, "RECORD", "The record of its run");
+    let from = step_option(alloc, "from", "The first step");
+    let to = step_option(alloc, "to", "The last step");
+    let hart = number_option(alloc, "hart", "H", "Only the steps of this hart");
+    let trace = Command::new(alloc, "trace")
+        .about("Show a run as text, a line for each step of the kernel's side")
+        .arg(bundle)?
+        .arg(record)?
+        .arg(from)?
+        .arg(to)?
+        .arg(hart)?;
+    Ok(trace)
+}
+
 fn explain_form<'a>(alloc: Global) -> Result<Command<'a>, NoMemory>
     ensures { IfOk result (HasForm spec.explain_form) }
 {
@@ -140,7 +187,9 @@ pub fn tools_form<'a>(alloc: Global) -> Result<Command<'a>, NoMemory>
     ensures { IfOk result (λ tools. app_of tools ≡ spec.tools_form) }
 {
     let asm = with_command(top(alloc), asm_form(alloc)?)?;
-    let pack = with_command(asm, pack_form(alloc)?)?;
+    let disasm = with_command(asm, disasm_form(alloc)?)?;
+    let pack = with_command(disasm, pack_form(alloc)?)?;
     let show = with_command(pack, show_form(alloc)?)?;
-    with_command(show, explain_form(alloc)?)
+    let trace = with_command(show, trace_form(alloc)?)?;
+    with_command(trace, explain_form(alloc)?)
 }

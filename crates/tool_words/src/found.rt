@@ -54,6 +54,13 @@ pub fn step_named(matches: &ArgMatches<'_>, name: &str, otherwise: u32) -> u32
     matches.get_one::<u32>(name).unwrap_or(otherwise)
 }
 
+/// The number that an option names, if it is given.
+pub fn number_named(matches: &ArgMatches<'_>, name: &str) -> Option<u32>
+    ensures { result ≡ spec.number_named name.now (rows_of (found_of matches.now)) }
+{
+    matches.get_one::<u32>(name)
+}
+
 /// The flag is given.
 pub fn is_flagged(matches: &ArgMatches<'_>, name: &str) -> bool
     ensures { result ≡ spec.is_flagged name.now (rows_of (found_of matches.now)) }

@@ -2,11 +2,11 @@
 ghost use Rattle.std.specs.Prelude.{◌≡◌, IfOk, map, string_bytes};
 ghost use Rattle.clap.specs.Words.{found_of, kind_of, rows_of};
 ghost use Rattle.tool_words.specs.ToolCommand as spec;
-ghost use Rattle.tool_words.specs.ToolRequest.{ReadsTool, SaysFault, asked_of_show, tool_asked_of};
+ghost use Rattle.tool_words.specs.ToolRequest.{ReadsTool, SaysFault, asked_of_show, asked_of_trace, tool_asked_of};
 
 use crate::form::tools_form;
-use crate::found::{given_names, is_flagged, needed_text, step_named};
-use crate::request::{ShowRequest, ToolRequest, ToolWords};
+use crate::found::{given_names, given_text, is_flagged, needed_text, number_named, step_named};
+use crate::request::{ShowRequest, ToolRequest, ToolWords, TraceRequest};
 use clap::error::ErrorKind;
 use clap::{ArgMatches, Error};
 use cloak_base::NoMemory;
@@ -25,6 +25,19 @@ fn show_request<'a>(alloc: Global, matches: &ArgMatches<'a>) -> Result<ShowReque
     })
 }
 
+/// What is asked of a run with the texts that were found.
+fn trace_request<'a>(matches: &ArgMatches<'a>) -> TraceRequest<'a>
+    ensures { asked_of_trace result ≡ spec.trace_asked (rows_of (found_of matches.now)) }
+{
+    TraceRequest {
+        bundle: needed_text(matches, "BUNDLE"),
+        record_name: needed_text(matches, "RECORD"),
+        from: step_named(matches, "from", 0),
+        to: step_named(matches, "to", u32::MAX),
+        hart: number_named(matches, "hart"),
+    }
+}
+
 /// What a command asks with the texts that it found.
 #[tactic(auto, unfolding(crate::specs::ToolCommand::tool_asked_with))]
 fn asked_with<'a>(
@@ -40,11 +53,16 @@ fn asked_with<'a>(
             text: needed_text(matches, "TEXT"),
             words: needed_text(matches, "OUT"),
         }),
+        "disasm" => Ok(ToolRequest::Disasm {
+            words: needed_text(matches, "FILE"),
+            base: given_text(matches, "base"),
+        }),
         "pack" => Ok(ToolRequest::Pack {
             manifest: needed_text(matches, "MANIFEST"),
             bundle: needed_text(matches, "BUNDLE"),
         }),
         "show" => Ok(ToolRequest::Show(show_request(alloc, matches)?)),
+        "trace" => Ok(ToolRequest::Trace(trace_request(matches))),
         _ => Ok(ToolRequest::Explain {
             bundle: needed_text(matches, "BUNDLE"),
             record_name: needed_text(matches, "RECORD"),

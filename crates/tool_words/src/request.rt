@@ -14,6 +14,19 @@ pub struct ShowRequest<'a> {
     pub counts: bool,
 }
 
+/// What must be shown of the steps of a run.
+#[derive(Clone, Copy)]
+pub struct TraceRequest<'a> {
+    pub bundle: &'a str,
+    pub record_name: &'a str,
+    /// The first step.
+    pub from: u32,
+    /// The last step.
+    pub to: u32,
+    /// The hart whose steps are shown; all, if none is named.
+    pub hart: Option<u32>,
+}
+
 /// What is asked for.
 #[derive(Drop)]
 pub enum ToolRequest<'a> {
@@ -21,11 +34,17 @@ pub enum ToolRequest<'a> {
         text: &'a str,
         words: &'a str,
     },
+    Disasm {
+        words: &'a str,
+        /// The address of the first word, as it was written.
+        base: Option<&'a str>,
+    },
     Pack {
         manifest: &'a str,
         bundle: &'a str,
     },
     Show(ShowRequest<'a>),
+    Trace(TraceRequest<'a>),
     Explain {
         bundle: &'a str,
         record_name: &'a str,

@@ -38,10 +38,10 @@ use Rattle.worked_rows.proofs.Ciphers.{length-cbc, length-record_of, IsBytes-cbc
 use Rattle.worked_rows.proofs.Computing.{joint_steps, joint_runs}
 use Rattle.worked_rows.proofs.Offers.{refused_events, reach-shown, reach-changed}
 use Rattle.worked_rows.proofs.Turns.{first_turns, moment_after, goes_on, plus, turns_from-step, turns_from-plus}
-use Rattle.worked_rows.proofs.Whole.{Begun, first_shown, page, ram_of, plain_of, bare_root, opened_memory, resumed_memory, stored_page, stored_plain, first_hart, program_hart, machine, at_step, opened_moment, left_moment, fetched_step, cloak_for, fetch_granted, joint_step-of, turns_from-boot, turns_to_call, turns_from-call}
+use Rattle.worked_rows.proofs.Whole.{FirstDraws, first_shown, page, ram_of, plain_of, bare_root, opened_memory, resumed_memory, stored_page, stored_plain, first_hart, program_hart, machine, at_step, opened_moment, left_moment, fetched_step, cloak_for, fetch_granted, joint_step-of, turns_from-boot, turns_to_call, turns_from-call}
 
 -- Runs of a program of one page, by the words of its kernel after the boot.
-abbrev pub opened : List ℕ → List ℕ → Begun → Opened
+abbrev pub opened : List ℕ → List ℕ → FirstDraws → Opened
 opened bytes rest begun =
     record {
       joint = machine first_hart (program_with not_started []) (opened_memory bytes rest begun);
@@ -53,7 +53,7 @@ abbrev pub behind_boot : List ℕ → List ℕ
 behind_boot words = flat_map word words ++ replicate (4076 - 4 * length words) 0
 
 -- what a run whose program has key 0 draws of the counted bytes as it begins
-abbrev pub behind_draw : ℕ → Begun
+abbrev pub behind_draw : ℕ → FirstDraws
 behind_draw n = record { keys = one_key; draw = draw_1; stream = handed (drop 32 (numbers_below n)) }
 
 -- what is read off a run that there is
@@ -61,7 +61,7 @@ abbrev pub there_is : {A : Type 0} → A → Result A Lack
 there_is a = Ok a
 
 -- the run from the program's call on
-abbrev pub run_from_call : List ℕ → Begun → ℕ → Run
+abbrev pub run_from_call : List ℕ → FirstDraws → ℕ → Run
 run_from_call rest begun n =
     run_of_turns (opened words_page rest begun) (turns_to_call rest begun (turns_from n (left_moment rest begun)))
 
@@ -71,7 +71,7 @@ pub runs-opened : (b : Bundle) (stream : Random) (n : ℕ) (o : Opened) → open
 unfolding run.run_of
 runs-opened b stream n o opens = rw opens refl
 
-pub runs-from_call : (number : ℕ) (words : List ℕ) (stream : Random) (rest : List ℕ) (begun : Begun) (n : ℕ)
+pub runs-from_call : (number : ℕ) (words : List ℕ) (stream : Random) (rest : List ℕ) (begun : FirstDraws) (n : ℕ)
     → opening (keyed_image number words) stream ≡ Ok (opened words_page rest begun)
     → joint_run (keyed_image number words) stream (plus 12 n) ≡ there_is (run_from_call rest begun n)
 runs-from_call number words stream rest begun n opens =
@@ -79,7 +79,7 @@ runs-from_call number words stream rest begun n opens =
     ∙ ap (λ (ts : List Turn). there_is (run_of_turns (opened words_page rest begun) ts)) (turns_from-call rest begun n)
 
 read_off-from_call : {A : Type 0} (what : Run → A) (number : ℕ) (words : List ℕ) (stream : Random) (rest : List ℕ)
-    (begun : Begun) (n : ℕ) → opening (keyed_image number words) stream ≡ Ok (opened words_page rest begun)
+    (begun : FirstDraws) (n : ℕ) → opening (keyed_image number words) stream ≡ Ok (opened words_page rest begun)
     → read_off what (keyed_image number words) stream (plus 12 n) ≡ there_is (what (run_from_call rest begun n))
 read_off-from_call what number words stream rest begun n opens =
     ap (λ (r : Result Run Lack). result_map_both what (λ (lack : Lack). lack) r)
@@ -87,7 +87,7 @@ read_off-from_call what number words stream rest begun n opens =
 
 -- The kernel halts.
 
-halts : {A : Type 0} (what : Run → A) (number n : ℕ) (begun : Begun) → opening (whole_image number) (counted n) ≡
+halts : {A : Type 0} (what : Run → A) (number n : ℕ) (begun : FirstDraws) → opening (whole_image number) (counted n) ≡
     Ok (opened words_page (behind_boot halt) begun)
     → read_off what (whole_image number) (counted n) 100 ≡ there_is (what (run_from_call (behind_boot halt) begun 88))
 halts what number n begun opens =
@@ -127,7 +127,7 @@ two_draws = halts seen_of 0 47 (behind_draw 47) refl ∙ refl
 -- The same under key 1.
 
 -- what is drawn then: a key more
-abbrev behind_other : ℕ → Begun
+abbrev behind_other : ℕ → FirstDraws
 behind_other n = record {
   keys = keys_for (keyed_program 1 words_page ∷ []) (key ∷ draw_1 ∷ []);
   draw = draw_2;

@@ -39,14 +39,14 @@ use Rattle.worked_rows.proofs.Computing.{joint_runs}
 use Rattle.worked_rows.proofs.JointRows.{opened, behind_boot, behind_draw, run_from_call, runs-from_call, halted, looked_moment, flip_turn-meets, flip_step, flip_run, flip_runs, flip_steps, flip_clashes}
 use Rattle.worked_rows.proofs.Meeting.{kernel_in, lone_in, image_in, have_bytes, are_bytes, lone_bytes, image_bytes, IsBytes-sha256, is-ok}
 use Rattle.worked_rows.proofs.Turns.{first_turns}
-use Rattle.worked_rows.proofs.Whole.{Begun, page, left_moment, turns_to_call, turns_from-call}
+use Rattle.worked_rows.proofs.Whole.{FirstDraws, page, left_moment, turns_to_call, turns_from-call}
 
 -- The whole program.
 
 abbrev rest : List ℕ
 rest = behind_boot halt
 
-abbrev begun : Begun
+abbrev begun : FirstDraws
 begun = behind_draw 256
 
 abbrev whole_run : Run

@@ -31,7 +31,7 @@ use Rattle.worked_rows.proofs.JointRows.{behind_boot, behind_draw, opened, runs-
 use Rattle.worked_rows.proofs.Meeting.{kernel_in, image_in, are_bytes, image_bytes}
 use Rattle.worked_rows.proofs.Offers.{granted_events, reach-shown}
 use Rattle.worked_rows.proofs.Turns.{first_turns, turns_from-step}
-use Rattle.worked_rows.proofs.Whole.{Begun, page, memory_of, plain_of, bare_root, owed_page, resumed_memory, program_hart, machine, at_step, opened_moment, resumed_moment, fetched_step, cloak_for, fetch_granted, joint_step-of, turns_from-boot}
+use Rattle.worked_rows.proofs.Whole.{FirstDraws, page, memory_of, plain_of, bare_root, owed_page, resumed_memory, program_hart, machine, at_step, opened_moment, resumed_moment, fetched_step, cloak_for, fetch_granted, joint_step-of, turns_from-boot}
 
 abbrev bytes : List ℕ
 bytes = page_with reserving_words
@@ -39,7 +39,7 @@ bytes = page_with reserving_words
 abbrev rest : List ℕ
 rest = behind_boot halt
 
-abbrev begun : Begun
+abbrev begun : FirstDraws
 begun = behind_draw 256
 
 abbrev first_domain : Domain

@@ -42,13 +42,13 @@ abbrev pub page : PageId
 page = record { domain = 0; resource = 0; page = 0 }
 
 -- what a run drew as it began: its keys and the draw of the program's page; and the rest of its stream
-pub record Begun : Type 0 where
+pub record FirstDraws : Type 0 where
   pub keys : Keys
   pub draw : List ℕ
   pub stream : Random
 
 -- a program's page of these bytes as the kernel is shown it first
-abbrev pub first_shown : Begun → List ℕ → List ℕ
+abbrev pub first_shown : FirstDraws → List ℕ → List ℕ
 first_shown begun bytes = cbc (key_in begun.keys page) begun.draw bytes
 
 -- frame 0 has the kernel, and the kernel sees these bytes in frame 8
@@ -63,7 +63,7 @@ abbrev pub bare_root : SpaceId → Option ℕ
 bare_root = with_space no_root (record { domain = 0; number = 0 }) (Some 0)
 
 -- a program's page of these bytes was opened
-abbrev pub memory_of : List ℕ → List ℕ → Begun → (SpaceId → Option ℕ) → (PageId → List ℕ) → List (Option PageId) →
+abbrev pub memory_of : List ℕ → List ℕ → FirstDraws → (SpaceId → Option ℕ) → (PageId → List ℕ) → List (Option PageId) →
     CloakedMemory
 memory_of bytes rest begun root plain owed = record {
   ram = ram_of rest (first_shown begun bytes);
@@ -87,10 +87,10 @@ abbrev pub plain_of : List ℕ → PageId → List ℕ
 plain_of bytes = with_page (λ q. zero_page) page bytes
 
 -- as the run begins, and after the first resume
-abbrev pub opened_memory : List ℕ → List ℕ → Begun → CloakedMemory
+abbrev pub opened_memory : List ℕ → List ℕ → FirstDraws → CloakedMemory
 opened_memory bytes rest begun = memory_of bytes rest begun no_root (plain_of bytes) (replicate 64 None)
 
-abbrev pub resumed_memory : List ℕ → List ℕ → Begun → CloakedMemory
+abbrev pub resumed_memory : List ℕ → List ℕ → FirstDraws → CloakedMemory
 resumed_memory bytes rest begun = memory_of bytes rest begun bare_root (plain_of bytes) (replicate 64 None)
 
 -- the page with the 7 that the program stores
@@ -104,7 +104,7 @@ owed_page = replicate 8 None ++ (Some page ∷ replicate 55 None)
 abbrev pub stored_plain : PageId → List ℕ
 stored_plain = with_page (plain_of words_page) page stored_page
 
-abbrev pub stored_memory : List ℕ → Begun → CloakedMemory
+abbrev pub stored_memory : List ℕ → FirstDraws → CloakedMemory
 stored_memory rest begun = memory_of words_page rest begun bare_root stored_plain owed_page
 
 -- the hart as it starts, and as it runs the program
@@ -131,24 +131,24 @@ at_step steps j = record { schedule = 0 ∷ []; steps = steps; joint = j }
 
 -- The kernel's boot: five steps.
 
-abbrev pub opened_moment : List ℕ → List ℕ → Begun → Moment
+abbrev pub opened_moment : List ℕ → List ℕ → FirstDraws → Moment
 opened_moment bytes rest begun =
     at_step 0 (machine first_hart (program_with not_started []) (opened_memory bytes rest begun))
 
-abbrev pub resumed_moment : List ℕ → List ℕ → Begun → Moment
+abbrev pub resumed_moment : List ℕ → List ℕ → FirstDraws → Moment
 resumed_moment bytes rest begun =
     at_step 5 (machine program_hart (program_with started_context []) (resumed_memory bytes rest begun))
 
-boots : (bytes rest : List ℕ) (begun : Begun) → moment_after 5 (opened_moment bytes rest begun) ≡
+boots : (bytes rest : List ℕ) (begun : FirstDraws) → moment_after 5 (opened_moment bytes rest begun) ≡
     resumed_moment bytes rest begun
 unfolding joint_steps moment_after
 boots bytes rest begun = refl
 
-boot_goes_on : (bytes rest : List ℕ) (begun : Begun) → goes_on 5 (opened_moment bytes rest begun) ≡ true
+boot_goes_on : (bytes rest : List ℕ) (begun : FirstDraws) → goes_on 5 (opened_moment bytes rest begun) ≡ true
 unfolding joint_steps goes_on
 boot_goes_on bytes rest begun = refl
 
-pub turns_from-boot : (bytes rest : List ℕ) (begun : Begun) (n : ℕ)
+pub turns_from-boot : (bytes rest : List ℕ) (begun : FirstDraws) (n : ℕ)
     → turns_from (plus 5 n) (opened_moment bytes rest begun) ≡ first_turns 5 (opened_moment bytes rest begun)
     ++ turns_from n (resumed_moment bytes rest begun)
 turns_from-boot bytes rest begun n =
@@ -200,20 +200,20 @@ joint_step-of n h d c m t s = s.asks ∙ ap (fetched_step h d c m) s.tells ∙ s
 abbrev pub with_seven : ℕ → Context
 with_seven pc = running pc (registers_from 2 (0x80008100 ∷ []) (registers_from 10 (7 ∷ []) (replicate 32 0)))
 
-abbrev fetched_moment : List ℕ → Begun → Moment
+abbrev fetched_moment : List ℕ → FirstDraws → Moment
 fetched_moment rest begun =
     at_step 6 (machine program_hart (program_with (with_seven 0x80008004) []) (resumed_memory words_page rest begun))
 
-abbrev stored_moment : List ℕ → Begun → Moment
+abbrev stored_moment : List ℕ → FirstDraws → Moment
 stored_moment rest begun =
     at_step 7 (machine program_hart (program_with (with_seven 0x80008008) []) (stored_memory rest begun))
 
-abbrev first_turn : List ℕ → Begun → Turn
+abbrev first_turn : List ℕ → FirstDraws → Turn
 first_turn rest begun =
     quiet (machine program_hart (program_with (with_seven 0x80008004) []) (resumed_memory words_page rest begun))
     (item.Ok 0 ∷ [])
 
-first : (rest : List ℕ) (begun : Begun) → joint_step (resumed_moment words_page rest begun) ≡ first_turn rest begun
+first : (rest : List ℕ) (begun : FirstDraws) → joint_step (resumed_moment words_page rest begun) ≡ first_turn rest begun
 unfolding joint_steps fetched_step fetch_granted
 first rest begun =
     joint_step-of 5 program_hart (program_with started_context []) started_context
@@ -229,7 +229,7 @@ first rest begun =
     })
 
 -- the store, by what its reaching of the page is told
-store_step : List ℕ → Begun → Told Answer → Turn
+store_step : List ℕ → FirstDraws → Told Answer → Turn
 unfolding told_steps
 store_step rest begun told =
     let d = program_with (with_seven 0x80008004) [] in
@@ -239,14 +239,14 @@ store_step rest begun told =
     answers_violation program_hart.inside t.violation t
 
 -- the memory as it asks for that, and as it was granted
-storing : List ℕ → Begun → Cloak
+storing : List ℕ → FirstDraws → Cloak
 unfolding cloak_for
 storing rest begun =
     let before = cloak_for program_hart (program_with (with_seven 0x80008004) []) (with_seven 0x80008004)
     (resumed_memory words_page rest begun) in
     record before { items = item.Ok 0 ∷ []; events = granted_events page 0x80008004 Fetch before }
 
-store_granted : List ℕ → Begun → Told Answer
+store_granted : List ℕ → FirstDraws → Told Answer
 unfolding storing
 store_granted rest begun = record {
   answer = told.Ok;
@@ -257,12 +257,12 @@ store_granted rest begun = record {
   });
 }
 
-abbrev second_turn : List ℕ → Begun → Turn
+abbrev second_turn : List ℕ → FirstDraws → Turn
 second_turn rest begun =
     quiet (machine program_hart (program_with (with_seven 0x80008008) []) (stored_memory rest begun))
     (item.Ok 0 ∷ item.Ok 0 ∷ [])
 
-store_asks : (rest : List ℕ) (begun : Begun)
+store_asks : (rest : List ℕ) (begun : FirstDraws)
     → fetched_step program_hart (program_with (with_seven 0x80008004) []) (with_seven 0x80008004)
     (resumed_memory words_page rest begun)
     (fetch_granted program_hart (program_with (with_seven 0x80008004) []) (with_seven 0x80008004)
@@ -271,19 +271,19 @@ store_asks : (rest : List ℕ) (begun : Begun)
 unfolding joint_steps fetched_step fetch_granted store_step storing
 store_asks rest begun = refl
 
-store_tells : (rest : List ℕ) (begun : Begun) → ask_reach page 0x80008100 Store (Cloaked (storing rest begun)) ≡
+store_tells : (rest : List ℕ) (begun : FirstDraws) → ask_reach page 0x80008100 Store (Cloaked (storing rest begun)) ≡
     store_granted rest begun
 unfolding joint_steps store_granted
 store_tells rest begun =
     reach-shown page 0x80008100 Store (storing rest begun) (record { bare = refl; inside = refl; drawn = refl })
     (record { owed = refl; owing = refl; shown = refl })
 
-store_ends : (rest : List ℕ) (begun : Begun) → store_step rest begun (store_granted rest begun) ≡
+store_ends : (rest : List ℕ) (begun : FirstDraws) → store_step rest begun (store_granted rest begun) ≡
     second_turn rest begun
 unfolding joint_steps store_step store_granted
 store_ends rest begun = refl
 
-second : (rest : List ℕ) (begun : Begun) → joint_step (fetched_moment rest begun) ≡ second_turn rest begun
+second : (rest : List ℕ) (begun : FirstDraws) → joint_step (fetched_moment rest begun) ≡ second_turn rest begun
 unfolding joint_steps fetched_step fetch_granted
 second rest begun =
     joint_step-of 6 program_hart (program_with (with_seven 0x80008004) []) (with_seven 0x80008004)
@@ -300,26 +300,26 @@ second rest begun =
 
 -- After the store the frame is owed its page, and nothing is compared up to the call: five steps.
 
-abbrev pub left_moment : List ℕ → Begun → Moment
+abbrev pub left_moment : List ℕ → FirstDraws → Moment
 left_moment rest begun = at_step 12 (machine (called_hart 0x80000014 9) program_at_call (stored_memory rest begun))
 
-calls : (rest : List ℕ) (begun : Begun) → moment_after 5 (stored_moment rest begun) ≡ left_moment rest begun
+calls : (rest : List ℕ) (begun : FirstDraws) → moment_after 5 (stored_moment rest begun) ≡ left_moment rest begun
 unfolding joint_runs moment_after
 calls rest begun = refl
 
-call_goes_on : (rest : List ℕ) (begun : Begun) → goes_on 5 (stored_moment rest begun) ≡ true
+call_goes_on : (rest : List ℕ) (begun : FirstDraws) → goes_on 5 (stored_moment rest begun) ≡ true
 unfolding joint_runs goes_on
 call_goes_on rest begun = refl
 
 -- All twelve, with what follows.
 
-unfoldable pub turns_to_call : List ℕ → Begun → List Turn → List Turn
+unfoldable pub turns_to_call : List ℕ → FirstDraws → List Turn → List Turn
 unfolding first_turns
 turns_to_call rest begun later =
     first_turns 5 (opened_moment words_page rest begun)
     ++ (first_turn rest begun ∷ (second_turn rest begun ∷ (first_turns 5 (stored_moment rest begun) ++ later)))
 
-pub turns_from-call : (rest : List ℕ) (begun : Begun) (n : ℕ)
+pub turns_from-call : (rest : List ℕ) (begun : FirstDraws) (n : ℕ)
     → turns_from (plus 12 n) (opened_moment words_page rest begun) ≡
     turns_to_call rest begun (turns_from n (left_moment rest begun))
 unfolding turns_to_call

@@ -356,7 +356,7 @@ loads_of values = map (λ value. (0x80008800, value)) values
 -- Each context adds 1 three times. If the harts take turns, the step after these six is a load of the first, which
 -- finds 6. If the second hart makes two steps for each of the first, it loads a 5 before the first one's last addition,
 -- and both load a 6 after it.
-pub record Sums : Type 0 where
+pub record AddedSums : Type 0 where
   pub by_turns : loaded_by 0 (added_by (0 ∷ 1 ∷ []) 7) ≡ 6
   pub loads_by_turns : (first_domain (added_by (0 ∷ 1 ∷ []) 7)).loads ≡ loads_of (0 ∷ 1 ∷ 2 ∷ 3 ∷ 4 ∷ 5 ∷ 6 ∷ [])
   pub twice_as_fast : loaded_by 0 (added_by (0 ∷ 1 ∷ 1 ∷ []) 10) ≡ 6

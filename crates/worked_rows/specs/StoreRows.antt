@@ -29,7 +29,7 @@ one_file = record { domain = 2; number = 7; pages = None ∷ Some known ∷ [] }
 abbrev pub front : List ℕ
 front = codes "CLOAKSTO" ++ (1 ∷ replicate 7 0)
 
-pub record Spelled : Type 0 where
+pub record SpelledTables : Type 0 where
   pub none : table_bytes 1 [] ≡ front ++ replicate 4 0
   pub one : table_bytes 1 one_file ≡ front ++
       (1 ∷ 0 ∷ 0 ∷ 0 ∷ 2 ∷ 0 ∷ 0 ∷ 0 ∷ 7 ∷ 0 ∷ 0 ∷ 0 ∷ 2 ∷ 0 ∷ 0 ∷ 0 ∷ 0 ∷ 1 ∷ (replicate 16 5 ++ replicate 32 6))

@@ -16,5 +16,5 @@ pub fn rows_of_atomics()
     ensures atomic_faults { row.AtomicFaults }
 
     // A sum over two harts.
-    ensures sums { row.Sums }
+    ensures sums { row.AddedSums }
 {}

@@ -6,14 +6,14 @@ use Rattle.cloak_model.specs.Ledger.{domain_key}
 use Rattle.cloak_model.specs.StoredFiles.{PageContent, IsSealedIfShown, meta_of}
 use Rattle.protect_meta.specs.FileTable.{file_at}
 use Rattle.cloak_pager.specs.Relation.{StandsForMemory}
-use Rattle.joint_machine.specs.Filing.{KeepsOthers}
+use Rattle.joint_machine.specs.Filing.{KeepsOtherPages}
 use Rattle.joint_machine.proofs.Continued.{AreFreshFrom, RestoresTo}
 use Rattle.joint_machine.proofs.filing.restore_pages.Given as goal
 
 -- the pages so far go on
 abbrev pub invariant-loop-page : goal.invariant-loop-page
 invariant-loop-page l = record {
-  others : KeepsOthers l.domain l.resource l.fn.pager l.pager;
+  others : KeepsOtherPages l.domain l.resource l.fn.pager l.pager;
   fresh : AreFreshFrom l.pager l.domain l.resource l.page;
   restores : (wiped : PageId → Bool) (m : CloakedMemory) (contents : List (Option PageContent)) →
       StandsForMemory l.fn.pager wiped m → All (IsSealedIfShown (domain_key m.ledger.keys l.domain)) contents →

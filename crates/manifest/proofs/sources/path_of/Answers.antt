@@ -3,8 +3,8 @@ use Rattle.manifest.proofs.Paths.{beside_folder}
 use Rattle.manifest.proofs.sources.path_of.Goals as goal
 use Rattle.manifest.proofs.sources.path_of.Goals.{in-Some+in_ok-path-in-Some, in-None+in_ok-path-in-None}
 
-pub returns : goal.returns
-returns c =
+pub returns-clause-path : goal.returns-clause-path
+returns-clause-path c =
     let plain : (slice_index_or c.args.name.now 0 0 == 47) ≡ false =
     sym (c.starts_with.ensures.byte (omega arith) (omega arith) (λ w o h. h)) ∙ c.if-starts_with.false in
     let manifest = c.args.manifest.now in

@@ -1,8 +1,8 @@
-use Rattle.std.proofs.Common.{◌≡◌, ◌∙◌, [], subst, sym, map, string_bytes}
+use Rattle.std.proofs.Common.{◌≡◌, ◌∙◌, [], inr, refl, subst, sym, map, string_bytes}
 use Rattle.std.proofs.lemmas.Result.{IfOk-weaker}
 use Rattle.clap.specs.Words.{App, HasKind, app_of, fault_of}
 use Rattle.tool_words.specs.ToolForms.{tools_form}
-use Rattle.tool_words.proofs.ToolFacts.{asks_found, both_found, not_taken, tools_simple, tools_simple_and_free}
+use Rattle.tool_words.proofs.ToolFacts.{asks_found, asks_none, both_found, none_found, not_taken, tools_simple, tools_simple_and_free}
 use Rattle.tool_words.proofs.reading.read_tool_words.Goals as goal
 
 pub returns-in-Err : goal.returns-in-Err
@@ -26,3 +26,12 @@ returns-in-Some c =
       taken = subst (λ (f : App). fault_of f words ≡ []) is taken;
       asks = asks_found form words _ _ _ is (sym matched ∙ both) c.in_ok-asked_with-in-Some.ensures;
     }
+
+pub returns : goal.returns
+returns c =
+    let words = map string_bytes c.args.words.now in
+    let form = app_of c.in_ok-tools_form.field-0 in
+    let is : form ≡ tools_form = c.in_ok-tools_form.ensures in
+    let matched = (c.in-Ok.ensures.matches (tools_simple form is)).1 in
+    let none = none_found _ _ c.in-None.ensures.name in
+    inr (asks_none form words is (sym matched ∙ rw none refl))

@@ -4,8 +4,8 @@ use Rattle.alone_views.specs.KernelStanding.{state_with}
 use Rattle.alone_views.proofs.KernelHarts.{hart_there, begun_outside, begun_inside}
 use Rattle.alone_views.proofs.kernel.KernelAlone.begin_step.Goals as goal
 
-pub returns-in-None : goal.returns-in-None
-returns-in-None c =
+pub returns-in-None-clause-becomes : goal.returns-in-None-clause-becomes
+returns-in-None-clause-becomes c =
     let old = c.args.self.now in
     let is = hart_there old.harts.items c.args.hart c.index.result.now c.requires c.index.ensures in
     record {
@@ -15,8 +15,8 @@ returns-in-None c =
       schedule = refl;
     }
 
-pub returns-in-Some : goal.returns-in-Some
-returns-in-Some c =
+pub returns-in-Some-clause-becomes : goal.returns-in-Some-clause-becomes
+returns-in-Some-clause-becomes c =
     let old = c.args.self.now in
     let read = hart_there old.harts.items c.args.hart c.index.result.now c.requires c.index.ensures in
     let is = hart_there old.harts.items c.args.hart c.index_mut.result.now c.requires c.index_mut.ensures.value in

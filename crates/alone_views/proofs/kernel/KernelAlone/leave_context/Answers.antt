@@ -18,4 +18,4 @@ returns-then-shown-ctx c =
 pub returns-else-shown-ctx : goal.returns-else-shown-ctx
 returns-else-shown-ctx c =
     let other : (c.args.shown.now.ctx == c.args.ctx) ≡ false = grind arith in
-    left_other _ _ c.args.hart c.args.ctx c.args.shown.now other c.refuse.ensures
+    left_other _ _ c.args.hart c.args.ctx c.args.shown.now other c.refuse.ensures.becomes

@@ -18,4 +18,4 @@ pub returns-else-has_frame : goal.returns-else-has_frame
 returns-else-has_frame c =
     fits_not c.args.self.now _ (λ s. nat_lt c.args.frame (length s.kernel.ram))
     (with_shown_bytes c.args.frame c.args.bytes.now)
-    (λ console. sym c.if-has_frame.ensures) c.refuse.ensures
+    (λ console. sym c.if-has_frame.ensures) c.refuse.ensures.becomes

@@ -19,4 +19,4 @@ pub returns-else-may_store-clause-becomes : goal.returns-else-may_store-clause-b
 returns-else-may_store-clause-becomes c width =
     fits_not c.args.self.now _ (λ s. may_store (length s.kernel.ram) c.args.address c.args.width)
     (store_at c.args.address c.args.width c.args.value) (λ console. sym (c.if-may_store.ensures.value width))
-    c.refuse.ensures
+    c.refuse.ensures.becomes

@@ -9,7 +9,7 @@ pub returns-in-Left : goal.returns-in-Left
 unfolding take_cipher
 returns-in-Left c =
     at_place _ _ model.Left (λ p. take_cipher p c.args.frame c.args.bytes.now) (ap stood_place c.in-Left.is)
-    c.refuse.ensures
+    c.refuse.ensures.becomes
 
 pub returns-in-Between : goal.returns-in-Between
 unfolding take_cipher

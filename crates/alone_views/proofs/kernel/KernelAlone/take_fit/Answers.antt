@@ -21,7 +21,7 @@ returns-in-Leave-clause-gains g c turns s ranges stands =
 pub returns-in-Step-clause-gains : goal.returns-in-Step-clause-gains
 returns-in-Step-clause-gains g c turns s ranges stands =
     takes_step g.E.Emit.gave c.args.e.now _ c.end_step.new.self _ turns s c.args.i.now _ c.in-Step.is
-    (c.end_step.ensures.gains turns s stands) c.take_step.ensures
+    (c.end_step.ensures.gains turns s stands) c.take_step.ensures.becomes
 
 pub returns-in-Close-clause-gains : goal.returns-in-Close-clause-gains
 returns-in-Close-clause-gains g c turns s ranges stands =

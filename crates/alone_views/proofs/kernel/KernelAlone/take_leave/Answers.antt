@@ -13,15 +13,15 @@ returns-in-Inside c =
 pub returns-in-Between : goal.returns-in-Between
 unfolding take_leave
 returns-in-Between c =
-    at_place _ _ model.Between (λ p. take_leave p c.args.shown.now) (ap stood_place c.in-Between.is) c.refuse.ensures
+    at_place _ _ model.Between (λ p. take_leave p c.args.shown.now) (ap stood_place c.in-Between.is) c.refuse.ensures.becomes
 
 pub returns-in-Outside : goal.returns-in-Outside
 unfolding take_leave
 returns-in-Outside c =
     at_place _ _ (model.Outside c.in-Outside.hart) (λ p. take_leave p c.args.shown.now) (ap stood_place c.in-Outside.is)
-    c.refuse-in-Outside.ensures
+    c.refuse-in-Outside.ensures.becomes
 
 pub returns-in-Left : goal.returns-in-Left
 unfolding take_leave
 returns-in-Left c =
-    at_place _ _ model.Left (λ p. take_leave p c.args.shown.now) (ap stood_place c.in-Left.is) c.refuse-in-Left.ensures
+    at_place _ _ model.Left (λ p. take_leave p c.args.shown.now) (ap stood_place c.in-Left.is) c.refuse-in-Left.ensures.becomes

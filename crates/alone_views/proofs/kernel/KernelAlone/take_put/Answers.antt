@@ -16,16 +16,16 @@ pub returns-in-Between-clause-becomes : goal.returns-in-Between-clause-becomes
 unfolding take_put
 returns-in-Between-clause-becomes c width =
     at_place _ _ model.Between (λ p. take_put p c.args.address c.args.width c.args.value)
-    (ap stood_place c.in-Between.is) c.refuse.ensures
+    (ap stood_place c.in-Between.is) c.refuse.ensures.becomes
 
 pub returns-in-Outside-clause-becomes : goal.returns-in-Outside-clause-becomes
 unfolding take_put
 returns-in-Outside-clause-becomes c width =
     at_place _ _ (model.Outside c.in-Outside.hart) (λ p. take_put p c.args.address c.args.width c.args.value)
-    (ap stood_place c.in-Outside.is) c.refuse-in-Outside.ensures
+    (ap stood_place c.in-Outside.is) c.refuse-in-Outside.ensures.becomes
 
 pub returns-in-Left-clause-becomes : goal.returns-in-Left-clause-becomes
 unfolding take_put
 returns-in-Left-clause-becomes c width =
     at_place _ _ model.Left (λ p. take_put p c.args.address c.args.width c.args.value) (ap stood_place c.in-Left.is)
-    c.refuse-in-Left.ensures
+    c.refuse-in-Left.ensures.becomes

@@ -58,7 +58,7 @@ use Rattle.std_alloc.proofs.VecSteps.Shapes.{after, head, arm_body}
 use Rattle.chain_arena.specs.Ownership.{cells_own}
 use Rattle.chain_arena.specs.Places.{HasPlaces, IsDeedOf}
 use Rattle.chain_arena.proofs.Memory.{CellsOf, BaseOf, mark, all_room_left}
-use Rattle.chain_arena.proofs.Triples.{Mark, mark_made, word_made, three_val, three_of}
+use Rattle.chain_arena.proofs.Triples.{OwnsMark, mark_made, word_made, three_val, three_of}
 use Rattle.chain_arena.specs.contracts.cells.BlockRight as deeds
 use Rattle.chain_arena.specs.contracts.cells.Cells.allocate as F
 use Rattle.chain_arena.specs.contracts.cells.Cells.allocate.Key.{name as #self}
@@ -181,9 +181,9 @@ module _ (E : El) (Z : Al) {M : Type 1} {𝓤 : Ura M} (𝓛 : Logic 𝓤) (at_m
       typed $
       sets_last ! (agg ! (and_then ! (lit ! tt) (and_then ! (get ! refl) (no_more !)))) refl ok $
       exec ! C Λ En last (at_ret En Post) $ sets ! (of_opd ! (get ! refl)) refl ok $
-      use1 𝓛 (‵ (cells_own (R E) p n [])) (all_room_left E 𝓛 n b o small) $ use0 𝓛 (‵ (Mark E)) (mark_made E 𝓛) $
+      use1 𝓛 (‵ (cells_own (R E) p n [])) (all_room_left E 𝓛 n b o small) $ use0 𝓛 (‵ (OwnsMark E)) (mark_made E 𝓛) $
       fjoin ! $ move ! (1 ∷ []) $
-      use0 𝓛 (‵ (Mark E)) (mark_made E 𝓛) $ fjoin ! $
+      use0 𝓛 (‵ (OwnsMark E)) (mark_made E 𝓛) $ fjoin ! $
       use0 𝓛 (‵ ((BaseOf E.row).own_val base (word p ∷ []))) (word_made E 𝓛 p) $ move ! (0 ∷ 2 ∷ 1 ∷ []) $
       use3 𝓛 (‵ ((Three E Z).own_val (base, cells, deed) (made ∷ [])))
       (three_of 𝓛 (BaseOf E.row) (CellsOf E.row) (DeedOf E Z) base cells deed (word p) mark mark) $

@@ -1,7 +1,7 @@
 use Rattle.std.proofs.Common.{refl, ap, sym, subst, ◌∙◌}
 use Rattle.std.proofs.lemmas.List.Elements.{All-nil}
 use Rattle.cloak_pager.specs.State.{held_in}
-use Rattle.shadow_fold.specs.Following.{Follows}
+use Rattle.shadow_fold.specs.Following.{FollowsTable}
 use Rattle.shadow_fold.specs.Keeping.{Agrees}
 use Rattle.shadow_fold.specs.Table.{Table, empty_table}
 use Rattle.shadow_law.specs.Agreeing.{present}
@@ -10,7 +10,7 @@ use Rattle.cloaked_side.proofs.memory.Memory.count_accesses.Goals as goal
 pub returns-clause-tracks : goal.returns-clause-tracks
 returns-clause-tracks c none frames = record {
   pages = none;
-  entries = λ counts. subst (λ (t : Table). Follows t (empty_table frames)) (sym c.restart.ensures)
+  entries = λ counts. subst (λ (t : Table). FollowsTable t (empty_table frames)) (sym c.restart.ensures)
       (record { live = λ passes. refl; counts = refl });
 }
 

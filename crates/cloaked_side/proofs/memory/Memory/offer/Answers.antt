@@ -4,7 +4,7 @@ use Rattle.cloak_model.specs.Cloaking.{Ready, Missed, offer}
 use Rattle.cloak_pager.specs.State.{held_in}
 use Rattle.cloak_pager.specs.Turns.{StaysBut}
 use Rattle.cloaked_side.specs.Tracking.{spent_in}
-use Rattle.cloaked_side.specs.declared.memory.Offer.TheVariants as ended
+use Rattle.cloaked_side.specs.declared.memory.EndedOffer.TheVariants as ended
 use Rattle.cloaked_side.proofs.Rooming.{rooms_self, offers_so}
 use Rattle.cloaked_side.proofs.Spending.{spends_more, spends_none}
 use Rattle.cloaked_side.proofs.Translating.{offered_again}

@@ -3,7 +3,7 @@ use Rattle.cloak_model.specs.Cloaking.{Ready, Mismatch, Missed, offer}
 use Rattle.shadow_fold.specs.Keeping.{Agrees}
 use Rattle.shadow_law.specs.Agreeing.{present}
 use Rattle.cloak_pager.specs.State.{held_in}
-use Rattle.cloaked_side.specs.declared.memory.Offer.TheVariants as ended
+use Rattle.cloaked_side.specs.declared.memory.EndedOffer.TheVariants as ended
 use Rattle.cloaked_side.proofs.Rooming.{rooms_self, offers_so, offers_missed}
 use Rattle.std.specs.Prelude.{length}
 use Rattle.std.proofs.Common.{arith}

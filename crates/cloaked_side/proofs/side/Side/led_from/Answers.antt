@@ -1,5 +1,5 @@
 use Rattle.std.proofs.Common.{subst}
-use Rattle.cloaked_side.specs.Leading.{IsFoundSo, IsPlaced, found_to}
+use Rattle.cloaked_side.specs.Leading.{IsFoundSo, IsRightFound, found_to}
 use Rattle.cloaked_side.proofs.Known.{if_led}
 use Rattle.cloaked_side.proofs.side.Side.led_from.Goals as goal
 
@@ -18,4 +18,4 @@ returns-in-Missed-clause-leads g c =
     c.led_by_walk.ensures.leads
 
 pub handed_on-requires : goal.handed_on-requires
-handed_on-requires g c = subst IsPlaced c.in-Other.is c.requires.placed
+handed_on-requires g c = subst IsRightFound c.in-Other.is c.requires.placed

@@ -5,7 +5,7 @@ use Rattle.cloak_model.specs.AskPages.{is_store}
 use Rattle.cloak_model.specs.Cloaking.{offer}
 use Rattle.cloak_model.specs.World.{World, Cloaked}
 use Rattle.cloak_pager.specs.State.{held_in, owed_at}
-use Rattle.cloaked_side.specs.declared.memory.Offer.TheVariants as ended
+use Rattle.cloaked_side.specs.declared.memory.EndedOffer.TheVariants as ended
 use Rattle.cloaked_side.specs.Leading.{IsLedSo}
 use Rattle.cloaked_side.proofs.Answering.{asked_offer, granted_told, mismatched_told, missed_told, reached_told, with_violation}
 use Rattle.cloaked_side.proofs.Known.{known_inside, reached_so, viewed_inside}

@@ -6,7 +6,7 @@ use Rattle.joint_machine.specs.Turning.{EndsAfter, nothing_in}
 use Rattle.joint_machine.proofs.AfterEnd.{asked_ends, asked_refuses, ends_refused, left_lent, resumed_ends, resumed_refuses}
 use Rattle.joint_machine.proofs.Tracked.{goes_still}
 use Rattle.shadow_fold.specs.Events.{with_end}
-use Rattle.shadow_fold.specs.Reads.{Asked}
+use Rattle.shadow_fold.specs.Reads.{AskedByStep}
 use Rattle.joint_machine.proofs.joint.Joint.end_resumed.Goals as goal
 
 pub returns-then-is_left-clause-ends : goal.returns-then-is_left-clause-ends
@@ -30,7 +30,7 @@ returns-then-is_left-clause-goes g c j space s =
     let left = left_lent _ domains _ d _ _ c.deref.ensures.value c.domain_met-d.ensures c.is_left.ensures
     c.if-is_left.true in
     let asks = asked_ends domains j.domains d j.memory (nothing_in space) s.domains left in
-    subst (λ (a : Asked). GoesBy c.args.self.now.memory c.end_domain.new.self.memory a) (sym asks.1.1)
+    subst (λ (a : AskedByStep). GoesBy c.args.self.now.memory c.end_domain.new.self.memory a) (sym asks.1.1)
     (subst (λ (k : ℕ). slice_get j.domains k ≡ Some asks.0 →
     GoesBy c.args.self.now.memory c.end_domain.new.self.memory (with_end k asks.0 j.memory (nothing_in space)))
     c.domain_met-d.ensures (c.end_domain.ensures.goes j asks.0 space s) asks.1.0)
@@ -52,7 +52,7 @@ returns-else-is_left-clause-goes g c j space s =
     let domains = c.args.self.now.domains.items in
     let left = left_lent _ domains _ d _ _ c.deref.ensures.value c.domain_met-d.ensures c.is_left.ensures
     c.if-is_left.false in
-    subst (λ (a : Asked). GoesBy c.args.self.now.memory c.refuse.new.self.memory a)
+    subst (λ (a : AskedByStep). GoesBy c.args.self.now.memory c.refuse.new.self.memory a)
     (sym (asked_refuses domains j.domains d j.memory (nothing_in space) s.domains left))
     (subst (λ (m : Memory). GoesBy c.args.self.now.memory m (nothing_in space)) (sym c.refuse.ensures.memory)
     (goes_still c.args.self.now.memory space))

@@ -20,7 +20,7 @@ returns-clause-files g c = elim c.match-self.branch [
       let sound = rw w.in-Some.is at c.self.invariant in
       let told = rw w.rest.ensures at w.write_front-n.ensures.told in
       rw (w.self-inside-is, ← c.self.view_is)
-      (held-moved g.D.Disk.told _ _ w.write_front-n.result
+      (held-moved g.D.FileSystem.told _ _ w.write_front-n.result
       (told (string_bytes c.self.inside.writing.name) sound.named) refl w.forget.ensures)
   | in_default w ↦ rw (w.self-inside-is, ← c.self.view_is) (λ _. refl)
 ]

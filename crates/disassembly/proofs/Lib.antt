@@ -1,0 +1,11 @@
+pub mod Bytes
+pub mod Numbers
+pub mod Operands
+pub mod Statements
+pub mod Instructions
+pub mod Atomics
+pub mod Ranges
+pub mod Words
+pub mod Lines
+pub mod ReadBack
+pub mod Building

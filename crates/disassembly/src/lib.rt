@@ -1,0 +1,19 @@
+//! Words as a text that the assembler reads back.
+//!
+//! `specs/Listing` has the text: a line for each word, and a label before each word that another leads to. The layer
+//! above may rely on this: what `disassembled` returns is that text, and `asm` makes the same words of it again
+//! (`specs/ReadingBack`); and a file that has no such text is told its fault. `disasm_command` is the command `disasm`.
+#![tactic(auto)]
+
+mod address;
+mod command;
+mod disassembling;
+mod fault;
+mod lead;
+mod listing;
+mod telling;
+
+pub use address::address_of;
+pub use command::disasm_command;
+pub use disassembling::disassembled;
+pub use fault::WordsFault;

@@ -1,0 +1,5 @@
+pub mod Counts
+pub mod Inside
+pub mod Outside
+pub mod Questions
+pub mod Steps

@@ -1,0 +1,134 @@
+-- What a manifest means: the image of its document and of the files that this names; or its first fault.
+use Rattle.std.specs.Prelude.{ℕ, ◌≡◌, ◌⊎◌, ◌*◌, List, [], ◌∷◌, ◌++◌, length, replicate, Option, Some, None, Result, Ok, Err, nat_lt, if◌then◌else◌}
+use Rattle.std.specs.Str.{IsUtf8}
+use Rattle.io_traits.specs.Told.{Tells}
+use Rattle.cloak_model.specs.declared.image.Segment.{Segment as KernelSegment}
+use Rattle.cloak_model.specs.declared.image.KernelImage.{KernelImage}
+use Rattle.cloak_model.specs.declared.image.Program.{Program as CloakedProgram}
+use Rattle.cloak_model.specs.declared.image.Bundle.{Bundle}
+use Rattle.toml.specs.Data.{Data, table, as_table, Items, Members}
+use Rattle.toml.specs.Parse.{parse_document}
+use Rattle.manifest.specs.declared.key.Key.{Key}
+use Rattle.manifest.specs.declared.key.Key.TheVariants.{Frames, Harts, Schedule, Entry, Segment, Disk, Program, Address, Text, Bytes, Blocks, File, Block, Pages, Place, Base, Stack, KeyNumber}
+use Rattle.manifest.specs.declared.key.ManifestTable.TheVariants as part
+use Rattle.manifest.specs.declared.fault.KeyFault.TheVariants.{NoTable}
+use Rattle.manifest.specs.Keys.{stands_at}
+use Rattle.manifest.specs.Fields.{wrong_at, number_or_at, needed_at, list_at, short_list_at}
+use Rattle.manifest.specs.Parts.{schedule_at, entry_at, segment_at, stored_at, program_at, fitting}
+use Rattle.manifest.specs.Faults.{Fault, too_long, not_text, no_toml, at_key, by_keys, only_keys, After, Then}
+use Rattle.manifest.specs.Sources.{TableReads, InTurn, EachReads}
+
+-- the most bytes of a manifest
+abbrev pub longest_manifest : ℕ
+longest_manifest = 1048576
+
+-- the keys of each table
+
+abbrev pub image_keys : List Key
+image_keys = Frames ∷ Harts ∷ Schedule ∷ Entry ∷ Segment ∷ Disk ∷ Program ∷ []
+
+abbrev pub segment_keys : List Key
+segment_keys = Address ∷ Text ∷ Bytes ∷ []
+
+abbrev pub disk_keys : List Key
+disk_keys = Blocks ∷ File ∷ []
+
+abbrev pub file_keys : List Key
+file_keys = Block ∷ Text ∷ Bytes ∷ []
+
+abbrev pub program_keys : List Key
+program_keys = Text ∷ Bytes ∷ Pages ∷ Place ∷ Base ∷ Entry ∷ Stack ∷ KeyNumber ∷ []
+
+-- the document of a text (What is said of a text that is none, no clause says.)
+unfoldable pub DocumentReads : List ℕ → Result Members Fault → Type 0
+DocumentReads text (Ok document) = parse_document text ≡ Some document
+DocumentReads text (Err fault) =
+    ((¬ IsUtf8 text) × (fault ≡ not_text))
+    ⊎ (IsUtf8 text × (parse_document text ≡ None) × ((words : List ℕ) × (fault ≡ no_toml words)))
+
+-- the document of the text of a manifest
+unfoldable pub TextReads : List ℕ → Result Members Fault → Type 0
+TextReads text r =
+    After (if nat_lt longest_manifest (length text) then Err too_long else Ok text) DocumentReads r
+
+-- `held` are the files, as far as they are told, and `manifest` is the manifest's name.
+module _ (held : List ℕ → Option (List ℕ)) (manifest : List ℕ) where
+  -- ---- the kernel
+
+  unfoldable pub SegmentReads : (frames number : ℕ) → Data → Result KernelSegment Fault → Type 0
+  SegmentReads frames number segment r =
+      let at = part.Segment number in
+      TableReads held manifest at segment_keys (segment_at at segment frames) segment r
+
+  unfoldable pub SegmentsRead : (frames : ℕ) → Items → Result (List KernelSegment) Fault → Type 0
+  SegmentsRead frames tables r = EachReads (SegmentReads frames) tables r
+
+  -- the disk with the file of a table
+  unfoldable pub FileReads : (number : ℕ) → Data → (disk : List ℕ) → Result (List ℕ) Fault → Type 0
+  FileReads number file disk r =
+      let at = part.File number in
+      TableReads held manifest at file_keys (stored_at at file disk) file r
+
+  -- blocks of zeros, on which files are stored
+  unfoldable pub FilesRead : (blocks : ℕ) → Items → Result (List ℕ) Fault → Type 0
+  FilesRead blocks tables r = InTurn FileReads 1 tables (replicate (4096 * blocks) 0) r
+
+  unfoldable pub DiskTableReads : Data → Result (List ℕ) Fault → Type 0
+  DiskTableReads disk r =
+      After (only_keys part.Disk disk_keys disk) (λ _.
+      After (by_keys (needed_at part.Disk disk Blocks 0 4096)) (λ blocks.
+      After (by_keys (list_at part.Disk disk File)) (FilesRead blocks))) r
+
+  -- the disk that stands here, if it is a table
+  abbrev pub DiskValueReads : Data → Option Members → Result (List ℕ) Fault → Type 0
+  DiskValueReads disk None r = r ≡ Err (at_key (wrong_at part.Image Disk NoTable))
+  DiskValueReads disk (Some inside) r = DiskTableReads disk r
+
+  unfoldable pub DiskReads : Option Data → Result (List ℕ) Fault → Type 0
+  DiskReads None r = r ≡ Ok []
+  DiskReads (Some disk) r = DiskValueReads disk (as_table disk) r
+
+  unfoldable pub KernelReads : Data → Result KernelImage Fault → Type 0
+  KernelReads document r =
+      After (by_keys (number_or_at part.Image document Frames 64 4096 64)) (λ frames.
+      After (by_keys (number_or_at part.Image document Harts 1 4 1)) (λ harts.
+      After (by_keys (schedule_at part.Image document harts)) (λ schedule.
+      After (by_keys (entry_at part.Image document)) (λ entry.
+      After (by_keys (short_list_at part.Image document Segment 16)) (λ tables.
+      Then (SegmentsRead frames tables) (λ segments.
+      Then (DiskReads (stands_at Disk document)) (λ disk r. r ≡ Ok (record {
+        frames = frames;
+        harts = harts;
+        schedule = schedule;
+        entry = entry;
+        segments = segments;
+        disk = disk;
+      }))))))))
+      r
+
+  -- ---- the programs
+
+  unfoldable pub ProgramReads : (frames number : ℕ) → Data → Result CloakedProgram Fault → Type 0
+  ProgramReads frames number program r =
+      let at = part.Program number in
+      TableReads held manifest at program_keys (program_at at program frames) program r
+
+  unfoldable pub ProgramsRead : (frames : ℕ) → Items → Result (List CloakedProgram) Fault → Type 0
+  ProgramsRead frames tables r = EachReads (ProgramReads frames) tables r
+
+  -- ---- the image
+
+  unfoldable pub ImageReads : Data → Result Bundle Fault → Type 0
+  ImageReads document r =
+      After (only_keys part.Image image_keys document) (λ _.
+      Then (KernelReads document) (λ kernel.
+      After (by_keys (short_list_at part.Image document Program 4)) (λ tables.
+      Then (ProgramsRead kernel.frames tables) (λ programs r.
+      r ≡ by_keys (fitting (record { kernel = kernel; programs = programs }))))))
+      r
+
+  -- what the manifest means, or its first fault
+  pub record Means (r : Result Bundle Fault) : Type 0 where
+    pub text : List ℕ
+    pub told : Tells (held manifest) text
+    pub reads : Then (TextReads text) (λ document. ImageReads (table document)) r

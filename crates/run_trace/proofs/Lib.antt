@@ -1,0 +1,5 @@
+pub mod Harts
+pub mod KernelAdds
+pub mod KernelText
+pub mod KernelTraced
+pub mod Answered

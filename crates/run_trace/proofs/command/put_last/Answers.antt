@@ -1,0 +1,16 @@
+use Rattle.record_text.proofs.Answered.{puts_behind}
+use Rattle.run_trace.proofs.command.put_last.Goals as goal
+
+pub returns-in-Whole : goal.returns-in-Whole
+returns-in-Whole g c turns s stands = rw c.in-Whole.is (c.put_end.ensures turns s stands)
+
+pub returns-in-Unfit : goal.returns-in-Unfit
+returns-in-Unfit g c turns s stands = rw c.in-Unfit.is (puts_behind _ _ _ _ tt c.show_fault.result _ (rw c.in-Unfit.is at c.show_fault.ensures))
+
+pub returns-in-Fault : goal.returns-in-Fault
+returns-in-Fault g c turns s stands =
+    rw c.in-Fault.is (puts_behind _ _ _ _ tt c.show_fault-in-Fault.result _ (rw c.in-Fault.is at c.show_fault-in-Fault.ensures))
+
+pub returns-in-Unread : goal.returns-in-Unread
+returns-in-Unread g c turns s stands =
+    rw c.in-Unread.is (puts_behind _ _ _ _ tt c.show_fault-in-Unread.result _ (rw c.in-Unread.is at c.show_fault-in-Unread.ensures))

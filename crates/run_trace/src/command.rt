@@ -1,0 +1,117 @@
+//! The command `trace`.
+ghost use Rattle.std.specs.Prelude.{◌≡◌, ℕ, List, Ok};
+ghost use Rattle.cloak_model.specs.declared.image.KernelImage.{KernelImage};
+ghost use Rattle.cloak_model.specs.Bundle.{IsInGrammar};
+ghost use Rattle.cloak_model.specs.KernelAlone as model;
+ghost use Rattle.alone_views.specs.KernelStanding.{StandsForKernel};
+ghost use Rattle.command_parts.specs.Outside.{outside};
+ghost use Rattle.io_traits.specs.Told.{SameFiles};
+ghost use Rattle.kernel_report.specs.Putting.{PutsMore, putting};
+ghost use Rattle.read_back.specs.Answering.{viewed_unfit};
+ghost use Rattle.read_back.specs.Reading.{ShowsRecord};
+ghost use Rattle.record_text.specs.Reading.{status_shown};
+ghost use Rattle.run_trace.specs.Answering.{ShowsBundle, TraceAnswers};
+ghost use Rattle.run_trace.specs.Tracing.{kernel_text, last_line};
+
+use crate::choice::TraceChoice;
+use crate::kernel_items::trace_kernel_items;
+use crate::kernel_side::put_end;
+use alone_views::KernelAlone;
+use cloak_model::Bundle;
+use command_parts::{Refusal, Status, read_bundle, refuse};
+use io_traits::{Shelf, Sink};
+use kernel_report::lines::SoFar;
+use read_back::{Ending, show_fault, status};
+use std::alloc::Global;
+
+/// The last line: the last step, or why the record was not read to its end.
+fn put_last<O: Sink>(out: &mut O, kernel: &KernelAlone, ending: &Ending) -> SoFar
+    ensures { (turns : List ℕ) (s : model.KernelAlone) → StandsForKernel kernel.now turns s →
+        PutsMore (putting O.Sink out.old (Ok tt)) (putting O.Sink out.new result) (last_line s ending.now) }
+{
+    match ending {
+        Ending::Whole => put_end(out, Ok(()), kernel),
+        Ending::Unfit(_) => show_fault(out, ending),
+        Ending::Fault(_) => show_fault(out, ending),
+        Ending::Unread => show_fault(out, ending),
+    }
+}
+
+/// The status for how reading ended and showing went.
+fn answer(so_far: SoFar, ending: &Ending) -> Status
+    ensures { result ≡ status_shown ending.now so_far }
+{
+    match so_far {
+        Ok(()) => status(ending),
+        Err(_) => Status::WriteFault,
+    }
+}
+
+/// Shows the trace of the kernel's side, with a kernel that runs alone.
+fn trace_kernel<S: Shelf, O: Sink>(
+    kernel: KernelAlone,
+    choice: &TraceChoice,
+    name: &str,
+    shelf: &mut S,
+    out: &mut O,
+) -> Status
+    requires { S.is_settled shelf.old }
+    ensures shows { (k : KernelImage) → StandsForKernel kernel k.schedule (model.opened_kernel k) →
+        ShowsRecord (viewed_unfit k) (kernel_text choice.now k) name.now result
+        (outside S.Shelf O.Sink shelf.old out.old) (outside S.Shelf O.Sink shelf.new out.new) }
+    ensures files { SameFiles (S.held shelf.old) (S.held shelf.new) }
+    ensures writing { S.writing_faults shelf.new ≡ S.writing_faults shelf.old }
+{
+    let mut kernel = kernel;
+    match trace_kernel_items(&mut kernel, choice, name, shelf, out) {
+        Ok(ending) => {
+            let so_far = put_last(out, &kernel, &ending);
+            answer(so_far, &ending)
+        }
+        Err(_) => Status::WriteFault,
+    }
+}
+
+/// Shows the trace of the kernel's side of a bundle.
+fn trace_kernel_side<S: Shelf, O: Sink>(
+    alloc: Global,
+    bundle: &Bundle,
+    choice: &TraceChoice,
+    name: &str,
+    shelf: &mut S,
+    out: &mut O,
+) -> Status
+    requires settled { S.is_settled shelf.old }
+    requires bundle { IsInGrammar bundle.now }
+    ensures shows { ShowsBundle bundle.now choice.now name.now
+        (outside S.Shelf O.Sink shelf.old out.old) (outside S.Shelf O.Sink shelf.new out.new) result }
+    ensures files { SameFiles (S.held shelf.old) (S.held shelf.new) }
+    ensures writing { S.writing_faults shelf.new ≡ S.writing_faults shelf.old }
+{
+    match KernelAlone::open(alloc, &bundle.kernel) {
+        Ok(kernel) => trace_kernel(kernel, choice, name, shelf, out),
+        Err(_) => refuse(out, &Refusal::NoMemory),
+    }
+}
+
+/// Shows a line for each step of the run of a bundle that is chosen, from its record: of the kernel's side.
+pub fn trace_command<S: Shelf, O: Sink>(
+    alloc: Global,
+    bundle_name: &str,
+    record_name: &str,
+    choice: &TraceChoice,
+    shelf: &mut S,
+    out: &mut O,
+) -> Status
+    requires { S.is_settled shelf.old }
+    ensures answers { TraceAnswers bundle_name.now record_name.now choice.now
+        (outside S.Shelf O.Sink shelf.old out.old) (outside S.Shelf O.Sink shelf.new out.new) result }
+    ensures files { SameFiles (S.held shelf.old) (S.held shelf.new) }
+    ensures writing { S.writing_faults shelf.new ≡ S.writing_faults shelf.old }
+{
+    let bundle = match read_bundle(alloc, shelf, bundle_name) {
+        Ok(bundle) => bundle,
+        Err(refusal) => return refuse(out, &refusal),
+    };
+    trace_kernel_side(alloc, &bundle, choice, record_name, shelf, out)
+}
