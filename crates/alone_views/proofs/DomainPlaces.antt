@@ -5,7 +5,8 @@ use Rattle.cloak_base.specs.Pages.{zero_page}
 use Rattle.cloak_model.specs.declared.image.Program.{Program}
 use Rattle.cloak_model.specs.Opening.{program_page}
 use Rattle.cloak_model.specs.DomainAlone.{started_page}
-use Rattle.alone_views.specs.DomainPages.{page_at_start}
+use Rattle.plain_pages.specs.Places.{page_at_start}
+use Rattle.alone_views.specs.DomainPages.{HasPlain}
 
 no_page : (b : Bool) (own zeros : List ℕ) → b ≡ false → cond b own zeros ≡ zeros
 no_page b own zeros is = rw is refl
@@ -19,14 +20,6 @@ placed_as p (suc r) page few low =
     no_page _ (program_page p.bytes (suc r * 1024 + page)) zero_page over
     ∙ sym (ap (λ (b : Bool). cond (b && ltb page p.start.pages) (program_page p.bytes page) zero_page) other)
 
-pub pages_pushed : (was now : List (List ℕ)) (p : Program) (place : ℕ) (page : List ℕ) → now ≡ was ++ page ∷ [] → page ≡ page_at_start p place → length was ≡ place →
-    ((k : ℕ) → k < place → slice_index_or was k [] ≡ page_at_start p k) →
-    (length now ≡ place + 1) × ((k : ℕ) → k < place + 1 → slice_index_or now k [] ≡ page_at_start p k)
-pages_pushed was now p place page is there count below = (
-  ap length is ∙ (length_push was page ∙ ap (λ (n : ℕ). n + 1) count),
-  below_more (λ (k : ℕ). slice_index_or now k [] ≡ page_at_start p k) place
-      (λ k low.
-      let inside : k < length was = omega (arith, low, count) in
-      ap (λ (l : List (List ℕ)). slice_index_or l k []) is ∙ (get_or_append_left was (page ∷ []) [] k inside ∙ below k low))
-      (ap (λ (l : List (List ℕ)). slice_index_or l place []) is ∙ (get_or_push was page [] place count ∙ there)),
-)
+pub starts_plain : (pages : List (List ℕ)) (p : Program) → p.start.pages ≤ 1024 →
+    ((k : ℕ) → k < 16384 → slice_index_or pages k [] ≡ page_at_start p k) → HasPlain pages (started_page p)
+starts_plain pages p few all = λ resource page low inside. all (resource * 1024 + page) (omega (arith, low, inside)) ∙ placed_as p resource page few inside

@@ -38,7 +38,7 @@ stands_fit machine s stands = record {
 pub part_of_same : (machine other : DomainAlone) (p : DomainPart) → other.domain ≡ machine.domain → other.side ≡ machine.side → StandsForPart machine p → StandsForPart other p
 part_of_same machine other p domain side stands = record {
   domain = subst (λ (d : Domain). StandsFor d p.domain) (sym domain) stands.domain;
-  pages = subst (λ (x : HandedSide). HasPlain x.pages.items p.plain) (sym side) stands.pages;
+  pages = subst (λ (x : HandedSide). HasPlain x.pages p.plain) (sym side) stands.pages;
   slots = stands.slots;
 }
 
@@ -296,7 +296,7 @@ interrupts old machine s slot stands domain side steps unfit at =
     stands_at machine s (with_control (interrupt slot s.part.domain.control).control s.part) model.Done stands.fit (unfit ∙ stands.unfit) (steps ∙ stands.steps)
     (record {
       domain = domain;
-      pages = subst (λ (x : HandedSide). HasPlain x.pages.items s.part.plain) (sym side) stands.part.pages;
+      pages = subst (λ (x : HandedSide). HasPlain x.pages s.part.plain) (sym side) stands.part.pages;
       slots = slots_interrupt slot s.part.domain.control ∙ stands.part.slots;
     })
     (sym (ap (λ (q : DomainPlace). place_told (hart_at (schedule_in machine) machine.steps) q) at))
@@ -356,7 +356,7 @@ resumes old machine s slot hart reply stands told side steps unfit at =
     (stands_at machine s (with_control r.control s.part) model.Done stands.fit (unfit ∙ stands.unfit) (steps ∙ stands.steps)
     (record {
       domain = told.domain_stands;
-      pages = subst (λ (x : HandedSide). HasPlain x.pages.items s.part.plain) (sym side) stands.part.pages;
+      pages = subst (λ (x : HandedSide). HasPlain x.pages s.part.plain) (sym side) stands.part.pages;
       slots = slots_resume slot hart reply s.part.domain.control ∙ stands.part.slots;
     })
     (sym (ap (λ (q : DomainPlace). place_told (hart_at (schedule_in machine) machine.steps) q) at)))
@@ -415,7 +415,7 @@ ended_elsewhere old machine s d ended stands no_other no_stop unfit =
     (subst (λ (x : model.DomainAlone). StandsForState machine x) (sym (unfit_at old.place _ d ended s no_other no_stop)) (stands_unfit machine s old.steps unfit stands.steps))
 
 pub goes : (old machine : DomainAlone) (s : model.DomainAlone) (d : ℕ) → StandsWhileFit old s → StandsFor machine.domain (ended_domain s.part.domain) →
-    HasPlain machine.side.pages.items (ended_plain d s.part.plain) → machine.steps ≡ old.steps → machine.unfit ≡ old.unfit → machine.place ≡ place.Done →
+    HasPlain machine.side.pages (ended_plain d s.part.plain) → machine.steps ≡ old.steps → machine.unfit ≡ old.unfit → machine.place ≡ place.Done →
     StandsForState machine (domain_gone d s)
 unfolding ended_domain
 goes old machine s d stands domain pages steps unfit at =

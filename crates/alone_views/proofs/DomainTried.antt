@@ -63,7 +63,7 @@ no_step machine slot d h free stands side =
 
 tried_now : (machine : DomainAlone) (answers : List Answer) (s : model.DomainAlone) (h now : Handed) (a : DomainStepped) (b : Bool) (left : List Answer) →
     now.unfit ≡ b → now.answers ≡ left → h.plain ≡ s.part.plain → h.answers ≡ answers →
-    length s.part.domain.control.contexts ≡ 8 → length a.domain.control.contexts ≡ 8 → StandsFor machine.domain a.domain → HasPlain machine.side.pages.items now.plain →
+    length s.part.domain.control.contexts ≡ 8 → length a.domain.control.contexts ≡ 8 → StandsFor machine.domain a.domain → HasPlain machine.side.pages now.plain →
     (now.unfit ≡ false) ⊎ (Lacks h now × (a.domain ≡ s.part.domain)) →
     IsTried machine (handing_of b left) answers s
     (cond b (cond (is_none_left left) Wants Wrong) (cond (is_none_left left) (Over (record { domain = a.domain; plain = now.plain })) Wrong))
@@ -74,7 +74,7 @@ tried_now machine answers s h now a true [] is are plain handed eight slots doma
 tried_now machine answers s h now a true [] is are plain handed eight slots domain pages (inr lacks) = (
   record {
     domain = subst (λ (d : program.Domain). StandsFor machine.domain d) lacks.1 domain;
-    pages = subst (λ (p : ℕ → ℕ → List ℕ). HasPlain machine.side.pages.items p) (lacks.0.plain ∙ plain) pages;
+    pages = subst (λ (p : ℕ → ℕ → List ℕ). HasPlain machine.side.pages p) (lacks.0.plain ∙ plain) pages;
     slots = eight;
   },
   subst (λ (l : List Answer). length l < 2) handed (lacks.0.few are),
@@ -107,8 +107,8 @@ is_tried machine slot answers s given eight steps is =
     let t = domain_step slot s.part.domain (Alone h) in
     tried_by machine answers s h t.answer t.world given refl refl eight (slots_step slot s.part.domain (Alone h) ∙ eight) steps.domain steps.side (asks_step h slot s.part.domain refl) is
 
-pub hands : (was side : HandedSide) (first second : Option Answer) (s : model.DomainAlone) → side.pages.items ≡ was.pages.items → side.first ≡ first → side.second ≡ second → side.unfit ≡ false →
-    HasPlain was.pages.items s.part.plain → StandsForHanded side (handed_to s (answers_in first second))
+pub hands : (was side : HandedSide) (first second : Option Answer) (s : model.DomainAlone) → side.pages ≡ was.pages → side.first ≡ first → side.second ≡ second → side.unfit ≡ false →
+    HasPlain was.pages s.part.plain → StandsForHanded side (handed_to s (answers_in first second))
 hands was side first second s pages is_first is_second fit has = record {
   pages = subst (λ (x : List (List ℕ)). HasPlain x s.part.plain) (sym pages) has;
   answers = ap (λ (o : Option Answer). answers_in o side.second) is_first ∙ ap (λ (o : Option Answer). answers_in first o) is_second;

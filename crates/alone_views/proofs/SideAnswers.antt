@@ -51,7 +51,7 @@ follows_unfit is_fit side now a given h first not_fit stopped is stands =
     rw (next_answer-unfit is_fit side.second h a left not_fit) (record { answer = stopped; stands = lacking side now h is stands })
 
 pub follows_fit : (is_fit : Answer → Bool) (side now : HandedSide) (a : Answer) (h : Handed) → side.first ≡ Some a → is_fit a ≡ true →
-    now.pages.items ≡ side.pages.items → now.first ≡ side.second → now.second ≡ None → now.unfit ≡ side.unfit → StandsForHanded side h →
+    now.pages ≡ side.pages → now.first ≡ side.second → now.second ≡ None → now.unfit ≡ side.unfit → StandsForHanded side h →
     FollowsFrom IsAloneNow now a (next_answer is_fit h.answers h)
 follows_fit is_fit side now a h first fit pages next last unfit stands =
     let left : answers_in (Some a) side.second ≡ h.answers = ap (λ (o : Option Answer). answers_in o side.second) (sym first) ∙ stands.answers in

@@ -24,7 +24,7 @@ abbrev pub Takes : HandedSide → HandedSide → Answer → (Answer → Bool) �
 Takes side side' given is_fit = (h : Handed) → StandsForHanded side h → FollowsFrom IsAloneNow side' given (next_answer is_fit h.answers h)
 
 -- the same if a question was noted before
-pub takes_noted : (side noted side' : HandedSide) (given : Answer) (is_fit : Answer → Bool) → noted.pages.items ≡ side.pages.items →
+pub takes_noted : (side noted side' : HandedSide) (given : Answer) (is_fit : Answer → Bool) → noted.pages ≡ side.pages →
     noted.first ≡ side.first → noted.second ≡ side.second → noted.unfit ≡ side.unfit → Takes noted side' given is_fit →
     Takes side side' given is_fit
 takes_noted side noted side' given is_fit pages first second unfit takes h stands = takes h (record {
@@ -90,8 +90,8 @@ page_at domain resource page = record { domain = domain; resource = resource; pa
 is_page : (domain resource page : ℕ) → resource < 16 → page < 1024 → IsOwnPage domain (page_at domain resource page)
 is_page domain resource page low few = record { domain_is = refl; resource = low; page = few }
 
-pub write_follows : (side side' : HandedSide) (q : PageId) (at width value : ℕ) → ChangesPages side side' → length side.pages.items ≡ 16384 → IsOwnPage side.domain q
-    → side'.pages.items ≡ slice_set side.pages.items (place q) (with_value_in (slice_index_or side.pages.items (place q) []) at width value) →
+pub write_follows : (side side' : HandedSide) (q : PageId) (at width value : ℕ) → ChangesPages side side' → length side.pages ≡ 16384 → IsOwnPage side.domain q
+    → side'.pages ≡ slice_set side.pages (place q) (with_value_in (slice_index_or side.pages (place q) []) at width value) →
     Follows IsAlone side side' tt (ask_write q at width value)
 unfolding ask_write
 write_follows side side' q at width value kept all hq now first (Flat ram) stands unclashed = absurd stands
@@ -103,7 +103,7 @@ write_follows side side' q at width value kept all hq now first (Alone h) stands
         let p = page_at q.domain resource page in
         let hp : IsOwnPage side.domain p = record { domain_is = hq.domain_is; resource = low; page = few } in
         ap (λ (pages : List (List ℕ)). slice_index_or pages (place p) []) now
-        ∙ (pages_set side.domain side.pages.items (plain_of (Alone h)) q p (with_value_in (slice_index_or side.pages.items (place q) []) at width value) all hq hp (stands.pages resource page low few)
+        ∙ (pages_set side.domain side.pages (plain_of (Alone h)) q p (with_value_in (slice_index_or side.pages (place q) []) at width value) all hq hp (stands.pages resource page low few)
         ∙ ap (λ (bytes : List ℕ). with_page (plain_of (Alone h)) q (with_value_in bytes at width value) p) (stands.pages q.resource q.page hq.resource hq.page));
     answers = kept.answers ∙ stands.answers;
     unfit = kept.unfit ∙ stands.unfit;
@@ -127,9 +127,9 @@ within : (p : PageId) → p.resource < 16 → p.page < 1024 → place p < 16384
 within p low few = omega (arith, low, few)
 
 pub copy_follows : (side side' : HandedSide) (domain from to : ℕ) → domain ≡ side.domain → from < 16 → to < 16 → ChangesPages side side'
-    → ((k : ℕ) → to * 1024 ≤ k → k < to * 1024 + 1024 → slice_index_or side'.pages.items k [] ≡ slice_index_or side.pages.items (from * 1024 + (k - to * 1024)) [])
-    → ((k : ℕ) → k < to * 1024 → slice_index_or side'.pages.items k [] ≡ slice_index_or side.pages.items k [])
-    → ((k : ℕ) → to * 1024 + 1024 ≤ k → slice_index_or side'.pages.items k [] ≡ slice_index_or side.pages.items k [])
+    → ((k : ℕ) → to * 1024 ≤ k → k < to * 1024 + 1024 → slice_index_or side'.pages k [] ≡ slice_index_or side.pages (from * 1024 + (k - to * 1024)) [])
+    → ((k : ℕ) → k < to * 1024 → slice_index_or side'.pages k [] ≡ slice_index_or side.pages k [])
+    → ((k : ℕ) → to * 1024 + 1024 ≤ k → slice_index_or side'.pages k [] ≡ slice_index_or side.pages k [])
     → Follows IsAlone side side' tt (ask_copy domain from to)
 unfolding ask_copy
 copy_follows side side' domain from to own low_from low_to kept inside below above first (Flat ram) stands unclashed = absurd stands
@@ -139,10 +139,10 @@ copy_follows side side' domain from to own low_from low_to kept inside below abo
   stands = record {
     pages = λ resource page low few.
         let p = page_at domain resource page in
-        by_resource domain to p (plain_of (Alone h)) (λ q. plain_of (Alone h) (page_in from q)) (slice_index_or side'.pages.items (place p) []) refl few (within p low few)
+        by_resource domain to p (plain_of (Alone h)) (λ q. plain_of (Alone h) (page_in from q)) (slice_index_or side'.pages (place p) []) refl few (within p low few)
         (λ least most is.
         inside (place p) least most
-        ∙ (ap (λ k. slice_index_or side.pages.items k []) (let same : from * 1024 + (place p - to * 1024) ≡ place (page_in from p) = omega (arith, is) in same)
+        ∙ (ap (λ k. slice_index_or side.pages k []) (let same : from * 1024 + (place p - to * 1024) ≡ place (page_in from p) = omega (arith, is) in same)
         ∙ stands.pages from page low_from few))
         (λ less. below (place p) less ∙ stands.pages resource page low few)
         (λ more. above (place p) more ∙ stands.pages resource page low few);
@@ -152,9 +152,9 @@ copy_follows side side' domain from to own low_from low_to kept inside below abo
 }
 
 pub forget_follows : (side side' : HandedSide) (domain resource : ℕ) → domain ≡ side.domain → ChangesPages side side'
-    → ((k : ℕ) → resource * 1024 ≤ k → k < resource * 1024 + 1024 → slice_index_or side'.pages.items k [] ≡ zero_page)
-    → ((k : ℕ) → k < resource * 1024 → slice_index_or side'.pages.items k [] ≡ slice_index_or side.pages.items k [])
-    → ((k : ℕ) → resource * 1024 + 1024 ≤ k → slice_index_or side'.pages.items k [] ≡ slice_index_or side.pages.items k [])
+    → ((k : ℕ) → resource * 1024 ≤ k → k < resource * 1024 + 1024 → slice_index_or side'.pages k [] ≡ zero_page)
+    → ((k : ℕ) → k < resource * 1024 → slice_index_or side'.pages k [] ≡ slice_index_or side.pages k [])
+    → ((k : ℕ) → resource * 1024 + 1024 ≤ k → slice_index_or side'.pages k [] ≡ slice_index_or side.pages k [])
     → Follows IsAlone side side' tt (ask_forget domain resource)
 unfolding ask_forget
 forget_follows side side' domain resource own kept inside below above first (Flat ram) stands unclashed = absurd stands
@@ -164,7 +164,7 @@ forget_follows side side' domain resource own kept inside below above first (Alo
   stands = record {
     pages = λ r page low few.
         let p = page_at domain r page in
-        by_resource domain resource p (plain_of (Alone h)) (λ q. zero_page) (slice_index_or side'.pages.items (place p) []) refl few (within p low few)
+        by_resource domain resource p (plain_of (Alone h)) (λ q. zero_page) (slice_index_or side'.pages (place p) []) refl few (within p low few)
         (λ least most is. inside (place p) least most)
         (λ less. below (place p) less ∙ stands.pages r page low few)
         (λ more. above (place p) more ∙ stands.pages r page low few);

@@ -1,20 +1,13 @@
 -- The bytes of a program's pages.
-use Rattle.std.specs.Prelude.{ℕ, ◌≡◌, ◌+◌, ◌*◌, ◌<◌, nat_lt, List, [], slice_index_or, if◌then◌else◌}
-use Rattle.cloak_base.specs.Pages.{zero_page}
-use Rattle.cloak_model.specs.declared.image.Program.{Program}
+use Rattle.std.specs.Prelude.{ℕ, ◌≡◌, ◌+◌, ◌*◌, ◌<◌, List, [], slice_index_or}
 use Rattle.cloak_model.specs.DomainAlone.{handed_of}
 use Rattle.cloak_model.specs.Ending.{ask_end, handed_for}
-use Rattle.cloak_model.specs.Opening.{program_page}
 use Rattle.cloak_model.specs.World.{Alone}
 
 -- these are the pages of all resources, one resource of 1024 pages after another
 abbrev pub HasPlain : List (List ℕ) → (ℕ → ℕ → List ℕ) → Type 0
 HasPlain pages plain = (resource page : ℕ) → resource < 16 → page < 1024 →
     slice_index_or pages (resource * 1024 + page) [] ≡ plain resource page
-
--- the page at a place among them, as a program starts: one of its own, or zeros
-abbrev pub page_at_start : Program → ℕ → List ℕ
-page_at_start p place = if nat_lt place p.start.pages then program_page p.bytes place else zero_page
 
 -- the pages of all resources once the domain has ended
 abbrev pub ended_plain : ℕ → (ℕ → ℕ → List ℕ) → ℕ → ℕ → List ℕ

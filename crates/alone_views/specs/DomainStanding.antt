@@ -47,7 +47,7 @@ step_of unfit = option_map (λ (u : Unfit). u.step) unfit
 -- The program and its pages are this part, which has eight slots.
 pub record StandsForPart (machine : DomainAlone) (p : DomainPart) : Type 0 where
   pub domain : StandsFor machine.domain p.domain
-  pub pages : HasPlain machine.side.pages.items p.plain
+  pub pages : HasPlain machine.side.pages p.plain
   pub slots : length p.domain.control.contexts ≡ 8
 
 -- No item was unfit, and the machine is that of this state.

@@ -1,3 +1,4 @@
+pub mod DomainMoments
 pub mod DomainPages
 pub mod DomainStanding
 pub mod KernelChanges

@@ -43,7 +43,7 @@ pub record IsOwnPage (domain : ℕ) (q : PageId) : Type 0 where
   pub page : q.page < 1024
 
 pub record StandsForHanded (side : HandedSide) (h : Handed) : Type 0 where
-  pub pages : HasPlain side.pages.items h.plain
+  pub pages : HasPlain side.pages h.plain
   pub answers : answers_of side ≡ h.answers
   pub unfit : side.unfit ≡ h.unfit
 

@@ -40,13 +40,13 @@ pub(crate) enum DomainPlace {
 /// A cloaked program that runs alone over the items of a record.
 #[derive(Drop)]
 pub struct DomainAlone {
-    domain: Domain,
-    side: HandedSide,
+    pub(crate) domain: Domain,
+    pub(crate) side: HandedSide,
     /// The hart of each step, used cyclically.
     schedule: Vec<u8>,
     /// The number of the last step, 0 before the first.
     pub(crate) steps: u32,
-    place: DomainPlace,
+    pub(crate) place: DomainPlace,
     unfit: Option<Unfit>,
     ghost served: { number_of domain ≡ side.domain },
     ghost some_turns: { 0 < length schedule.items },

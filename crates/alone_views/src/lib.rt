@@ -14,7 +14,6 @@
 
 mod asked;
 mod domain;
-mod domain_pages;
 mod domain_parts;
 mod kernel;
 mod kernel_ciphers;

@@ -9,9 +9,9 @@ ghost use Rattle.cloak_model.specs.World.{Handed};
 ghost use Rattle.alone_views.specs.DomainPages.{HasPlain, ended_plain};
 
 use crate::asked::AskedAccess;
-use crate::domain_pages::{page_place, started_pages, wipe, wipe_all};
 use cloak_base::{Kind, NoMemory, PageId};
-use cloak_model::{Answer, PageSide, Program, set_value_in, value_in};
+use cloak_model::{Answer, PageSide, Program, value_in};
+use plain_pages::{PlainPages, page_place};
 use std::alloc::Global;
 
 /// What a question takes.
@@ -26,8 +26,7 @@ pub(crate) enum QuestionKind {
 #[derive(Drop)]
 pub(crate) struct HandedSide {
     pub domain: u32,
-    /// 16 resources of 1024 pages, one after another.
-    pub pages: Vec<[u8; 4096]>,
+    pub pages: PlainPages,
     /// The next answer; if there is none, there is no second one.
     pub first: Option<Answer>,
     pub second: Option<Answer>,
@@ -35,7 +34,7 @@ pub(crate) struct HandedSide {
     pub unfit: bool,
     /// What was asked since answers were handed in, up to two questions.
     pub asked: [AskedAccess; 2],
-    ghost all: { length pages.items ≡ 16384 },
+    ghost all: { length pages ≡ 16384 },
 }
 
 /// How a step ended over the answers that were handed in.
@@ -71,12 +70,12 @@ impl HandedSide {
     pub fn open(alloc: Global, domain: u32, p: &Program) -> Result<HandedSide, NoMemory>
         requires few { p.now.start.pages ≤ 1024 }
         requires bytes { length p.now.bytes ≡ 4096 * p.now.start.pages }
-        ensures pages { IfOk result (λ side. HasPlain side.pages.items (started_page p.now)) }
+        ensures pages { IfOk result (λ side. HasPlain side.pages (started_page p.now)) }
         ensures domain { IfOk result (λ side. side.domain ≡ domain) }
     {
         Ok(HandedSide {
             domain,
-            pages: started_pages(alloc, p)?,
+            pages: PlainPages::open(alloc, p)?,
             first: None,
             second: None,
             unfit: false,
@@ -86,7 +85,7 @@ impl HandedSide {
 
     /// Hands in answers for the next step.
     pub fn hand(&mut self, first: Option<Answer>, second: Option<Answer>)
-        ensures pages { self.new.pages.items ≡ self.old.pages.items }
+        ensures pages { self.new.pages ≡ self.old.pages }
         ensures domain { self.new.domain ≡ self.old.domain }
         ensures first { self.new.first ≡ first }
         ensures second { self.new.second ≡ second }
@@ -100,15 +99,15 @@ impl HandedSide {
 
     /// The domain ends: all pages become zeros.
     pub fn end_pages(&mut self)
-        ensures pages { (plain : ℕ → ℕ → List ℕ) → HasPlain self.new.pages.items (ended_plain self.old.domain plain) }
+        ensures pages { (plain : ℕ → ℕ → List ℕ) → HasPlain self.new.pages (ended_plain self.old.domain plain) }
         ensures domain { self.new.domain ≡ self.old.domain }
     {
-        wipe_all(&mut self.pages);
+        self.pages.wipe_all();
     }
 
     /// One question more is asked.
     fn note(&mut self, question: AskedAccess)
-        ensures pages { self.new.pages.items ≡ self.old.pages.items }
+        ensures pages { self.new.pages ≡ self.old.pages }
         ensures domain { self.new.domain ≡ self.old.domain }
         ensures first { self.new.first ≡ self.old.first }
         ensures second { self.new.second ≡ self.old.second }
@@ -210,11 +209,11 @@ impl PageSide for HandedSide {
     }
 
     fn read(&mut self, q: PageId, at: u32, width: u32) -> u32 {
-        value_in(&self.pages[page_place(q)], at as usize, width)
+        value_in(self.pages.at(page_place(q)), at as usize, width)
     }
 
     fn write(&mut self, q: PageId, at: u32, width: u32, v: u32) {
-        set_value_in(&mut self.pages[page_place(q)], at as usize, width, v)
+        self.pages.store(page_place(q), at, width, v)
     }
 
     fn get(&mut self, address: u32, width: u32) -> Answer {
@@ -233,12 +232,10 @@ impl PageSide for HandedSide {
     }
 
     fn copy(&mut self, _: u32, from: u32, to: u32) {
-        let first = from as usize * 1024;
-        self.pages
-            .copy_within(first..first + 1024, to as usize * 1024);
+        self.pages.copy(from, to);
     }
 
     fn forget(&mut self, _: u32, resource: u32) {
-        wipe(&mut self.pages, resource as usize * 1024);
+        self.pages.wipe(resource);
     }
 }

@@ -15,12 +15,12 @@
 //! The laws hold from every beginning, also over the files of an earlier run, whatever they hold. What such a file has as
 //! the ciphertext of a page is recorded as the run begins: it counts as last shown until the page is shown again.
 //!
-//! No body changes a law, so there is no wrong body to refuse here. These changed definitions were tried on a copy, and
-//! with none of them did the proofs go through. Of the closing: the last frame is not settled. Of violations and
-//! refusals: a resume with another page table meets the violation of a context that cannot run; the violation of a
-//! page names the next frame; the frame of a page is compared before it is settled; the step of an access is one in
-//! which an interrupt is due. Of ends: a domain that had ended ends again at a resume; a resume without a domain is not
-//! counted; an end is not listed.
+//! No body changes a law, so there is no wrong body to refuse here. These changed definitions were tried on a copy,
+//! and with none of them did the proofs go through. Of the closing: the last frame is not settled; a frame is shown as
+//! it was before; frames that are owed a page stay, too. Of violations and refusals: a resume with another page table
+//! meets the violation of a context that cannot run; the violation of a page names the next frame; the frame of a page
+//! is compared before it is settled; the step of an access is one in which an interrupt is due. Of ends: a domain that
+//! had ended ends again at a resume; a resume without a domain is not counted; an end is not listed.
 #![tactic(auto)]
 
 ghost use Rattle.cause_law.specs.Causes.{CountHasCause, EndHasCause, ListedHaveEnded, ViolationHasCause};

@@ -7,8 +7,9 @@
 use cloak_base::NoMemory;
 use cloak_commands::{ProgramWords, read_again, run_program, sentence};
 use command_parts::Status;
+use run_progress::{Progress, WatchedFiles};
 use std::fs::{File, OpenOptions};
-use std::io::ErrorKind;
+use std::io::{ErrorKind, IsTerminal};
 use std::process::ExitCode;
 use std::{env, io};
 use system_io::{FileShelf, StdSink, SystemConsole, SystemFiles};
@@ -45,9 +46,17 @@ fn command_words(rt: &HostRuntime) -> ProgramWords {
     }
 }
 
+/// The files of the system. If standard error is a terminal, a long run tells there how far it is.
+fn files_here(
+    rt: &HostRuntime,
+) -> Result<WatchedFiles<SystemFiles<HostRuntime>, Progress<HostRuntime>>, NoMemory> {
+    let progress = Progress::new(rt.clone()?, rt.stderr().is_terminal());
+    Ok(WatchedFiles::new(SystemFiles::new(rt.clone()?), progress))
+}
+
 /// Runs the program with the files and the output of the system.
 fn run_here(rt: &HostRuntime, words: &ProgramWords) -> Result<Status, NoMemory> {
-    let mut shelf = FileShelf::open(rt.alloc(), SystemFiles::new(rt.clone()?))?;
+    let mut shelf = FileShelf::open(rt.alloc(), files_here(rt)?)?;
     let mut out = StdSink::open(rt.alloc(), SystemConsole::new(rt.clone()?))?;
     Ok(run_program(rt.alloc(), words, &mut shelf, &mut out))
 }

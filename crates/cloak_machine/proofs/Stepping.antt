@@ -27,9 +27,10 @@ use Rattle.kernel_report.specs.KernelText.{kernel_text}
 use Rattle.kernel_report.proofs.KernelSaid.{IsSaid, kernel_text-is}
 use Rattle.shadow_fold.specs.Events.{after_step, asked_in, asked_with_end}
 use Rattle.shadow_fold.specs.Fold.{Fold, after_events}
-use Rattle.shadow_fold.specs.Reads.{Spends, events_in, reads_due}
+use Rattle.shadow_fold.specs.Reads.{SpendsFor, events_in, looks_in, reads_due}
 use Rattle.cloaked_side.specs.Tracking.{AreMapped, Tracks, GoesBy, spent_in}
-use Rattle.cloaked_side.proofs.Spending.{maps_same}
+use Rattle.cloaked_side.proofs.Spending.{maps_same, spends_looks}
+use Rattle.look_law.proofs.Steps.{step_looks_twice}
 use Rattle.joint_machine.proofs.Mapped.{none_mapped}
 use Rattle.space_law.specs.Mapping.{mapped_in}
 use Rattle.cloaked_side.specs.declared.memory.Memory.{Memory}
@@ -125,9 +126,11 @@ counts_behind old new m number s is counts same goes = record {
 -- and the reads are those that are due
 pub reads_behind : (old new : Memory) (m : Moment) (number : ℕ) → number ≡ next_hart m →
     GoesBy old new (asked_with_end m.joint number) →
-    Spends 0 (reads_due (asked_in m)) (spent_in old) (spent_in new)
+    SpendsFor 2 0 (reads_due (asked_in m)) (spent_in old) (spent_in new)
 reads_behind old new m number is goes =
-    subst (λ (n : ℕ). Spends 0 (reads_due (asked_with_end m.joint n)) (spent_in old) (spent_in new)) is goes.spends
+    spends_looks (step_looks_twice m)
+    (subst (λ (n : ℕ). let a = asked_with_end m.joint n in
+    SpendsFor (looks_in a.events) 0 (reads_due a) (spent_in old) (spent_in new)) is goes.spends)
 
 -- What a step left of a machine.
 pub record Leaves (old new : Machine) (m : Moment) (given : Turned) (t : Turn) : Type 0 where

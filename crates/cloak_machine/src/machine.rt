@@ -76,7 +76,7 @@ impl Machine {
     ghost use Rattle.cloak_machine.specs.Counting.{CountsAccesses, spent_by};
     ghost use Rattle.shadow_fold.specs.Events.{after_step, asked_in};
     ghost use Rattle.shadow_fold.specs.Fold.{Fold, fresh_fold};
-    ghost use Rattle.shadow_fold.specs.Reads.{Spends, reads_due};
+    ghost use Rattle.shadow_fold.specs.Reads.{SpendsFor, reads_due};
 
     /// The machine of a guest image, before its first step. Its keys are the first draws of the stream, one for each
     /// number up to the greatest that a program has, and each page of a program takes the next one. The memory of the
@@ -179,7 +179,8 @@ impl Machine {
 
     /// Makes the next step of the schedule, and returns why it stopped the run, if it did: for a halt, or because a draw
     /// was missing. A violation stops no run: the step ends its domain. Frames are read no more often than its questions
-    /// and what the kernel is shown call for, and twice for each look that misses, for the words of page tables.
+    /// and what the kernel is shown call for, and twice for each look that misses, for the words of page tables. Of a
+    /// step's looks at most two miss, and each that does is counted.
     #[inline(always)]
     pub fn step<E: Emit>(&mut self, e: &mut E) -> Option<Stop>
         requires { steps_made self.old < most_steps }
@@ -191,7 +192,7 @@ impl Machine {
         ensures counts { (m : Moment) (s : Fold) → StandsForMoment self.old m → CountsAccesses self.old s →
             (joint_step m).joint.memory.ledger.clashed ≡ false → CountsAccesses self.new (after_step m s) }
         ensures reads { (m : Moment) → StandsForMoment self.old m → (joint_step m).joint.memory.ledger.clashed ≡ false →
-            Spends 0 (reads_due (asked_in m)) (spent_by self.old) (spent_by self.new) }
+            SpendsFor 2 0 (reads_due (asked_in m)) (spent_by self.old) (spent_by self.new) }
     {
         let number = self.schedule.next();
         self.steps += 1;

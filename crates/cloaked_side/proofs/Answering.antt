@@ -28,9 +28,9 @@ use Rattle.cloaked_side.proofs.Emitting.{emits_items}
 use Rattle.cloaked_side.proofs.Sided.{Repaged, still_turned, sees_still}
 use Rattle.cloaked_side.proofs.Tracking.{respaced, tracks_on}
 use Rattle.cloaked_side.specs.Tracking.{Tracks, TracksBy, MapsBy, MapsStill, spent_in}
-use Rattle.shadow_fold.specs.Reads.{Spends, reads_due}
+use Rattle.shadow_fold.specs.Reads.{Spends, SpendsFor, looks_in, reads_due}
 use Rattle.cloaked_side.specs.Seeing.{asked_by}
-use Rattle.cloaked_side.proofs.Spending.{ciphers_due, due_then, maps_of, maps_on, maps_still, spends_more, spends_then}
+use Rattle.cloaked_side.proofs.Spending.{ciphers_due, due_then, looks_then, maps_of, maps_on, maps_still, spends_looks, spends_more, spends_then}
 use Rattle.shadow_fold.specs.Fold.{Fold, after_events}
 use Rattle.cloak_base.specs.declared.names.SpaceId.{SpaceId}
 use Rattle.cloak_model.specs.Ask.{known}
@@ -212,13 +212,15 @@ sees_offered gave first old mid given q g write c sees o tracks spends maps viol
   regime = regime ∙ sees.regime;
   tracks = tracks_on first.memory.now old.memory.now mid.memory.now mid.space c.events (offer_events q g c.memory (offer q g write c.memory).answer)
       (respaced first.memory.now old.memory.now old.space mid.space c.events space sees.tracks) tracks;
-  spends = spends_more (0 + 0) 0 (reads_due (asked_by old.space c) + length (offer q g write c.memory).ciphers)
+  spends = spends_looks
+      (let looks = looks_then c.events (offer_events q g c.memory (offer q g write c.memory).answer) in omega (arith, looks))
+      (spends_more (0 + 0) 0 (reads_due (asked_by old.space c) + length (offer q g write c.memory).ciphers)
       (reads_due (asked_by mid.space (offered_cloak q g write c))) (spent_in first.memory.now) (spent_in mid.memory.now)
       (let both = due_then mid.space c.events (offer_events q g c.memory (offer q g write c.memory).answer) c.items
       (cipher_items (offer q g write c.memory).ciphers) in
       let shown = ciphers_due (offer q g write c.memory).ciphers in omega (arith, both, shown))
       (spends_then 0 0 (reads_due (asked_by old.space c)) (length (offer q g write c.memory).ciphers) (spent_in first.memory.now)
-      (spent_in old.memory.now) (spent_in mid.memory.now) sees.spends spends);
+      (spent_in old.memory.now) (spent_in mid.memory.now) sees.spends spends));
   maps = maps_on first.memory.now old.memory.now mid.memory.now mid.space c.events (offer_events q g c.memory (offer q g write c.memory).answer)
       (maps_of first.memory.now old.memory.now old.space mid.space c.events space sees.maps)
       (maps_still old.memory.now mid.memory.now mid.space _ maps);
@@ -235,7 +237,8 @@ with_violation gave first mid after v c sees memory emitter regime space violate
   regime = regime ∙ sees.regime;
   tracks = subst (λ x. TracksBy first.memory.now x.now (after_events after.space c.events)) (sym memory)
       (respaced first.memory.now mid.memory.now mid.space after.space c.events space sees.tracks);
-  spends = subst (λ x. Spends 0 (reads_due (asked_by after.space c)) (spent_in first.memory.now) (spent_in x.now)) (sym memory) sees.spends;
+  spends = subst (λ x. SpendsFor (looks_in c.events) 0 (reads_due (asked_by after.space c)) (spent_in first.memory.now) (spent_in x.now))
+      (sym memory) sees.spends;
   maps = subst (λ x. MapsBy first.memory.now x.now after.space c.events) (sym memory)
       (maps_of first.memory.now mid.memory.now mid.space after.space c.events space sees.maps);
 }

@@ -28,7 +28,7 @@ use Rattle.cloaked_side.specs.Holding.{Holds, HoldsNoMore, Settles, frames_of}
 use Rattle.cloaked_side.specs.Seeing.{Sees, ShowsWorld, asked_by}
 use Rattle.shadow_fold.specs.Reads.{Spends, reads_due}
 use Rattle.shadow_fold.specs.Table.{Table}
-use Rattle.cloaked_side.proofs.Spending.{due_events, maps_further, maps_of, maps_on, maps_same, maps_still, spends_more, spends_still, spends_then}
+use Rattle.cloaked_side.proofs.Spending.{due_events, looks_then, maps_further, maps_of, maps_on, maps_same, maps_still, spends_looks, spends_more, spends_still, spends_then}
 use Rattle.cloaked_side.specs.declared.side.Side.{Side}
 use Rattle.cloaked_side.proofs.Rooming.{changed_or_not, unheld_unowed}
 use Rattle.cloaked_side.proofs.Sided.{Repaged, AgreesAlways, count_of}
@@ -234,12 +234,13 @@ shows_settled gave first old new f (Cloaked c) settles spends maps violation reg
           (append-nil c.items) (emits_items c.items [] shows.emits s.emits);
       violation = violation ∙ shows.violation;
       regime = regime ∙ shows.regime;
-      spends = spends_more (0 + 0) 0 (reads_due (asked_by old.space c) + 0) (reads_due (asked_by new.space c))
+      spends = spends_looks (omega arith)
+          (spends_more (0 + 0) 0 (reads_due (asked_by old.space c) + 0) (reads_due (asked_by new.space c))
           (spent_in first.memory.now) (spent_in new.memory.now) (omega arith)
           (spends_then 0 0 (reads_due (asked_by old.space c)) 0 (spent_in first.memory.now) (spent_in old.memory.now) (spent_in new.memory.now)
           shows.spends
           (subst (λ (x : AfterSettling). Spends 0 (length x.ciphers) (spent_in old.memory.now) (spent_in new.memory.now))
-          (settle_none f c.memory unowed) (spends c.memory h)));
+          (settle_none f c.memory unowed) (spends c.memory h))));
       maps = maps_further first.memory.now old.memory.now new.memory.now new.space c.events
           (maps_of first.memory.now old.memory.now old.space new.space c.events space shows.maps) maps;
     }
@@ -282,10 +283,11 @@ sees_copied gave first old new domain from to (Cloaked c) same still meets track
         regime = same.regime ∙ sees.regime;
         tracks = tracks_same first.memory.now old.memory.now new.memory.now new.space c.events
             (respaced first.memory.now old.memory.now old.space new.space c.events same.space sees.tracks) tracks;
-        spends = spends_more (0 + 0) 0 (reads_due (asked_by old.space c) + 0) (reads_due (asked_by new.space c))
+        spends = spends_looks (omega arith)
+            (spends_more (0 + 0) 0 (reads_due (asked_by old.space c) + 0) (reads_due (asked_by new.space c))
             (spent_in first.memory.now) (spent_in new.memory.now) (omega arith)
             (spends_then 0 0 (reads_due (asked_by old.space c)) 0 (spent_in first.memory.now) (spent_in old.memory.now) (spent_in new.memory.now)
-            sees.spends (spends_still old.memory.now new.memory.now reads (ap (λ (t : Table). t.counts.misses) shadows)));
+            sees.spends (spends_still old.memory.now new.memory.now reads (ap (λ (t : Table). t.counts.misses) shadows))));
         maps = maps_further first.memory.now old.memory.now new.memory.now new.space c.events
             (maps_of first.memory.now old.memory.now old.space new.space c.events same.space sees.maps)
             (maps_same old.memory.now new.memory.now shadows);
@@ -329,11 +331,12 @@ sees_dropped gave first begun old new domain r (Cloaked c) same still meets spac
         tracks = tracks_on first.memory.now begun.memory.now new.memory.now new.space c.events (Drop domain r ∷ [])
             (respaced first.memory.now begun.memory.now begun.space new.space c.events space sees.tracks)
             (tracks_drop begun.memory.now new.memory.now new.space domain r tracks);
-        spends = spends_more (0 + 0) 0 (reads_due (asked_by old.space c) + 0) (reads_due (asked_by new.space (record c { events = c.events ++ Drop domain r ∷ [] })))
+        spends = spends_looks (let looks = looks_then c.events (Drop domain r ∷ []) in omega (arith, looks))
+            (spends_more (0 + 0) 0 (reads_due (asked_by old.space c) + 0) (reads_due (asked_by new.space (record c { events = c.events ++ Drop domain r ∷ [] })))
             (spent_in first.memory.now) (spent_in new.memory.now)
             (let further = due_events new.space c.events (Drop domain r ∷ []) c.items in omega (arith, further))
             (spends_then 0 0 (reads_due (asked_by old.space c)) 0 (spent_in first.memory.now) (spent_in old.memory.now) (spent_in new.memory.now)
-            shows.spends (spends_still old.memory.now new.memory.now reads (ap (λ (t : Table). t.counts.misses) shadows)));
+            shows.spends (spends_still old.memory.now new.memory.now reads (ap (λ (t : Table). t.counts.misses) shadows))));
         maps = maps_on first.memory.now old.memory.now new.memory.now new.space c.events (Drop domain r ∷ [])
             (maps_of first.memory.now old.memory.now old.space new.space c.events same.space shows.maps)
             (maps_still old.memory.now new.memory.now new.space (Drop domain r ∷ []) (maps_same old.memory.now new.memory.now shadows));

@@ -59,8 +59,8 @@ use Rattle.shadow_fold.specs.declared.entry.Regime.{Regime}
 use Rattle.shadow_fold.specs.declared.entry.Regime.TheVariants.{Outside, Inside}
 use Rattle.cloak_model.specs.World.{ram_of}
 use Rattle.cloaked_side.proofs.Sided.{count_of, sees_also, sees_noted}
-use Rattle.cloaked_side.proofs.Spending.{due_events, paid_is, maps_born, maps_looked, maps_on, maps_still, since_then, spends_missed, spends_more, spends_still, spends_then, live_looked}
-use Rattle.shadow_fold.specs.Reads.{Spends, reads_due}
+use Rattle.cloaked_side.proofs.Spending.{due_events, paid_is, maps_born, maps_looked, maps_on, looks_then, maps_still, since_then, spends_looks, spends_missed, spends_more, spends_still, spends_then, live_looked}
+use Rattle.shadow_fold.specs.Reads.{SpendsFor, looks_in, reads_due}
 use Rattle.shadow_fold.proofs.Keys.{is_for-key}
 use Rattle.shadow_fold.proofs.Agreeing.{found}
 use Rattle.shadow_fold.proofs.Finding.{is_some-find}
@@ -164,7 +164,7 @@ with_table old t = record old { memory = record old.memory { now = record old.me
 sees_with : {E : Type 0} (gave : E → E → List Piece → Type 0) (first old : Side E) (t : Table) (c : Cloak) (events : List Event) (left : ℕ) → SeesCloak gave first old c
     → Agrees (present (held_in old.memory.now.pager) c.memory) t → t.frames ≡ old.memory.now.shadows.frames
     → TracksBy old.memory.now (record old.memory.now { shadows = t }) (after_events old.space events)
-    → Spends left 0 (spent_in old.memory.now) (spent_in (record old.memory.now { shadows = t }))
+    → SpendsFor (looks_in events) left 0 (spent_in old.memory.now) (spent_in (record old.memory.now { shadows = t }))
     → MapsBy old.memory.now (record old.memory.now { shadows = t }) old.space events
     → SeesCounted gave first (with_table old t) (record c { events = c.events ++ events }) left 0
 sees_with gave first old t c events left sees agrees room tracks spends maps =
@@ -185,9 +185,10 @@ sees_with gave first old t c events left sees agrees room tracks spends maps =
       violation = sees.violation;
       regime = sees.regime;
       tracks = tracks_on first.memory.now old.memory.now new old.space c.events events sees.tracks tracks;
-      spends = spends_more (0 + left) left (reads_due (asked_by old.space c) + 0) _ (spent_in first.memory.now) (spent_in new)
+      spends = spends_looks (let looks = looks_then c.events events in omega (arith, looks))
+          (spends_more (0 + left) left (reads_due (asked_by old.space c) + 0) _ (spent_in first.memory.now) (spent_in new)
           (let further = due_events old.space c.events events c.items in omega (arith, further))
-          (spends_then 0 left (reads_due (asked_by old.space c)) 0 (spent_in first.memory.now) (spent_in old.memory.now) (spent_in new) sees.spends spends);
+          (spends_then 0 left (reads_due (asked_by old.space c)) 0 (spent_in first.memory.now) (spent_in old.memory.now) (spent_in new) sees.spends spends));
       maps = maps_on first.memory.now old.memory.now new old.space c.events events sees.maps maps;
     }
 
@@ -207,7 +208,7 @@ looked_misses regime page kind t = refl
 -- a look counts, and changes nothing else
 looks : {E : Type 0} (gave : E → E → List Piece → Type 0) (first old : Side E) (t : Table) (regime : Regime) (va : ℕ)
     (kind : Kind) (c : Cloak) (left : ℕ) → SeesCloak gave first old c → IsRegimeIn old.space regime → t ≡ looked regime (va / 4096) kind old.memory.now.shadows
-    → Spends left 0 (spent_in old.memory.now) (spent_in (record old.memory.now { shadows = t }))
+    → SpendsFor 1 left 0 (spent_in old.memory.now) (spent_in (record old.memory.now { shadows = t }))
     → SeesCounted gave first (with_table old t) (record c { events = c.events ++ Look (satp_in regime) (access_in regime va kind) ∷ [] }) left 0
 looks gave first old t regime va kind c left sees viewed is spends =
     sees_with gave first old t c (Look (satp_in regime) (access_in regime va kind) ∷ []) left sees
@@ -225,10 +226,10 @@ pub looks_found : {E : Type 0} (gave : E → E → List Piece → Type 0) (first
     → SeesCloak gave first (with_table old t) (record c { events = c.events ++ Look (satp_in regime) (access_in regime va kind) ∷ [] })
 looks_found gave first old t regime va kind e c sees viewed is there =
     looks gave first old t regime va kind c 0 sees viewed is
-    (spends_still old.memory.now (record old.memory.now { shadows = t }) refl
+    (spends_looks (omega arith) (spends_still old.memory.now (record old.memory.now { shadows = t }) refl
     (ap (λ (u : Table). u.counts.misses) is ∙ looked_misses regime (va / 4096) kind old.memory.now.shadows
     ∙ ap (λ (b : Bool). cond b old.memory.now.shadows.counts.misses (one_more old.memory.now.shadows.counts.misses))
-    (known_found regime (va / 4096) kind old.memory.now.shadows e there)))
+    (known_found regime (va / 4096) kind old.memory.now.shadows e there))))
 
 unknown_missed : (regime : Regime) (page : ℕ) (kind : Kind) (t : Table) → None ≡ find (is_for regime page kind) t.live → is_known regime page kind t ≡ false
 unfolding is_known

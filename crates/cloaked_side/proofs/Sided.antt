@@ -35,8 +35,8 @@ use Rattle.cloaked_side.proofs.Marking.{stands_remarked}
 use Rattle.cloaked_side.proofs.Holders.{no_more_self, no_more_then, no_more_rights}
 use Rattle.cloaked_side.proofs.Translating.{agrees_read, agrees_rights, ending_frames}
 use Rattle.cloaked_side.specs.Tracking.{Tracks, TracksBy, MapsBy, MapsStill, spent_in}
-use Rattle.shadow_fold.specs.Reads.{Spends, reads_due}
-use Rattle.cloaked_side.proofs.Spending.{paid_is, spends_more, spends_on, spends_then, spends_read, spends_still, spends_ended, due_events, due_items, due_event, ciphers_due, maps_ending, maps_further, maps_of, maps_on, maps_same, maps_still, since_then}
+use Rattle.shadow_fold.specs.Reads.{Spends, SpendsFor, looks_in, reads_due}
+use Rattle.cloaked_side.proofs.Spending.{paid_is, looks_then, spends_looks, spends_more, spends_on, spends_then, spends_read, spends_still, spends_ended, due_events, due_items, due_event, ciphers_due, maps_ending, maps_further, maps_of, maps_on, maps_same, maps_still, since_then}
 use Rattle.cloaked_side.proofs.Tracking.{no_events, read_held, respaced, same_tracks, tracks_on, tracks_read, tracks_same, tracks_touch}
 use Rattle.shadow_fold.specs.Fold.{Fold, after_events, frame, touched}
 use Rattle.cloaked_side.specs.declared.memory.Memory.{Memory}
@@ -59,7 +59,7 @@ counted_on gave first old new c c' left more es is evented itemed violated viewe
   tracks = subst (λ (xs : List Event). TracksBy first.memory.now new.memory.now (after_events new.space xs)) (sym evented)
       (tracks_on first.memory.now old.memory.now new.memory.now new.space c.events es
       (respaced first.memory.now old.memory.now old.space new.space c.events space sees.tracks) tracks);
-  spends = subst (λ (x : List Event × List Item). Spends left
+  spends = subst (λ (x : List Event × List Item). SpendsFor (looks_in x.0) left
       (paid more (reads_due (record { space = new.space; events = x.0; items = x.1; changed = [] }))) (spent_in first.memory.now) (spent_in new.memory.now))
       (λ i. (sym evented i, sym itemed i))
       (spends_on left more new.space c.events es c.items is (spent_in first.memory.now) (spent_in old.memory.now) (spent_in new.memory.now)
@@ -84,8 +84,10 @@ sees_also gave first now c left more events still sees = record {
       let further = due_events now.space c.events events c.items in
       let few = paid_is more (reads_due (asked_by now.space c)) in
       let many = paid_is more (reads_due (record { space = now.space; events = c.events ++ events; items = c.items; changed = [] })) in
-      spends_more left left (paid more (reads_due (asked_by now.space c))) _ (spent_in first.memory.now) (spent_in now.memory.now)
-      (omega (arith, further, few, many)) sees.spends
+      let looks = looks_then c.events events in
+      spends_looks (omega (arith, looks))
+      (spends_more left left (paid more (reads_due (asked_by now.space c))) _ (spent_in first.memory.now) (spent_in now.memory.now)
+      (omega (arith, further, few, many)) sees.spends)
       );
   maps = maps_on first.memory.now now.memory.now now.memory.now now.space c.events events sees.maps (λ mapped make are. are);
 }
@@ -110,7 +112,8 @@ sees_written gave first old new i (Cloaked c) memory violation regime space emit
   regime = regime ∙ sees.regime;
   tracks = subst (λ x. TracksBy first.memory.now x.now (after_events new.space c.events)) (sym memory)
       (respaced first.memory.now old.memory.now old.space new.space c.events space sees.tracks);
-  spends = subst (λ x. Spends 0 (reads_due (asked_by new.space (record c { items = c.items ++ i ∷ [] }))) (spent_in first.memory.now) (spent_in x.now)) (sym memory)
+  spends = subst (λ x. SpendsFor (looks_in c.events) 0 (reads_due (asked_by new.space (record c { items = c.items ++ i ∷ [] })))
+      (spent_in first.memory.now) (spent_in x.now)) (sym memory)
       (spends_more 0 0 (reads_due (asked_by old.space c)) _ (spent_in first.memory.now) (spent_in old.memory.now)
       (let further = due_items old.space c.events c.items (i ∷ []) in omega (arith, further)) sees.spends);
   maps = subst (λ x. MapsBy first.memory.now x.now new.space c.events) (sym memory)
@@ -420,10 +423,11 @@ counted_read gave first old new c left more same shadows counting read sees =
           let n = reads_due (asked_by old.space c) in
           let few = paid_is more n in
           let many = paid_is (more + 1) n in
-          spends_more (left + 0) left (paid more n + 1) (paid (more + 1) n)
+          spends_looks (omega arith)
+          (spends_more (left + 0) left (paid more n + 1) (paid (more + 1) n)
           (spent_in first.memory.now) (spent_in new.memory.now) (omega (arith, few, many))
           (spends_then left 0 (paid more n) 1 (spent_in first.memory.now) (spent_in old.memory.now) (spent_in new.memory.now)
-          sees.spends (spends_read old.memory.now new.memory.now read (ap (λ (t : Table). t.counts.misses) shadows)))
+          sees.spends (spends_read old.memory.now new.memory.now read (ap (λ (t : Table). t.counts.misses) shadows))))
           );
       maps = maps_further first.memory.now old.memory.now new.memory.now new.space c.events
           (maps_of first.memory.now old.memory.now old.space new.space c.events same.space sees.maps)
@@ -441,9 +445,10 @@ counted_event gave first now c f sees =
       regime = sees.regime;
       tracks = tracks_on first.memory.now now.memory.now now.memory.now now.space c.events (Read f ∷ []) sees.tracks
           (tracks_read now.memory.now now.space f);
-      spends = spends_more 0 0 (suc (reads_due (asked_by now.space c))) _ (spent_in first.memory.now) (spent_in now.memory.now)
+      spends = spends_looks (let looks = looks_then c.events (Read f ∷ []) in omega (arith, looks))
+          (spends_more 0 0 (suc (reads_due (asked_by now.space c))) _ (spent_in first.memory.now) (spent_in now.memory.now)
           (let both : reads_due (record { space = now.space; events = c.events ++ Read f ∷ []; items = c.items; changed = [] })
-          ≡ reads_due (asked_by now.space c) + 1 = due_event now.space c.events c.items (Read f) in omega (arith, both)) sees.spends;
+          ≡ reads_due (asked_by now.space c) + 1 = due_event now.space c.events c.items (Read f) in omega (arith, both)) sees.spends);
       maps = maps_on first.memory.now now.memory.now now.memory.now now.space c.events (Read f ∷ []) sees.maps (λ mapped make are. are);
     }
 

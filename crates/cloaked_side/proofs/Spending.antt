@@ -1,11 +1,10 @@
 -- How often frames are read, and by which events entries come about.
-use Rattle.std.proofs.Common.{zero, suc, ◌≡◌, ◌∙◌, ◌+◌, ◌-◌, ◌^◌, ◌<◌, ◌≤◌, ℕ, Bool, true, false, cond, List, [], ◌∷◌, ◌++◌, length, Option, Some, None, refl, sym, ap, subst, arith, inl, inr}
+use Rattle.std.proofs.Common.{zero, suc, ◌≡◌, ◌∙◌, ◌+◌, ◌-◌, ◌^◌, ◌≤◌, ℕ, Bool, true, false, cond, List, [], ◌∷◌, ◌++◌, length, Option, Some, None, refl, sym, ap, subst, arith}
 use Rattle.std.specs.Prelude.{min}
-use Rattle.std.proofs.Math.Nat.{min-le_left, min-eq_left, min-eq_right}
+use Rattle.std.proofs.Math.Nat.{min-le_left}
 use Rattle.cloak_model.specs.declared.access.Access.{Access}
 use Rattle.cloak_model.specs.declared.access.Walked.{Walked}
 use Rattle.std.specs.List.{All, count_by}
-use Rattle.std.proofs.lemmas.Bool.{cases_lt}
 use Rattle.std.proofs.lemmas.List.Sums.{sum_by-append}
 use Rattle.cloak_base.specs.Random.{Random}
 use Rattle.cloak_base.specs.declared.names.Frame.{Frame}
@@ -28,7 +27,7 @@ use Rattle.shadow_fold.specs.Agreement.{IsMapped}
 use Rattle.shadow_fold.specs.Births.{MakeAll}
 use Rattle.shadow_fold.specs.Following.{killed_if, AreBirthCalls}
 use Rattle.shadow_fold.specs.Fold.{entry_in}
-use Rattle.shadow_fold.specs.Reads.{Spent, Spends, is_read, reads_due}
+use Rattle.shadow_fold.specs.Reads.{Spent, Spends, SpendsFor, counted_up, is_look, is_read, looks_in, reads_due}
 use Rattle.shadow_fold.specs.Table.{Table, looked, one_more, ending, killed}
 use Rattle.shadow_fold.specs.Entries.{is_target, is_table}
 use Rattle.shadow_fold.specs.declared.entry.Entry.{Entry}
@@ -41,61 +40,80 @@ use Rattle.cloaked_side.specs.Tracking.{MapsBy, MapsStill, spent_in}
 
 -- Reads.
 
-pub spends_none : (s : Spent) → Spends 0 0 s s
-spends_none s = record { on = λ few. omega arith; reads = λ few. omega arith }
+counted_then : (more less n : ℕ) → counted_up (more + less) n ≡ counted_up more (counted_up less n)
+unfolding counted_up
+counted_then zero less n =
+    let none : zero + less ≡ less = omega arith in
+    ap (λ (k : ℕ). counted_up k n) none
+counted_then (suc more) less n =
+    let next : suc more + less ≡ suc (more + less) = omega arith in
+    ap (λ (k : ℕ). counted_up k n) next ∙ ap one_more (counted_then more less n)
 
-pub spends_then : (l k d n : ℕ) (a b c : Spent) → Spends l d a b → Spends k n b c → Spends (l + k) (d + n) a c
+pub spends_none : (s : Spent) → Spends 0 0 s s
+unfolding counted_up
+spends_none s = record { missed = 0; few = omega arith; counted = refl; reads = omega arith }
+
+pub spends_then : {i j : ℕ} (l k d n : ℕ) (a b c : Spent) → SpendsFor i l d a b → SpendsFor j k n b c →
+    SpendsFor (i + j) (l + k) (d + n) a c
 spends_then l k d n a b c p q = record {
-  on = λ few. (let two = q.on few in let one = p.on (before few) in omega (arith, one, two));
-  reads = λ few. (let first = p.reads (before few) in let second = q.reads few in omega (arith, first, second));
+  missed = q.missed + p.missed;
+  few = (let one = p.few in let two = q.few in omega (arith, one, two));
+  counted = q.counted ∙ ap (counted_up q.missed) p.counted ∙ sym (counted_then q.missed p.missed a.misses);
+  reads = (let one = p.reads in let two = q.reads in omega (arith, one, two));
 }
-  where
-    before : c.misses < 2 ^ 64 - 1 → b.misses < 2 ^ 64 - 1
-    before few = let two = q.on few in omega (arith, few, two)
 
 -- more is due, and fewer are left
-pub spends_more : (l k d n : ℕ) (a b : Spent) → k + d ≤ l + n → Spends l d a b → Spends k n a b
+pub spends_more : {i : ℕ} (l k d n : ℕ) (a b : Spent) → k + d ≤ l + n → SpendsFor i l d a b → SpendsFor i k n a b
 spends_more l k d n a b more p = record {
-  on = p.on;
-  reads = λ few. (let it = p.reads few in omega (arith, it, more));
+  missed = p.missed;
+  few = p.few;
+  counted = p.counted;
+  reads = (let it = p.reads in omega (arith, it, more));
+}
+
+-- of more looks
+pub spends_looks : {i j left due : ℕ} {a b : Spent} → i ≤ j → SpendsFor i left due a b → SpendsFor j left due a b
+spends_looks more p = record {
+  missed = p.missed;
+  few = (let it = p.few in omega (arith, it, more));
+  counted = p.counted;
+  reads = p.reads;
 }
 
 -- nothing was read, and no look missed
 pub spends_still : (old new : Memory) → new.pager.reads ≡ old.pager.reads →
     new.shadows.counts.misses ≡ old.shadows.counts.misses → Spends 0 0 (spent_in old) (spent_in new)
+unfolding counted_up
 spends_still old new reads misses = record {
-  on = λ few. omega (arith, misses);
-  reads = λ few. omega (arith, reads, misses);
+  missed = 0;
+  few = omega arith;
+  counted = misses;
+  reads = omega (arith, reads);
 }
 
 -- a frame was read
 pub spends_read : (old new : Memory) → IsReadOnce old.pager new.pager →
     new.shadows.counts.misses ≡ old.shadows.counts.misses → Spends 0 1 (spent_in old) (spent_in new)
+unfolding counted_up
 spends_read old new once misses =
     let reads : new.pager.reads ≡ min (old.pager.reads + 1) (2 ^ 64 - 1) = ap (λ (p : PagerState). p.reads) once in
     let most = min-le_left (old.pager.reads + 1) (2 ^ 64 - 1) in record {
-      on = λ few. omega (arith, misses);
-      reads = λ few. omega (arith, reads, misses, most);
+      missed = 0;
+      few = omega arith;
+      counted = misses;
+      reads = omega (arith, reads, most);
     }
-
-below_min : (a b : ℕ) → min a b < b → min a b ≡ a
-below_min a b few = elim (cases_lt a b) [
-  | inl low ↦ (let least : a ≤ b = omega (arith, low) in min-eq_left least)
-  | inr high ↦ (let last : min a b ≡ b = min-eq_right high in absurd (omega (arith, few, last)))
-]
 
 -- a look that missed leaves the two words of its walk
 pub spends_missed : (old new : Memory) → new.pager.reads ≡ old.pager.reads →
-    new.shadows.counts.misses ≡ one_more old.shadows.counts.misses → Spends 2 0 (spent_in old) (spent_in new)
+    new.shadows.counts.misses ≡ one_more old.shadows.counts.misses → SpendsFor 1 2 0 (spent_in old) (spent_in new)
+unfolding counted_up
 spends_missed old new reads misses = record {
-  on = λ few. (let one = counted few in omega (arith, one));
-  reads = λ few. (let one = counted few in omega (arith, reads, one));
+  missed = 1;
+  few = omega arith;
+  counted = misses;
+  reads = omega (arith, reads);
 }
-  where
-    counted : new.shadows.counts.misses < 2 ^ 64 - 1 → new.shadows.counts.misses ≡ old.shadows.counts.misses + 1
-    counted few =
-        misses ∙ below_min (old.shadows.counts.misses + 1) (2 ^ 64 - 1)
-        (subst (λ (n : ℕ). n < 2 ^ 64 - 1) misses few)
 
 -- What is due.
 
@@ -129,6 +147,10 @@ due_event space es is e =
     let both : count_by is_read (es ++ e ∷ []) ≡ count_by is_read es + count_by is_read (e ∷ []) = sum_by-append (λ x. cond (is_read x) 1 0) es (e ∷ []) in
     omega (arith, both)
 
+-- looks go on with events
+pub looks_then : (es fs : List Event) → looks_in (es ++ fs) ≡ looks_in es + looks_in fs
+looks_then es fs = sum_by-append (λ e. cond (is_look e) 1 0) es fs
+
 pub ciphers_due : (cs : List (ℕ × List ℕ)) → count_by is_cipher (cipher_items cs) ≡ length cs
 ciphers_due [] = refl
 ciphers_due (c ∷ cs) =
@@ -141,11 +163,11 @@ pub paid_is : (more due : ℕ) → paid more due ≡ more + due
 paid_is zero due = omega arith
 paid_is (suc more) due = let rest = paid_is more due in omega (arith, rest)
 
--- After a world's events and items, calls did as much as their events and items call for.
+-- After a world's events and items, calls that asked for no look did as much as their events and items call for.
 pub spends_on : (left more : ℕ) (space : Option SpaceId) (es fs : List Event) (is js : List Item) (a b c : Spent) →
-    Spends left (paid more (reads_due (record { space = space; events = es; items = is; changed = [] }))) a b →
+    SpendsFor (looks_in es) left (paid more (reads_due (record { space = space; events = es; items = is; changed = [] }))) a b →
     Spends 0 (reads_due (record { space = space; events = fs; items = js; changed = [] })) b c →
-    Spends left (paid more (reads_due (record { space = space; events = es ++ fs; items = is ++ js; changed = [] }))) a c
+    SpendsFor (looks_in (es ++ fs)) left (paid more (reads_due (record { space = space; events = es ++ fs; items = is ++ js; changed = [] }))) a c
 spends_on left more space es fs is js a b c before after =
     let n = reads_due (record { space = space; events = es; items = is; changed = [] }) in
     let k = reads_due (record { space = space; events = fs; items = js; changed = [] }) in
@@ -153,8 +175,10 @@ spends_on left more space es fs is js a b c before after =
     let all = reads_due (record { space = space; events = es ++ fs; items = is ++ js; changed = [] }) in
     let few = paid_is more n in
     let many = paid_is more all in
-    spends_more (left + 0) left (paid more n + k) (paid more all) a c
-    (omega (arith, both, few, many)) (spends_then left 0 (paid more n) k a b c before after)
+    let looks = looks_then es fs in
+    spends_looks (omega (arith, looks))
+    (spends_more (left + 0) left (paid more n + k) (paid more all) a c
+    (omega (arith, both, few, many)) (spends_then left 0 (paid more n) k a b c before after))
 
 -- Calls of the pager.
 
@@ -285,21 +309,27 @@ since_then n (Space changed ∷ es) fs = since_then n es fs
 pub touch_shows_none : (old : Memory) (p : PagerState) (t : Table) (h : FrameRight) (draw : Option (List ℕ × Random)) (f : ℕ) →
     TouchTurns h draw old.pager p f → t.counts.misses ≡ old.shadows.counts.misses →
     Spends 0 0 (spent_in old) (record { reads = p.reads; misses = t.counts.misses })
+unfolding counted_up
 touch_shows_none old p t h draw f state misses =
     let reads = touched_reads h draw old.pager p f state in record {
-      on = λ few. omega (arith, misses);
-      reads = λ few. omega (arith, reads, misses);
+      missed = 0;
+      few = omega arith;
+      counted = misses;
+      reads = omega (arith, reads);
     }
 
 pub touch_shows_frame : (old new : Memory) (p : PagerState) (h : FrameRight) (draw : Option (List ℕ × Random)) (f : ℕ) →
     TouchTurns h draw old.pager p f → IsReadOnce p new.pager → new.shadows.counts.misses ≡ old.shadows.counts.misses →
     Spends 0 1 (spent_in old) (spent_in new)
+unfolding counted_up
 touch_shows_frame old new p h draw f state once misses =
     let reads = touched_reads h draw old.pager p f state in
     let read : new.pager.reads ≡ min (p.reads + 1) (2 ^ 64 - 1) = ap (λ (x : PagerState). x.reads) once in
     let most = min-le_left (p.reads + 1) (2 ^ 64 - 1) in record {
-      on = λ few. omega (arith, misses);
-      reads = λ few. omega (arith, reads, misses, read, most);
+      missed = 0;
+      few = omega arith;
+      counted = misses;
+      reads = omega (arith, reads, read, most);
     }
 
 -- an offer of the pager reads no frame that it shows

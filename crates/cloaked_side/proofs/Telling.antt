@@ -16,7 +16,7 @@ use Rattle.cloak_base.specs.declared.names.SpaceId.{SpaceId}
 use Rattle.shadow_fold.specs.Fold.{Fold, after_events}
 use Rattle.cloaked_side.specs.Tracking.{Tracks, TracksBy, GoesBy, spent_in}
 use Rattle.shadow_fold.specs.Reads.{AskedByStep, reads_due}
-use Rattle.cloaked_side.proofs.Spending.{spends_more, spends_none}
+use Rattle.cloaked_side.proofs.Spending.{spends_looks, spends_more, spends_none}
 use Rattle.cloaked_side.proofs.Tracking.{no_events}
 use Rattle.cloak_pager.specs.State.{PagerState}
 use Rattle.cloaked_side.specs.Holding.{Holds, SameSize, HoldsNoMore}
@@ -38,8 +38,9 @@ sees_first gave s c holds none quiet violation regime = record {
   regime = regime;
   tracks = subst (λ (es : List Event). TracksBy s.memory.now s.memory.now (after_events s.space es)) (sym quiet)
       (λ f keeps. subst (λ (u : Fold). Tracks s.memory.now u) (no_events s.space f) keeps);
-  spends = spends_more 0 0 0 (reads_due (asked_by s.space c)) (spent_in s.memory.now) (spent_in s.memory.now) (omega arith)
-      (spends_none (spent_in s.memory.now));
+  spends = spends_looks (omega arith)
+      (spends_more 0 0 0 (reads_due (asked_by s.space c)) (spent_in s.memory.now) (spent_in s.memory.now) (omega arith)
+      (spends_none (spent_in s.memory.now)));
   maps = λ mapped make are. are;
 }
 

@@ -9,7 +9,7 @@ use Rattle.cloak_model.specs.Asking.{Asking, FollowsFrom}
 use Rattle.cloak_model.specs.Exchange.{Piece, Emits, EmitsSome, item_pieces}
 use Rattle.cloak_model.specs.Events.{Event, Look, Touch, Offer, Born, Read, Write, Drop, Space}
 use Rattle.shadow_fold.specs.Fold.{after_events}
-use Rattle.shadow_fold.specs.Reads.{AskedByStep, Spends, reads_due}
+use Rattle.shadow_fold.specs.Reads.{AskedByStep, SpendsFor, looks_in, reads_due}
 use Rattle.shadow_fold.specs.Table.{Table, is_known}
 use Rattle.shadow_fold.specs.declared.entry.Regime.{Regime}
 use Rattle.cloaked_side.specs.Tracking.{TracksBy, MapsBy, spent_in}
@@ -36,7 +36,7 @@ pub record SeesCounted {E : Type 0} (gave : E → E → List Piece → Type 0) (
   pub regime : now.regime ≡ c.regime
   -- the memory has become what the step's events make of it
   pub tracks : TracksBy first.memory.now now.memory.now (after_events now.space c.events)
-  pub spends : Spends left (paid more (reads_due (asked_by now.space c)))
+  pub spends : SpendsFor (looks_in c.events) left (paid more (reads_due (asked_by now.space c)))
       (spent_in first.memory.now) (spent_in now.memory.now)
   pub maps : MapsBy first.memory.now now.memory.now now.space c.events
 
@@ -76,7 +76,8 @@ pub record ShowsCloak {E : Type 0} (gave : E → E → List Piece → Type 0) (f
   pub emits : Emits gave first.emitter.now now.emitter.now (item_pieces c.items)
   pub violation : now.violation ≡ c.violation
   pub regime : now.regime ≡ c.regime
-  pub spends : Spends 0 (reads_due (asked_by now.space c)) (spent_in first.memory.now) (spent_in now.memory.now)
+  pub spends : SpendsFor (looks_in c.events) 0 (reads_due (asked_by now.space c)) (spent_in first.memory.now)
+      (spent_in now.memory.now)
   pub maps : MapsBy first.memory.now now.memory.now now.space c.events
 
 abbrev pub ShowsWorld : {E : Type 0} → (E → E → List Piece → Type 0) → Side E → Side E → World → Type 0

@@ -12,7 +12,7 @@ use Rattle.shadow_fold.specs.Births.{MakeAll}
 use Rattle.shadow_fold.specs.Entries.{is_of_space}
 use Rattle.shadow_fold.specs.Fold.{Fold, frame, touched, touched_where, after_events}
 use Rattle.shadow_fold.specs.Following.{FollowsTable}
-use Rattle.shadow_fold.specs.Reads.{AskedByStep, Spent, Spends, events_in, reads_due}
+use Rattle.shadow_fold.specs.Reads.{AskedByStep, Spent, SpendsFor, events_in, looks_in, reads_due}
 use Rattle.shadow_fold.specs.Table.{Table}
 use Rattle.cloaked_side.specs.declared.memory.Memory.{Memory}
 
@@ -70,6 +70,6 @@ IsGone memory s = All (λ e. is_of_space s e ≡ false) memory.shadows.live
 -- its entries come about by its events, and no entry is left of a space that changed.
 pub record GoesBy (old new : Memory) (a : AskedByStep) : Type 0 where
   pub tracks : TracksBy old new (after_events a.space (events_in a))
-  pub spends : Spends 0 (reads_due a) (spent_in old) (spent_in new)
+  pub spends : SpendsFor (looks_in a.events) 0 (reads_due a) (spent_in old) (spent_in new)
   pub maps : MapsBy old new a.space a.events
   pub gone : AreAll (IsGone new) a.changed

@@ -4,6 +4,11 @@
 //! step does is told as in `latest_store`, `specs/Deeds`: by the contexts and regions of its program, what the program
 //! was answered in the step, and the history before it. Both hold of the run of every image in the grammar, from
 //! whatever beginning: as a run begins, no context has a reservation, even if files were added.
+//!
+//! No body changes a law, so there is no wrong body to refuse here. With none of these changed definitions, tried on a
+//! copy, did the proofs go through: LR is said to reserve nothing; SC is said to store also a word that its context
+//! has not reserved; a store of any program is said to store in the word if the numbers of its resource and page are
+//! the same.
 #![tactic(auto)]
 
 ghost use Rattle.context_law.specs.Inside.{ContextsKeepReservations, ContextsStoreReserved};

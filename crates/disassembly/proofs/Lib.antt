@@ -9,3 +9,4 @@ pub mod Words
 pub mod Lines
 pub mod ReadBack
 pub mod Building
+pub mod Parts

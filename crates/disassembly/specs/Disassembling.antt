@@ -1,5 +1,5 @@
 -- What `disasm` makes of a file of words.
-use Rattle.std.specs.Prelude.{ℕ, ◌≡◌, ◌≢◌, ◌+◌, ◌%◌, ◌^◌, ◌<◌, ◌⊎◌, List, [], ◌++◌, length, take, codes, Option, IfSome, Result, Ok, Err}
+use Rattle.std.specs.Prelude.{ℕ, ◌≡◌, ◌≢◌, ◌+◌, ◌%◌, ◌^◌, ◌<◌, ◌≤◌, ◌⊎◌, List, [], ◌++◌, length, take, codes, Option, IfSome, Result, Ok, Err}
 use Rattle.io_traits.specs.Told.{Grows, GrowsByFront, Rose}
 use Rattle.command_parts.specs.Outside.{FilesOutside, Outside, Output}
 use Rattle.command_parts.specs.declared.status.Status.{Status}
@@ -13,12 +13,14 @@ use Rattle.disassembly.specs.declared.fault.WordsFault.TheVariants.{NoBytes, Too
 abbrev pub most_bytes : ℕ
 most_bytes = 262144
 
--- The bytes of a file with its first word at an address have this fault. (Want of memory is no fault of a file.)
+-- The bytes of a file with its first word at an address have this fault, and no other: they are counted before they are
+-- taken as words, and these before they get addresses. (Want of memory is no fault of a file.)
 abbrev pub HasFault : (base : ℕ) → List ℕ → WordsFault → Type 0
 HasFault base bytes NoBytes = bytes ≡ []
 HasFault base bytes TooLarge = most_bytes < length bytes
-HasFault base bytes NotWords = length bytes % 4 ≢ 0
-HasFault base bytes PastEnd = 2 ^ 32 < base + length bytes
+HasFault base bytes NotWords = (length bytes ≤ most_bytes) × (length bytes % 4 ≢ 0)
+HasFault base bytes PastEnd =
+    (length bytes ≤ most_bytes) × (length bytes % 4 ≡ 0) × (2 ^ 32 < base + length bytes)
 HasFault base bytes NoMemory = Unit {0}
 
 -- what is wrong

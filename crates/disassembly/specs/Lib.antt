@@ -1,3 +1,4 @@
 pub mod Listing
 pub mod ReadingBack
 pub mod Disassembling
+pub mod ImageParts

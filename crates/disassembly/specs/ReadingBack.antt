@@ -1,5 +1,5 @@
 -- A text that the assembler reads back.
-use Rattle.std.specs.Prelude.{ℕ, ◌≡◌, ◌+◌, ◌*◌, ◌^◌, ◌<◌, ◌≤◌, List, length, All, Ok}
+use Rattle.std.specs.Prelude.{ℕ, ◌≡◌, ◌≢◌, ◌+◌, ◌*◌, ◌^◌, ◌<◌, ◌≤◌, List, [], length, All, Ok}
 use Rattle.std.specs.List.{flat_map}
 use Rattle.std.specs.Str.{IsUtf8}
 use Rattle.cloak_model.specs.Bits.{word}
@@ -27,8 +27,10 @@ pub record Fits (base : ℕ) (words : List ℕ) : Type 0 where
 abbrev pub ReadsBack : (base : ℕ) → List ℕ → Type 0
 ReadsBack base words = IsUtf8 (listing base words) × MeansWords (listing base words) words
 
--- Of a file's bytes: this is the text of the words that they are, and the assembler makes these bytes of it again.
+-- Of a file's bytes, of which there are some: this is the text of the words that they are, and the assembler makes these
+-- bytes of it again.
 pub record IsDisassembled (base : ℕ) (bytes text : List ℕ) : Type 0 where
+  pub some : bytes ≢ []
   pub words : List ℕ
   pub flat : bytes ≡ flat_map word words
   pub fits : Fits base words

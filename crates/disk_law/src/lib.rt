@@ -3,7 +3,9 @@
 //! block, and a bundle with the disk of the end is a bundle again. The law holds of the run of every bundle, also of one
 //! that no file spells, and from whatever beginning.
 //!
-//! No body changes a law, so there is no wrong body to refuse here.
+//! No body changes a law, so there is no wrong body to refuse here. These changed definitions were tried on a copy,
+//! and with none of them did the proof go through: the disk keeps its bytes; a block that is written takes the place
+//! of 4092 bytes; WRITE accepts the block after the last one.
 #![tactic(auto)]
 
 ghost use Rattle.disk_law.specs.Disks.{DisksStay};

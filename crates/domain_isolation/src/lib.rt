@@ -6,12 +6,13 @@
 //! reach a program by its inward items alone. The laws hold of every beginning (`specs/Beginning`), whatever its files
 //! hold.
 //!
-//! No body changes a law, so there is no wrong body to refuse here. These changed definitions were tried on a copy, and
-//! with none of them did the proofs go through. Of the joint machine: the timer is told to program 0; a resuming tells
-//! an answer other than the one that the context takes; a context that leaves stays marked as running; a hart that
-//! resumes a context stays outside; a step that met a violation goes on; a copy of pages goes to program 0; a load of
-//! memory that is not the program's own is told more than its bytes. Of the program alone: its pages begin as zeros;
-//! its turns go by the next hart.
+//! No body changes a law, so there is no wrong body to refuse here. These changed definitions were tried on a copy,
+//! and with none of them did the proofs go through. Of the joint machine: the timer is told to program 0; a resuming
+//! tells an answer other than the one that the context takes; a context that leaves stays marked as running; a hart
+//! that resumes a context stays outside; a step that met a violation goes on; a copy of pages goes to program 0; a
+//! load of memory that is not the program's own is told more than its bytes. Of the program alone: its pages begin as
+//! zeros; its turns go by the next hart. Of the inward half, for its law: a Word is none of it, nor is a Timer, nor
+//! the marker of a step.
 #![tactic(auto)]
 
 ghost use Rattle.domain_isolation.specs.Isolation.{DomainDependsOnHalf, DomainEndsAlone, DomainIsAlone, InwardHalfSuffices};

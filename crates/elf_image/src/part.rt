@@ -1,5 +1,5 @@
 //! The loadable parts of a file.
-ghost use Rattle.std.specs.Prelude.{◌≡◌, ◌+◌, ◌++◌, ◌<◌, ◌≤◌, length, map, not, IfOk, OnOk};
+ghost use Rattle.std.specs.Prelude.{◌≡◌, ◌+◌, ◌++◌, ◌<◌, ◌≤◌, length, map, not, IfOk, OnOk, OnErr};
 ghost use Rattle.std.specs.List.{list_any};
 ghost use Rattle.elf_image.specs.Elf as elf;
 ghost use Rattle.elf_image.specs.Faults.{fault_of};
@@ -94,6 +94,7 @@ pub fn load<'a>(
     requires { at + 32 ≤ length file.now }
     ensures fault { fault_of result ≡ elf.load_fault file.now (map seen parts.old.items) at }
     ensures parts { OnOk result (map seen parts.new.items ≡ map seen parts.old.items ++ elf.loaded file.now at) }
+    ensures kept { OnErr result (parts.new ≡ parts.old) }
 {
     if is_loadable(file, at) {
         let part = part_at(file, parts.as_slice(), at)?;

@@ -13,6 +13,8 @@ mod file_shelf;
 #[cfg(test)]
 mod memory_shelf;
 #[cfg(test)]
+mod pieces;
+#[cfg(test)]
 mod records;
 #[cfg(test)]
 mod std_sink;

@@ -7,6 +7,22 @@
 //! a run that goes on, a recorded ciphertext is that of its page's newest bytes. Each page that is owed or recorded,
 //! and each that is named by what ended its program, is one that this program can have. All these together: the state
 //! with which a fresh run is frozen is in range, and its machine can go on.
+//!
+//! No body changes a law, so there is no wrong body to refuse here. These changed definitions were tried on a copy,
+//! and with none of them did the proof of its law go through. Of harts: sstatus keeps no SUM; program counters are
+//! multiples of 8; register 1 is 0. Of reservations: their addresses are multiples of 8; none is in the last frame;
+//! none is of the first word of RAM. Of draws: a step offers one page at most; the opening draws for 4095 pages at
+//! most; there are fewer than 2^20. Of sizes: each hart has the number 0; the disk has as many bytes as there are
+//! frames; there are as many places for owed pages as harts. Of streams: there was one draw more than the ledger
+//! counts; the first draw after the opening's keys is one of them again; the stream stays. Of misses: the last step
+//! does not stop a run; no draw was missing even after a step that stopped it, or if only the steps before the last
+//! one are looked at. Of records: they tell their pages also if a draw was missing, or of a page that a frame is owed,
+//! or if the files have other ciphertexts. Of whole pages: they have 4095 bytes; the image has any numbers instead of
+//! bytes, or what the run begins with has. Of pages: the last one of a resource is none of it; all are of resource 0,
+//! or of program 0. Of ends: there are 15 resources; a resource has 1023 pages; the last frame is not named. Of pages
+//! that fit: one that a frame is owed is as recorded, or zeros if nothing is recorded; they fit also after a step that
+//! stopped the run. Of going on: a run goes on after such a step, or though pages clashed, or under a stream of any
+//! numbers.
 #![tactic(auto)]
 
 ghost use Rattle.frozen_law.specs.Draws.{DrawsAreBelow, DrawsAreFew};

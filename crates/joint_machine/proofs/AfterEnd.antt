@@ -30,7 +30,7 @@ use Rattle.cloaked_side.specs.Telling.{HoldsWorld}
 use Rattle.cloaked_side.specs.Tracking.{GoesBy, Tracks, TracksBy, spent_in}
 use Rattle.cloaked_side.specs.declared.memory.Memory.{Memory}
 use Rattle.cloaked_side.proofs.Emitting.{emits_items, emits_none}
-use Rattle.cloaked_side.proofs.Spending.{due_then, maps_on, spends_more, spends_then}
+use Rattle.cloaked_side.proofs.Spending.{due_then, looks_then, maps_on, spends_looks, spends_more, spends_then}
 use Rattle.cloaked_side.proofs.Tracking.{tracks_on}
 use Rattle.hypercalls.specs.declared.domain.Domain.{Domain}
 use Rattle.hypercalls.specs.Standing.{StandsFor}
@@ -274,10 +274,11 @@ goes_both old mid new space es fs is js changed first second =
           (tracks_on old mid new space es (fs ++ told)
           (subst (λ (xs : List Event). TracksBy old mid (after_events space xs))
           (append-nil es) first.tracks) second.tracks);
-      spends = spends_more (0 + 0) 0 (n + k) (reads_due
+      spends = spends_looks (let looks = looks_then es fs in omega (arith, looks))
+          (spends_more (0 + 0) 0 (n + k) (reads_due
           (record { space = space; events = es ++ fs; items = is ++ js; changed = changed }))
           (spent_in old) (spent_in new) (omega (arith, due))
-          (spends_then 0 0 n k (spent_in old) (spent_in mid) (spent_in new) first.spends second.spends);
+          (spends_then 0 0 n k (spent_in old) (spent_in mid) (spent_in new) first.spends second.spends));
       maps = maps_on old mid new space es fs first.maps second.maps;
       gone = second.gone;
     }

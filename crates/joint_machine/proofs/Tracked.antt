@@ -19,7 +19,7 @@ use Rattle.cloak_model.specs.World.{Cloak, Cloaked, events_of, items_of, is_clas
 use Rattle.cloak_model.specs.declared.regime.InsideRegime.{InsideRegime}
 use Rattle.cloaked_side.specs.Tracking.{AreAll, Tracks, TracksBy, GoesBy, IsGone, spent_in}
 use Rattle.cloak_model.specs.Opening.{numbers_below}
-use Rattle.cloaked_side.proofs.Spending.{ending_misses, maps_ending, maps_still, spends_more, spends_none, spends_still, spends_then}
+use Rattle.cloaked_side.proofs.Spending.{ending_misses, maps_ending, maps_still, spends_looks, spends_more, spends_none, spends_still, spends_then}
 use Rattle.shadow_fold.specs.Reads.{AskedByStep, reads_due}
 use Rattle.shadow_fold.proofs.Agreeing.{keeps_ending}
 use Rattle.cloak_model.specs.declared.item.Item.{Item}
@@ -157,9 +157,10 @@ goes_then old mid new space es is changed first second =
     record {
       tracks = tracks_on old mid new space es (map (λ s. Space s) changed)
           (subst (λ (xs : List Event). TracksBy old mid (after_events space xs)) (append-nil es) first.tracks) second.tracks;
-      spends = spends_more (0 + 0) 0 (reads_due a + reads_due b) (reads_due (record { space = space; events = es; items = is; changed = changed }))
+      spends = spends_looks (omega arith)
+          (spends_more (0 + 0) 0 (reads_due a + reads_due b) (reads_due (record { space = space; events = es; items = is; changed = changed }))
           (spent_in old) (spent_in new) (omega arith)
-          (spends_then 0 0 (reads_due a) (reads_due b) (spent_in old) (spent_in mid) (spent_in new) first.spends second.spends);
+          (spends_then 0 0 (reads_due a) (reads_due b) (spent_in old) (spent_in mid) (spent_in new) first.spends second.spends));
       maps = λ mapped make are. second.maps mapped tt (first.maps mapped make are);
       gone = second.gone;
     }

@@ -5,13 +5,15 @@
 //! the outward items alone. The laws hold of the run of every bundle, also of one that no file spells, and of every
 //! beginning (`specs/Beginning`): of a run from a random stream alone, and of one over any files, whatever they hold.
 //!
-//! No body changes a law, so there is no wrong body to refuse here. These changed definitions were tried on a copy, and
-//! with none of them did the proofs go through. Of the kernel alone: the timer of a hart inside does not count; a Put
-//! must be at a multiple of 4; a Cipher outside steps is unfit; Close ends no step; a Put is inward; a hart that leaves
-//! keeps its reservation; a Cipher ends no reservation. Of the run: the last page of a program is not shown in the
-//! opening; the closing writes nothing; steps follow one that stopped the run; a hart that leaves stays as it was; a
-//! program's step that stops the run writes nothing; what is settled ahead of a step is not written; a step of a context
-//! that has no program shows a byte on the console.
+//! No body changes a law, so there is no wrong body to refuse here. These changed definitions were tried on a copy,
+//! and with none of them did the proofs go through. Of the kernel alone: the timer of a hart inside does not count; a
+//! Put must be at a multiple of 4; a Cipher outside steps is unfit; Close ends no step; a Put is inward; a hart that
+//! leaves keeps its reservation; a Cipher ends no reservation. Of the run: the last page of a program is not shown in
+//! the opening; the closing writes nothing; steps follow one that stopped the run; a hart that leaves stays as it was;
+//! a program's step that stops the run writes nothing; what is settled ahead of a step is not written; a step of a
+//! context that has no program shows a byte on the console. Of the outward half, for its law: a Put is none of it, nor
+//! is a Leave, nor the marker of a step. Of an exchange, for its law: a Put may not stand in a step; opening and
+//! closing show nothing; the items of the closing stand before Close.
 #![tactic(auto)]
 
 ghost use Rattle.kernel_isolation.specs.Isolation.{KernelDependsOnHalf, KernelEndsAlone, KernelIsAlone, OutwardHalfSuffices, WritesAnExchange};

@@ -1,6 +1,6 @@
 -- The counts of the fold over a run's events rise by its looks alone.
 use Rattle.std.proofs.Common.{◌≡◌, ◌≤◌, ℕ, ◌+◌, ◌*◌, ◌/◌, ◌-◌, ◌^◌, Bool, true, false, cond, List, [], ◌∷◌, length, map, Option, is_some, arith, refl}
-use Rattle.std.specs.Prelude.{min, nat_le}
+use Rattle.std.specs.Prelude.{nat_le}
 use Rattle.std.proofs.Math.Nat.{min-le_left}
 use Rattle.cloak_base.specs.declared.names.Frame.{Frame}
 use Rattle.cloak_base.specs.declared.names.Kind.{Kind}
@@ -13,11 +13,11 @@ use Rattle.cloak_model.specs.Run.{first_moment, turns_from}
 use Rattle.shadow_fold.specs.Entries.{is_of_space, is_table, is_target}
 use Rattle.shadow_fold.specs.Events.{after_step, after_turns, asked_in, counts_of}
 use Rattle.shadow_fold.specs.Fold.{Fold, after_event, after_events, born_unless, entry_in, frame, fresh_fold, granted, holds, is_own_table, offered, regime_in, touched, touched_where}
-use Rattle.shadow_fold.specs.Reads.{AskedByStep, events_in}
+use Rattle.shadow_fold.specs.Reads.{AskedByStep, events_in, looks_in}
 use Rattle.shadow_fold.specs.Table.{Table, born, emptied, ending, is_known, killed, looked, one_more, with_room}
 use Rattle.shadow_fold.specs.declared.entry.Entry.{Entry}
 use Rattle.shadow_fold.specs.declared.entry.Regime.{Regime}
-use Rattle.look_law.specs.Looks.{CountsAreFew, looks_in}
+use Rattle.look_law.specs.Looks.{CountsAreFew}
 use Rattle.look_law.proofs.Questions.{looks_then}
 use Rattle.look_law.proofs.Steps.{step_looks_twice}
 

@@ -19,7 +19,7 @@ use Rattle.cloak_model.specs.Events.{Offer as offers}
 use Rattle.cloak_model.specs.Fork.{ask_copies, ask_forgets}
 use Rattle.cloak_model.specs.Walk.{Walk, FirstWord, Ends, GoesOn, first_entry, walk}
 use Rattle.cloak_model.specs.World.{World, Handed, Flat, Cloaked, Alone, ram_of, regime_of, events_of, noted, settled, stored_at, filled_frame, written, with_plain, with_marks, cipher_items}
-use Rattle.look_law.specs.Looks.{is_look, looks_in}
+use Rattle.shadow_fold.specs.Reads.{is_look, looks_in}
 
 -- From one world to the other there were at most n looks.
 pub record Looks (n : ℕ) (w v : World) : Type 0 where

@@ -15,8 +15,8 @@ use Rattle.cloak_model.specs.Opening.{numbers_below}
 use Rattle.cloak_model.specs.Parts.{Joint}
 use Rattle.cloak_model.specs.World.{World, Cloaked, events_of, ram_of}
 use Rattle.shadow_fold.specs.Events.{asked_if, asked_running, asked_inside, asked_of, with_end, ended_once, ended_resumed, ended_asked, ended_by}
-use Rattle.shadow_fold.specs.Reads.{AskedByStep}
-use Rattle.look_law.specs.Looks.{StepLooksTwice, looks_in}
+use Rattle.shadow_fold.specs.Reads.{AskedByStep, looks_in}
+use Rattle.look_law.specs.Looks.{StepLooksTwice}
 use Rattle.look_law.proofs.Questions.{Looks, still, still_then, still_if_marked, asks_forgets, looks_then}
 use Rattle.look_law.proofs.Inside.{looks_domain}
 use Rattle.look_law.proofs.Outside as outside

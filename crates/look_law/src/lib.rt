@@ -4,7 +4,9 @@
 //! end of a domain after a step. So a run of n steps asks at most 2 * n times, and no count of that reaches its last
 //! number in the steps that a run may have.
 //!
-//! No body changes a law, so there is no wrong body to refuse here.
+//! No body changes a law, so there is no wrong body to refuse here. These changed definitions were tried on a copy,
+//! and with none of them did the proof go through: what is touched counts, too, or what is offered, or what the end of
+//! a domain drops; a step asks at most once; a run asks at most as often as it makes steps.
 #![tactic(auto)]
 
 ghost use Rattle.look_law.specs.Looks.{CountsAreFew, StepLooksTwice};

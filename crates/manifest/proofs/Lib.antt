@@ -1,11 +1,15 @@
 pub mod Among
 pub mod Counted
+pub mod ElfKeys
+pub mod ElfParts
 pub mod Fitting
 pub mod Files
 pub mod Images
+pub mod ImageParts
 pub mod Kept
 pub mod Paths
 pub mod ProgramKeys
+pub mod Spans
 pub mod Steps
 pub mod Tables
 pub mod Texts

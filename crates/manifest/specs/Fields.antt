@@ -1,11 +1,11 @@
 -- What stands at a key of a table, by the rule of the key; or what is wrong there.
-use Rattle.std.specs.Prelude.{ℕ, suc, ◌≡◌, ◌%◌, ◌==◌, ◌&&◌, ◌||◌, Bool, false, pos, negsuc, ℤ, List, [], ◌∷◌, Option, Some, None, Result, Ok, Err, MatchResult, nat_lt, nat_le, unwrap_or, bytes_eq, if◌then◌else◌}
+use Rattle.std.specs.Prelude.{ℕ, suc, ◌≡◌, ◌%◌, ◌==◌, ◌&&◌, ◌||◌, Bool, false, pos, negsuc, ℤ, List, [], ◌∷◌, Option, Some, None, is_some, Result, Ok, Err, MatchResult, nat_lt, nat_le, unwrap_or, bytes_eq, if◌then◌else◌}
 use Rattle.toml.specs.Data.{Data, as_integer, as_str, as_array, as_table, Items, no_items, item, Members, no_members, member}
 use Rattle.manifest.specs.declared.key.Key.{Key}
 use Rattle.manifest.specs.declared.key.ManifestTable.{ManifestTable}
 use Rattle.manifest.specs.declared.fault.FaultyKey.{FaultyKey}
 use Rattle.manifest.specs.declared.fault.KeyFault.{KeyFault}
-use Rattle.manifest.specs.declared.fault.KeyFault.TheVariants.{Missing, NoNumber, NoMultiple, NoName, NoList, TooMany}
+use Rattle.manifest.specs.declared.fault.KeyFault.TheVariants.{Missing, NoNumber, NoMultiple, NoName, NoList, TooMany, BesideElf}
 use Rattle.manifest.specs.Keys.{key_name, stands_at}
 
 -- one, and then another; the first fault is the fault of both
@@ -61,6 +61,11 @@ module _ (part : ManifestTable) where
   multiple_at key of n = if n % of == 0 then Ok n else Err (wrong_at key (NoMultiple of))
 
   module _ (table : Data) where
+    -- none of these keys stands beside `elf`
+    unfoldable pub alone_at : List Key → Result (Unit {0}) FaultyKey
+    alone_at [] = Ok tt
+    alone_at (key ∷ keys) = if is_some (stands_at key table) then Err (wrong_at key BesideElf) else alone_at keys
+
     -- a whole number, if one is given
     unfoldable pub number_at : Key → (least most : ℕ) → Result (Option ℕ) FaultyKey
     number_at key least most =

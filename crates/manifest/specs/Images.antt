@@ -9,14 +9,16 @@ use Rattle.cloak_model.specs.declared.image.Bundle.{Bundle}
 use Rattle.toml.specs.Data.{Data, table, as_table, Items, Members}
 use Rattle.toml.specs.Parse.{parse_document}
 use Rattle.manifest.specs.declared.key.Key.{Key}
-use Rattle.manifest.specs.declared.key.Key.TheVariants.{Frames, Harts, Schedule, Entry, Segment, Disk, Program, Address, Text, Bytes, Blocks, File, Block, Pages, Place, Base, Stack, KeyNumber}
+use Rattle.manifest.specs.declared.key.Key.TheVariants.{Frames, Harts, Schedule, Entry, Segment, Disk, Program, Address, Text, Bytes, Elf, Blocks, File, Block, Pages, Place, Base, Stack, KeyNumber}
+use Rattle.manifest.specs.declared.key.ManifestTable.{ManifestTable}
 use Rattle.manifest.specs.declared.key.ManifestTable.TheVariants as part
 use Rattle.manifest.specs.declared.fault.KeyFault.TheVariants.{NoTable}
 use Rattle.manifest.specs.Keys.{stands_at}
 use Rattle.manifest.specs.Fields.{wrong_at, number_or_at, needed_at, list_at, short_list_at}
-use Rattle.manifest.specs.Parts.{schedule_at, entry_at, segment_at, stored_at, program_at, fitting}
+use Rattle.manifest.specs.Parts.{schedule_at, entry_at, with_flat, stored_at, program_at, fitting}
+use Rattle.manifest.specs.Loading.{with_elf, elf_program_at}
 use Rattle.manifest.specs.Faults.{Fault, too_long, not_text, no_toml, at_key, by_keys, only_keys, After, Then}
-use Rattle.manifest.specs.Sources.{TableReads, InTurn, EachReads}
+use Rattle.manifest.specs.Sources.{SourceReads, ElfReads, TableReads, InTurn, EachReads}
 
 -- the most bytes of a manifest
 abbrev pub longest_manifest : ℕ
@@ -28,7 +30,11 @@ abbrev pub image_keys : List Key
 image_keys = Frames ∷ Harts ∷ Schedule ∷ Entry ∷ Segment ∷ Disk ∷ Program ∷ []
 
 abbrev pub segment_keys : List Key
-segment_keys = Address ∷ Text ∷ Bytes ∷ []
+segment_keys = Address ∷ Text ∷ Bytes ∷ Elf ∷ []
+
+-- those that stand beside no `elf`
+abbrev pub beside_no_elf : List Key
+beside_no_elf = Address ∷ Text ∷ Bytes ∷ Base ∷ Entry ∷ []
 
 abbrev pub disk_keys : List Key
 disk_keys = Blocks ∷ File ∷ []
@@ -37,7 +43,7 @@ abbrev pub file_keys : List Key
 file_keys = Block ∷ Text ∷ Bytes ∷ []
 
 abbrev pub program_keys : List Key
-program_keys = Text ∷ Bytes ∷ Pages ∷ Place ∷ Base ∷ Entry ∷ Stack ∷ KeyNumber ∷ []
+program_keys = Text ∷ Bytes ∷ Elf ∷ Pages ∷ Place ∷ Base ∷ Entry ∷ Stack ∷ KeyNumber ∷ []
 
 -- the document of a text (What is said of a text that is none, no clause says.)
 unfoldable pub DocumentReads : List ℕ → Result Members Fault → Type 0
@@ -55,13 +61,33 @@ TextReads text r =
 module _ (held : List ℕ → Option (List ℕ)) (manifest : List ℕ) where
   -- ---- the kernel
 
-  unfoldable pub SegmentReads : (frames number : ℕ) → Data → Result KernelSegment Fault → Type 0
-  SegmentReads frames number segment r =
+  -- the segments so far, and that of the bytes that a table names
+  unfoldable pub FlatSegmentReads : ManifestTable → (frames : ℕ) → Data → List KernelSegment →
+      Result (List KernelSegment) Fault → Type 0
+  FlatSegmentReads at frames from so_far r =
+      Then (SourceReads held manifest at from) (λ bytes r. r ≡ by_keys (with_flat at from frames so_far bytes)) r
+
+  -- the segments so far, and those of an ELF file
+  unfoldable pub ElfSegmentsRead : ManifestTable → (frames : ℕ) → Data → (value : Data) → List KernelSegment →
+      Result (List KernelSegment) Fault → Type 0
+  ElfSegmentsRead at frames from value so_far r =
+      Then (ElfReads held manifest at beside_no_elf from value)
+      (λ file r. r ≡ by_keys (with_elf at frames so_far file)) r
+
+  abbrev pub SegmentsBy : ManifestTable → (frames : ℕ) → Data → (elf : Option Data) → List KernelSegment →
+      Result (List KernelSegment) Fault → Type 0
+  SegmentsBy at frames from None so_far r = FlatSegmentReads at frames from so_far r
+  SegmentsBy at frames from (Some value) so_far r = ElfSegmentsRead at frames from value so_far r
+
+  -- the segments so far, and those of a table
+  unfoldable pub SegmentReads : (frames number : ℕ) → Data → List KernelSegment →
+      Result (List KernelSegment) Fault → Type 0
+  SegmentReads frames number from so_far r =
       let at = part.Segment number in
-      TableReads held manifest at segment_keys (segment_at at segment frames) segment r
+      After (only_keys at segment_keys from) (λ _. SegmentsBy at frames from (stands_at Elf from) so_far) r
 
   unfoldable pub SegmentsRead : (frames : ℕ) → Items → Result (List KernelSegment) Fault → Type 0
-  SegmentsRead frames tables r = EachReads (SegmentReads frames) tables r
+  SegmentsRead frames tables r = InTurn (SegmentReads frames) 1 tables [] r
 
   -- the disk with the file of a table
   unfoldable pub FileReads : (number : ℕ) → Data → (disk : List ℕ) → Result (List ℕ) Fault → Type 0
@@ -108,10 +134,27 @@ module _ (held : List ℕ → Option (List ℕ)) (manifest : List ℕ) where
 
   -- ---- the programs
 
+  -- the program of the bytes that a table names
+  unfoldable pub FlatProgramReads : ManifestTable → (frames : ℕ) → Data → Result CloakedProgram Fault → Type 0
+  FlatProgramReads at frames from r =
+      Then (SourceReads held manifest at from) (λ bytes r. r ≡ by_keys (program_at at from frames bytes)) r
+
+  -- the program of an ELF file
+  unfoldable pub ElfProgramReads : ManifestTable → (frames : ℕ) → Data → (value : Data) →
+      Result CloakedProgram Fault → Type 0
+  ElfProgramReads at frames from value r =
+      Then (ElfReads held manifest at beside_no_elf from value)
+      (λ file r. r ≡ by_keys (elf_program_at at from frames file)) r
+
+  abbrev pub ProgramBy : ManifestTable → (frames : ℕ) → Data → (elf : Option Data) →
+      Result CloakedProgram Fault → Type 0
+  ProgramBy at frames from None r = FlatProgramReads at frames from r
+  ProgramBy at frames from (Some value) r = ElfProgramReads at frames from value r
+
   unfoldable pub ProgramReads : (frames number : ℕ) → Data → Result CloakedProgram Fault → Type 0
-  ProgramReads frames number program r =
+  ProgramReads frames number from r =
       let at = part.Program number in
-      TableReads held manifest at program_keys (program_at at program frames) program r
+      After (only_keys at program_keys from) (λ _. ProgramBy at frames from (stands_at Elf from)) r
 
   unfoldable pub ProgramsRead : (frames : ℕ) → Items → Result (List CloakedProgram) Fault → Type 0
   ProgramsRead frames tables r = EachReads (ProgramReads frames) tables r

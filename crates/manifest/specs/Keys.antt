@@ -2,7 +2,7 @@
 use Rattle.std.specs.Prelude.{ℕ, List, codes, Option}
 use Rattle.toml.specs.Data.{Data, get}
 use Rattle.manifest.specs.declared.key.Key.{Key}
-use Rattle.manifest.specs.declared.key.Key.TheVariants.{Frames, Harts, Schedule, Entry, Segment, Disk, Program, Address, Text, Bytes, Blocks, File, Block, Pages, Place, Base, Stack, KeyNumber}
+use Rattle.manifest.specs.declared.key.Key.TheVariants.{Frames, Harts, Schedule, Entry, Segment, Disk, Program, Address, Text, Bytes, Elf, Blocks, File, Block, Pages, Place, Base, Stack, KeyNumber}
 
 -- a key as it is written
 abbrev pub key_name : Key → List ℕ
@@ -16,6 +16,7 @@ key_name Program = codes "program"
 key_name Address = codes "address"
 key_name Text = codes "text"
 key_name Bytes = codes "bytes"
+key_name Elf = codes "elf"
 key_name Blocks = codes "blocks"
 key_name File = codes "file"
 key_name Block = codes "block"

@@ -1,6 +1,7 @@
 pub mod Keys
 pub mod Fields
 pub mod Parts
+pub mod Loading
 pub mod Faults
 pub mod Sources
 pub mod Images

@@ -13,7 +13,7 @@ use Rattle.manifest.specs.declared.key.Key.TheVariants.{Frames, Harts, Schedule,
 use Rattle.manifest.specs.declared.key.ManifestTable.{ManifestTable}
 use Rattle.manifest.specs.declared.key.ManifestTable.TheVariants as part
 use Rattle.manifest.specs.declared.fault.FaultyKey.{FaultyKey}
-use Rattle.manifest.specs.declared.fault.KeyFault.TheVariants.{NoTurn, NoList, TooFew, TooMany, NoFile, NoRoom, PastRam, PastAddresses, TooLarge}
+use Rattle.manifest.specs.declared.fault.KeyFault.TheVariants.{NoTurn, NoList, TooFew, TooMany, NoFile, NoRoom, TooManySegments, PastRam, PastAddresses, TooLarge}
 use Rattle.manifest.specs.Keys.{stands_at}
 use Rattle.manifest.specs.Fields.{◌>>=◌, or_fault, number_from, count_of, wrong_at, multiple_at, number_at, needed_at, number_or_at}
 
@@ -44,6 +44,15 @@ schedule_in at harts None = Ok (harts_in_order harts)
 schedule_in at harts (Some value) =
     or_fault (as_array value) (wrong_at at Schedule NoList) >>= schedule_of at harts
 
+-- these bytes from a place on, and what was there before and after them
+abbrev pub with_bytes : (at : ℕ) → (bytes so_far : List ℕ) → List ℕ
+with_bytes at bytes so_far = take at so_far ++ (bytes ++ drop (at + length bytes) so_far)
+
+-- one segment more, and 16 at most
+abbrev pub with_segment : (so_far : List KernelSegment) → KernelSegment → Result (List KernelSegment) FaultyKey
+with_segment so_far segment =
+    if nat_lt (length so_far) 16 then Ok (so_far ++ segment ∷ []) else Err (wrong_at part.Image Segment TooManySegments)
+
 module _ (at : ManifestTable) where
   -- a file that a key names: it has some bytes, and is no larger than an image
   unfoldable pub file_bytes : Key → List ℕ → Result (List ℕ) FaultyKey
@@ -67,18 +76,22 @@ module _ (at : ManifestTable) where
           then Ok (record { address = address; bytes = bytes })
           else Err (wrong_at at Address PastRam)
 
+    -- the segments so far, and that of these bytes
+    abbrev pub with_flat : (frames : ℕ) → (so_far : List KernelSegment) → List ℕ → Result (List KernelSegment) FaultyKey
+    with_flat frames so_far bytes = segment_at frames bytes >>= with_segment so_far
+
     -- a disk on which these bytes are stored at a block
     unfoldable pub stored_at : (disk bytes : List ℕ) → Result (List ℕ) FaultyKey
     stored_at disk bytes = do
       block ← needed_at at table Block 0 4095
       if nat_le (4096 * block + length bytes) (length disk)
-          then Ok (take (4096 * block) disk ++ (bytes ++ drop (4096 * block + length bytes) disk))
+          then Ok (with_bytes (4096 * block) bytes disk)
           else Err (wrong_at at Block (NoRoom (length disk - 4096 * block)))
 
     -- how many pages: as many as this many bytes need, if nothing else is given
-    unfoldable pub pages_at : (size : ℕ) → Result ℕ FaultyKey
-    pages_at size = do
-      needed ← if nat_lt 1024 (pages_needed size) then Err (wrong_at at Bytes (NoRoom (4096 * 1024))) else Ok (pages_needed size)
+    unfoldable pub pages_at : Key → (size : ℕ) → Result ℕ FaultyKey
+    pages_at key size = do
+      needed ← if nat_lt 1024 (pages_needed size) then Err (wrong_at at key (NoRoom (4096 * 1024))) else Ok (pages_needed size)
       pages ← number_or_at at table Pages 1 1024 needed
       if nat_le size (4096 * pages) then Ok pages else Err (wrong_at at Pages (NoRoom (4096 * pages)))
 
@@ -94,18 +107,23 @@ module _ (at : ManifestTable) where
       base ← needed_at at table Base 0 (2 ^ 32 - 1) >>= multiple_at at Base 4096
       if nat_le (base + 4096 * pages) (2 ^ 32) then Ok base else Err (wrong_at at Base PastAddresses)
 
-    -- The entry is the base, and the stack begins at the end of the pages, if nothing else is given.
+    -- The stack begins at the end of the pages, if nothing else is given.
+    unfoldable pub start_from : (pages base entry : ℕ) → Result Start FaultyKey
+    start_from pages base entry = do
+      sp ← number_or_at at table Stack 0 (2 ^ 32 - 1) ((base + 4096 * pages) % 2 ^ 32)
+      Ok (record { pages = pages; base = base; entry = entry; sp = sp })
+
+    -- The entry is the base, if nothing else is given.
     unfoldable pub start_at : (pages : ℕ) → Result Start FaultyKey
     start_at pages = do
       base ← base_at pages
       entry ← number_or_at at table Entry 0 (2 ^ 32 - 1) base >>= multiple_at at Entry 4
-      sp ← number_or_at at table Stack 0 (2 ^ 32 - 1) ((base + 4096 * pages) % 2 ^ 32)
-      Ok (record { pages = pages; base = base; entry = entry; sp = sp })
+      start_from pages base entry
 
     -- What the bytes do not fill is zeros. The key has number 0, if nothing else is given.
     unfoldable pub program_at : (frames : ℕ) → List ℕ → Result CloakedProgram FaultyKey
     program_at frames bytes = do
-      pages ← pages_at (length bytes)
+      pages ← pages_at Bytes (length bytes)
       place ← frame_at frames pages
       start ← start_at pages
       key ← number_or_at at table KeyNumber 0 3 0

@@ -6,13 +6,13 @@ use Rattle.rv_asm.specs.declared.fault.AsmFault.TheVariants as asm
 use Rattle.asm_text.specs.declared.fault.TextFault.{TextFault}
 use Rattle.asm_text.specs.declared.fault.TextFault.TheVariants as text_fault
 use Rattle.asm_text.specs.Assembling.{IsAssembled, FailsToAssemble}
-use Rattle.toml.specs.Data.{Data, Items, no_items, item}
+use Rattle.toml.specs.Data.{Data, as_str, Items, no_items, item}
 use Rattle.manifest.specs.declared.key.Key.{Key}
-use Rattle.manifest.specs.declared.key.Key.TheVariants.{Bytes, Text}
+use Rattle.manifest.specs.declared.key.Key.TheVariants.{Bytes, Text, Elf}
 use Rattle.manifest.specs.declared.key.ManifestTable.{ManifestTable}
 use Rattle.manifest.specs.declared.fault.FaultyKey.{FaultyKey}
-use Rattle.manifest.specs.declared.fault.KeyFault.TheVariants.{NoSource, TwoSources}
-use Rattle.manifest.specs.Fields.{wrong_at, name_at}
+use Rattle.manifest.specs.declared.fault.KeyFault.TheVariants.{NoName, NoSource, TwoSources}
+use Rattle.manifest.specs.Fields.{alone_at, or_fault, wrong_at, name_at}
 use Rattle.manifest.specs.Parts.{file_bytes}
 use Rattle.manifest.specs.Faults.{Fault, at_key, faulty_text, by_keys, only_keys, After, Then}
 
@@ -79,6 +79,13 @@ module _ (held : List ℕ → Option (List ℕ)) (manifest : List ℕ) where
   unfoldable pub SourceReads : ManifestTable → Data → Result (List ℕ) Fault → Type 0
   SourceReads at from r =
       After (by_keys (name_at at from Bytes)) (λ flat. After (by_keys (name_at at from Text)) (NamedReads at flat)) r
+
+  -- the ELF file that a table names by this value; none of these keys stands beside it
+  unfoldable pub ElfReads : ManifestTable → (others : List Key) → Data → (value : Data) → Result (List ℕ) Fault → Type 0
+  ElfReads at others from value r =
+      After (by_keys (alone_at at from others)) (λ _.
+      After (by_keys (or_fault (as_str value) (wrong_at at Elf NoName))) (λ name.
+      AtPath manifest name (λ path. IsFileAt at Elf (held path)))) r
 
   -- A table has no keys but these. It names bytes, and they mean something with its other keys.
   unfoldable pub TableReads : {A : Type 0} → ManifestTable → List Key → (List ℕ → Result A FaultyKey) → Data → Result A Fault → Type 0

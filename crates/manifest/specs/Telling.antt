@@ -2,10 +2,12 @@
 use Rattle.std.specs.Prelude.{ℕ, List, [], ◌++◌, codes, decimal}
 use Rattle.asm_text.specs.Telling.{fault_text}
 use Rattle.asm_text.specs.declared.fault.TextFault.{TextFault}
+use Rattle.elf_image.specs.declared.fault.ElfCause.{ElfCause}
+use Rattle.elf_image.specs.declared.fault.ElfCause.TheVariants as elf
 use Rattle.manifest.specs.declared.key.ManifestTable.{ManifestTable}
 use Rattle.manifest.specs.declared.key.ManifestTable.TheVariants as part
 use Rattle.manifest.specs.declared.fault.KeyFault.{KeyFault}
-use Rattle.manifest.specs.declared.fault.KeyFault.TheVariants.{Missing, NoSource, NoNumber, NoTurn, NoMultiple, NoName, NoList, NoTable, TooFew, TooMany, TwoSources, NoFile, NoRoom, PastRam, PastAddresses, TooLarge}
+use Rattle.manifest.specs.declared.fault.KeyFault.TheVariants.{Missing, NoSource, NoNumber, NoTurn, NoMultiple, NoName, NoList, NoTable, TooFew, TooMany, TwoSources, BesideElf, NoFile, NoElf, NoRoom, PartOutside, EntryOutside, UnalignedEntry, TooManySegments, PastRam, PastAddresses, TooLarge}
 use Rattle.manifest.specs.declared.fault.FaultyKey.{FaultyKey}
 use Rattle.manifest.specs.Keys.{key_name}
 use Rattle.manifest.specs.Faults.{Fault, too_long, not_text, no_toml, at_key, unknown_key, faulty_text}
@@ -17,6 +19,29 @@ part_text (part.Segment number) = codes "segment " ++ decimal number ++ codes ":
 part_text part.Disk = codes "disk: "
 part_text (part.File number) = codes "disk: file " ++ decimal number ++ codes ": "
 part_text (part.Program number) = codes "program " ++ decimal number ++ codes ": "
+
+-- why a file cannot be loaded
+abbrev pub elf_words : ElfCause → List ℕ
+elf_words elf.Short = codes "it ends before its header does"
+elf_words elf.NoMagic = codes "it is no ELF file"
+elf_words elf.OtherClass = codes "it is not of 32 bits"
+elf_words elf.OtherByteOrder = codes "its numbers are not little-endian"
+elf_words elf.OtherVersion = codes "the version is not 1"
+elf_words elf.NotExecutable = codes "it is no program at fixed addresses"
+elf_words elf.OtherMachine = codes "it is not for RISC-V"
+elf_words elf.Compressed = codes "it has compressed instructions"
+elf_words elf.FloatRegisters = codes "it passes numbers in floating-point registers"
+elf_words elf.FewRegisters = codes "it is for 16 registers"
+elf_words elf.OtherFlags = codes "a flag is not known"
+elf_words elf.HeaderSize = codes "the program headers are not of 32 bytes"
+elf_words elf.TooManyHeaders = codes "there are 65535 program headers or more"
+elf_words elf.HeadersOutside = codes "the program headers go past the end of the file"
+elf_words elf.BytesOutside = codes "the bytes of a part go past the end of the file"
+elf_words elf.MoreBytesThanSize = codes "a part has more bytes in the file than in memory"
+elf_words elf.AddressesOutside = codes "a part goes past the last address"
+elf_words elf.Overlap = codes "a part has an address of a part before it"
+elf_words elf.TooManyParts = codes "there are more than 16 loadable parts"
+elf_words elf.NoPart = codes "there is no loadable part"
 
 -- what is wrong
 abbrev pub wrong_words : KeyFault → List ℕ
@@ -31,8 +56,15 @@ wrong_words NoTable = codes "it is to be a table"
 wrong_words TooFew = codes "it is to have at least 1 element"
 wrong_words (TooMany most) = codes "it is to have at most " ++ decimal most ++ codes " elements"
 wrong_words TwoSources = codes "it stands beside `text`; one of both is to go"
+wrong_words BesideElf = codes "it stands beside `elf`; one of both is to go"
 wrong_words NoFile = codes "the file is empty, or is not there"
 wrong_words (NoRoom room) = codes "there is room for " ++ decimal room ++ codes " bytes, and there are more"
+wrong_words (NoElf f) = codes "at byte " ++ (decimal f.at ++ (codes " of the file: " ++ elf_words f.cause))
+wrong_words (PartOutside address) = codes "the part at " ++ decimal address ++ codes " in the file does not lie in RAM"
+wrong_words (EntryOutside entry) =
+    codes "the entry " ++ decimal entry ++ codes " in the file does not lie in the program's pages"
+wrong_words (UnalignedEntry entry) = codes "the entry " ++ decimal entry ++ codes " in the file is no multiple of 4"
+wrong_words TooManySegments = codes "there would be more than 16 segments"
 wrong_words PastRam = codes "what begins here goes past the end of RAM"
 wrong_words PastAddresses = codes "the pages that begin here go past the last address"
 wrong_words TooLarge = codes "the bundle would have more than 67108864 bytes"

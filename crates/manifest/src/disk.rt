@@ -1,5 +1,5 @@
 //! The disk of an image.
-ghost use Rattle.std.specs.Prelude.{◌≡◌, ◌≤◌, ◌+◌, ◌*◌, ◌%◌, ◌++◌, IfOk, IfErr, MatchResult, length, take, drop, replicate, Ok, Err};
+ghost use Rattle.std.specs.Prelude.{◌≡◌, ◌≤◌, ◌*◌, ◌%◌, IfOk, IfErr, MatchResult, length, replicate, Ok, Err};
 ghost use Rattle.toml.specs.View.{view, items_view};
 ghost use Rattle.command_parts.specs.Outside.{files};
 ghost use Rattle.manifest.specs.declared.key.Key.TheVariants as keys;
@@ -13,18 +13,11 @@ ghost use Rattle.manifest.specs.Reading.{IsWant, ReadsParts};
 use crate::fault::{FaultyKey, KeyFault, PackError};
 use crate::fields::NamedTable;
 use crate::key::{Key, ManifestTable};
+use crate::loading::store;
 use crate::sources::source;
 use io_traits::Shelf;
 use std::alloc::Global;
 use toml::Value;
-
-/// Stores bytes on a disk.
-fn store(disk: &mut [u8], at: usize, bytes: &[u8])
-    requires { at + length bytes.now ≤ length disk.old }
-    ensures { disk.new ≡ take at disk.old ++ (bytes.now ++ drop (at + length bytes.now) disk.old) }
-{
-    disk[at..at + bytes.len()].copy_from_slice(bytes);
-}
 
 /// Stores the bytes of the file that a table means at its block.
 #[tactic(auto, unfolding(crate::specs::Parts::stored_at))]

@@ -5,6 +5,7 @@ ghost use Rattle.manifest.specs.declared.fault.PackError.TheVariants as errors;
 
 use crate::key::{Key, ManifestTable};
 use asm_text::TextFault;
+use elf_image::ElfFault;
 use std::alloc::{AllocError, AllocFailed};
 
 /// What is wrong at a key.
@@ -32,8 +33,20 @@ pub enum KeyFault {
     TooMany(u32),
     /// Beside this key, which names a file of bytes, the other one names a text.
     TwoSources,
+    /// Beside this key stands `elf`, which says the same of itself.
+    BesideElf,
     /// The file has no bytes, or is not there.
     NoFile,
+    /// It is no ELF file that can be loaded.
+    NoElf(ElfFault),
+    /// The part of the file from this address on does not lie in RAM.
+    PartOutside(u32),
+    /// The entry in the file, which is this, does not lie in the program's pages.
+    EntryOutside(u32),
+    /// The entry in the file, which is this, is no multiple of 4.
+    UnalignedEntry(u32),
+    /// There would be more than 16 segments.
+    TooManySegments,
     /// The file has more bytes than there is room for.
     NoRoom(u32),
     /// What begins here goes past the end of RAM.

@@ -39,6 +39,19 @@ impl<'a> NamedTable<'a> {
         self.table.get(key.name())
     }
 
+    /// None of these keys stands beside `elf`.
+    #[tactic(auto, unfolding(crate::specs::Fields::alone_at))]
+    pub fn stands_alone(self, others: &[Key]) -> Result<(), FaultyKey>
+        ensures { result ≡ spec.alone_at self.entry.part (view self.entry.table.now) others.now }
+    {
+        for key in others {
+            if self.value(*key).is_some() {
+                return Err(self.fault(*key, KeyFault::BesideElf));
+            }
+        }
+        Ok(())
+    }
+
     /// The number from `least` to `most` at a key, if something stands there.
     #[tactic(auto, unfolding(crate::specs::Fields::number_at))]
     pub fn number(self, key: Key, least: u32, most: u32) -> Result<Option<u32>, FaultyKey>
@@ -89,7 +102,8 @@ impl<'a> NamedTable<'a> {
     /// The name of a file at a key, if something stands there.
     #[tactic(auto, unfolding(crate::specs::Fields::name_at))]
     pub fn file_name(self, key: Key) -> Result<Option<&'a str>, FaultyKey>
-        ensures { Shows (option_map (λ name. name.now)) result (spec.name_at self.entry.part (view self.entry.table.now) key) }
+        ensures { Shows (option_map (λ name. name.now)) result
+            (spec.name_at self.entry.part (view self.entry.table.now) key) }
     {
         let Some(value) = self.value(key) else {
             return Ok(None);
@@ -103,7 +117,8 @@ impl<'a> NamedTable<'a> {
     /// The elements of the list at a key; none if nothing stands there.
     #[tactic(auto, unfolding(crate::specs::Fields::list_at))]
     pub fn list(self, key: Key) -> Result<&'a [Value], FaultyKey>
-        ensures { Shows (λ values. items_view values.now) result (spec.list_at self.entry.part (view self.entry.table.now) key) }
+        ensures { Shows (λ values. items_view values.now) result
+            (spec.list_at self.entry.part (view self.entry.table.now) key) }
     {
         let Some(value) = self.value(key) else {
             return Ok(&[]);
@@ -131,7 +146,8 @@ impl<'a> NamedTable<'a> {
     /// The first key of the table that is none of these.
     #[tactic(auto, unfolding(crate::specs::Fields::other_key))]
     fn other_key(self, keys: &[Key]) -> Option<&'a str>
-        ensures { option_map (λ name. name.now) result ≡ spec.other_key keys.now (as_table (view self.entry.table.now)) }
+        ensures { option_map (λ name. name.now) result
+            ≡ spec.other_key keys.now (as_table (view self.entry.table.now)) }
     {
         let Some(table) = self.table.as_table() else {
             return None;
@@ -147,7 +163,8 @@ impl<'a> NamedTable<'a> {
     /// The table has no keys but these.
     #[tactic(auto, unfolding(crate::specs::Faults::only_keys))]
     pub fn has_only(self, alloc: Global, keys: &[Key]) -> Result<(), PackError>
-        ensures read { ReturnsRead (λ x. x) (λ r. r ≡ only_keys self.entry.part keys.now (view self.entry.table.now)) result }
+        ensures read { ReturnsRead (λ x. x)
+            (λ r. r ≡ only_keys self.entry.part keys.now (view self.entry.table.now)) result }
         ensures no_read { IfErr result IsNoReadFault }
     {
         let Some(name) = self.other_key(keys) else {

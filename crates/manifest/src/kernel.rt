@@ -43,7 +43,8 @@ fn given_schedule(
 ) -> Result<Vec<u8>, PackError>
     requires some { 1 ≤ harts }
     requires few { harts ≤ 4 }
-    ensures read { ReturnsRead (λ v. v.items) (λ r. r ≡ by_keys (turns_of place.entry.part harts [] (items_view turns.now))) result }
+    ensures read { ReturnsRead (λ v. v.items)
+        (λ r. r ≡ by_keys (turns_of place.entry.part harts [] (items_view turns.now))) result }
     ensures no_read { IfErr result IsNoReadFault }
     ensures count { IfOk result (λ v. length v.items ≡ length turns.now) }
     ensures turns { IfOk result (λ v. All (λ h. h < harts) v.items) }

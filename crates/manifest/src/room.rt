@@ -29,7 +29,8 @@ fn behind_bytes(room: u64, bytes: &[u8]) -> Option<u64>
 /// What segments leave of some room, if there is enough.
 #[tactic(auto, using(crate::proofs::Fitting::flat_map_front))]
 fn behind_segments(room: u64, segments: &[Segment]) -> Option<u64>
-    ensures { MatchOption result (room < length (flat_map segment_bytes segments.now)) (λ left. length (flat_map segment_bytes segments.now) + left ≡ room) }
+    ensures { MatchOption result (room < length (flat_map segment_bytes segments.now))
+        (λ left. length (flat_map segment_bytes segments.now) + left ≡ room) }
 {
     let mut left = room;
     for segment in segments {
@@ -47,7 +48,8 @@ fn behind_segments(room: u64, segments: &[Segment]) -> Option<u64>
 /// What programs leave of some room, if there is enough.
 #[tactic(auto, using(crate::proofs::Fitting::flat_map_front))]
 fn behind_programs(room: u64, programs: &[Program]) -> Option<u64>
-    ensures { MatchOption result (room < length (flat_map (program_bytes 2) programs.now)) (λ left. length (flat_map (program_bytes 2) programs.now) + left ≡ room) }
+    ensures { MatchOption result (room < length (flat_map (program_bytes 2) programs.now))
+        (λ left. length (flat_map (program_bytes 2) programs.now) + left ≡ room) }
 {
     let mut left = room;
     for program in programs {
@@ -64,7 +66,8 @@ fn behind_programs(room: u64, programs: &[Program]) -> Option<u64>
 
 /// What the file of a bundle in version 2 leaves of the largest file, if it is not larger.
 pub fn room_behind(bundle: &Bundle) -> Option<u64>
-    ensures { MatchOption result (largest_bundle < length (bundle_bytes 2 bundle.now)) (λ left. length (bundle_bytes 2 bundle.now) + left ≡ largest_bundle) }
+    ensures { MatchOption result (largest_bundle < length (bundle_bytes 2 bundle.now))
+        (λ left. length (bundle_bytes 2 bundle.now) + left ≡ largest_bundle) }
 {
     let kernel = &bundle.kernel;
     let front = LARGEST_BUNDLE as u64 - 40;

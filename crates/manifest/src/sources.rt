@@ -6,7 +6,8 @@ ghost use Rattle.asm_text.specs.declared.fault.TextFault.TheVariants as text_fau
 ghost use Rattle.command_parts.specs.Outside.{files};
 ghost use Rattle.manifest.specs.declared.key.Key.TheVariants as keys;
 ghost use Rattle.manifest.specs.Faults.{ReturnsRead, Then};
-ghost use Rattle.manifest.specs.Sources.{AtPath, IsFileAt, IsPath, SourceReads, TextReads};
+ghost use Rattle.manifest.specs.Sources.{AtPath, ElfReads, IsFileAt, IsPath, SourceReads, TextReads};
+ghost use Rattle.manifest.specs.Images.{beside_no_elf};
 ghost use Rattle.manifest.specs.Reading.{IsNoFault, IsNoReadFault, IsWant, IsWhole, ReadsParts};
 
 use crate::fault::{KeyFault, PackError, PackFault};
@@ -18,6 +19,10 @@ use command_parts::{Refusal, read_front};
 use io_traits::Shelf;
 use rv_asm::AsmFault;
 use std::alloc::Global;
+use toml::Value;
+
+/// The keys that stand beside no `elf`.
+const BESIDE_NO_ELF: [Key; 5] = [Key::Address, Key::Text, Key::Bytes, Key::Base, Key::Entry];
 
 /// The name of a file that a manifest names, from the manifest's folder on.
 fn path_of(alloc: Global, manifest: &str, name: &str) -> Result<String, PackError>
@@ -116,22 +121,23 @@ fn words_of(
     }))
 }
 
-/// The bytes of the file of a name.
+/// The bytes of the file of a name, which a key of a table names.
 fn flat_source<S: Shelf>(
     alloc: Global,
     shelf: &mut S,
     manifest: &str,
     place: NamedTable<'_>,
     name: &str,
+    key: Key,
 ) -> Result<Vec<u8>, PackError>
     requires { S.is_settled shelf.old }
     ensures source { ReturnsRead (λ v. v.items)
-        (AtPath manifest.now name.now (λ path. IsFileAt place.entry.part keys.Bytes (S.held shelf.old path))) result }
+        (AtPath manifest.now name.now (λ path. IsFileAt place.entry.part key (S.held shelf.old path))) result }
     ensures reads { ReadsParts (files S.Shelf shelf.old) (files S.Shelf shelf.new) result }
     ensures settled { S.is_settled shelf.new }
 {
     let path = path_of(alloc, manifest, name)?;
-    named_file(alloc, shelf, path.as_str(), place, Key::Bytes)
+    named_file(alloc, shelf, path.as_str(), place, key)
 }
 
 /// The bytes of the words of the assembler text in the file of a name.
@@ -170,9 +176,30 @@ pub fn source<S: Shelf>(
     let flat = place.file_name(Key::Bytes)?;
     let written = place.file_name(Key::Text)?;
     match (flat, written) {
-        (Some(name), None) => flat_source(alloc, shelf, manifest, place, name),
+        (Some(name), None) => flat_source(alloc, shelf, manifest, place, name, Key::Bytes),
         (None, Some(name)) => text_source(alloc, shelf, manifest, place, name),
         (None, None) => Err(PackError::from(place.fault(Key::Bytes, KeyFault::NoSource))),
         (Some(_), Some(_)) => Err(PackError::from(place.fault(Key::Bytes, KeyFault::TwoSources))),
     }
+}
+
+/// The bytes of the ELF file that a table names by this value.
+pub fn elf_file<S: Shelf>(
+    alloc: Global,
+    shelf: &mut S,
+    manifest: &str,
+    place: NamedTable<'_>,
+    value: &Value,
+) -> Result<Vec<u8>, PackError>
+    requires { S.is_settled shelf.old }
+    ensures read { ReturnsRead (λ v. v.items) (ElfReads (S.held shelf.old) manifest.now place.entry.part beside_no_elf
+        (view place.entry.table.now) (view value.now)) result }
+    ensures reads { ReadsParts (files S.Shelf shelf.old) (files S.Shelf shelf.new) result }
+    ensures settled { S.is_settled shelf.new }
+{
+    place.stands_alone(&BESIDE_NO_ELF)?;
+    let Some(name) = value.as_str() else {
+        return Err(PackError::from(place.fault(Key::Elf, KeyFault::NoName)));
+    };
+    flat_source(alloc, shelf, manifest, place, name, Key::Elf)
 }

@@ -7,6 +7,7 @@ ghost use Rattle.manifest.specs.Faults.{fault_of};
 use crate::fault::{FaultyKey, KeyFault, PackFault};
 use crate::key::ManifestTable;
 use asm_text::{FaultyText, TextFault};
+use elf_image::ElfCause;
 use std::fmt;
 
 /// The manifest in a file of this name that means no bundle, and why. It shows the table and the key, and what is wrong
@@ -15,6 +16,34 @@ use std::fmt;
 pub struct FaultyManifest<'a> {
     pub name: &'a str,
     pub fault: &'a PackFault,
+}
+
+/// Why a file cannot be loaded.
+fn elf_words(cause: ElfCause) -> &'static str
+    ensures { result.now ≡ spec.elf_words cause }
+{
+    match cause {
+        ElfCause::Short => "it ends before its header does",
+        ElfCause::NoMagic => "it is no ELF file",
+        ElfCause::OtherClass => "it is not of 32 bits",
+        ElfCause::OtherByteOrder => "its numbers are not little-endian",
+        ElfCause::OtherVersion => "the version is not 1",
+        ElfCause::NotExecutable => "it is no program at fixed addresses",
+        ElfCause::OtherMachine => "it is not for RISC-V",
+        ElfCause::Compressed => "it has compressed instructions",
+        ElfCause::FloatRegisters => "it passes numbers in floating-point registers",
+        ElfCause::FewRegisters => "it is for 16 registers",
+        ElfCause::OtherFlags => "a flag is not known",
+        ElfCause::HeaderSize => "the program headers are not of 32 bytes",
+        ElfCause::TooManyHeaders => "there are 65535 program headers or more",
+        ElfCause::HeadersOutside => "the program headers go past the end of the file",
+        ElfCause::BytesOutside => "the bytes of a part go past the end of the file",
+        ElfCause::MoreBytesThanSize => "a part has more bytes in the file than in memory",
+        ElfCause::AddressesOutside => "a part goes past the last address",
+        ElfCause::Overlap => "a part has an address of a part before it",
+        ElfCause::TooManyParts => "there are more than 16 loadable parts",
+        ElfCause::NoPart => "there is no loadable part",
+    }
 }
 
 impl fmt::Display for ManifestTable {
@@ -52,10 +81,28 @@ impl fmt::Display for KeyFault {
             KeyFault::TooFew => f.write_str("it is to have at least 1 element"),
             KeyFault::TooMany(most) => write!(f, "it is to have at most {most} elements"),
             KeyFault::TwoSources => f.write_str("it stands beside `text`; one of both is to go"),
+            KeyFault::BesideElf => f.write_str("it stands beside `elf`; one of both is to go"),
             KeyFault::NoFile => f.write_str("the file is empty, or is not there"),
             KeyFault::NoRoom(room) => {
                 write!(f, "there is room for {room} bytes, and there are more")
             }
+            KeyFault::NoElf(fault) => {
+                let words = elf_words(fault.cause);
+                write!(f, "at byte {} of the file: {words}", fault.at)
+            }
+            KeyFault::PartOutside(address) => {
+                write!(f, "the part at {address} in the file does not lie in RAM")
+            }
+            KeyFault::EntryOutside(entry) => {
+                write!(
+                    f,
+                    "the entry {entry} in the file does not lie in the program's pages"
+                )
+            }
+            KeyFault::UnalignedEntry(entry) => {
+                write!(f, "the entry {entry} in the file is no multiple of 4")
+            }
+            KeyFault::TooManySegments => f.write_str("there would be more than 16 segments"),
             KeyFault::PastRam => f.write_str("what begins here goes past the end of RAM"),
             KeyFault::PastAddresses => {
                 f.write_str("the pages that begin here go past the last address")

@@ -6,12 +6,15 @@
 //! of every bundle, even of one that no file spells. All hold of both beginnings: of a run from a random stream alone,
 //! whose first draws are the keys, and of one over the files of an earlier run, to which the keys are handed.
 //!
-//! No body changes a law, so there is no wrong body to refuse here. These changed definitions were tried on a copy, and
-//! with none of them did the proofs of the law of Ciphers go through: a draw is not taken off the stream; without a
-//! draw the page's bytes are shown; each page is sealed under the key of program 0; a page is placed with the bytes
+//! No body changes a law, so there is no wrong body to refuse here. These changed definitions were tried on a copy,
+//! and with none of them did the proofs of the law of Ciphers go through: a draw is not taken off the stream; without
+//! a draw the page's bytes are shown; each page is sealed under the key of program 0; a page is placed with the bytes
 //! that it had before; a store writes its page before it reaches it. The law of keys was not proved if all programs
-//! have the first key, or if keys are numbered from the last draw. That of loads was not proved if a load is told of
-//! with its value extended by its sign, nor that of own pages if a step is said to be of the hart whose turn is next.
+//! have the first key, also only of the keys that are handed in, or if keys are numbered from the last draw, or if the
+//! program of a page is told by its resource. That of loads was not proved if a load is told of with its value
+//! extended by its sign, or of its page as the step left it, or of a page that lies in space 0. That of own pages was
+//! not proved if a step is said to be of the hart whose turn is next, if the end of a domain is not told, or if the
+//! closing is said to leave each page as the run began.
 #![tactic(auto)]
 
 ghost use Rattle.page_law.specs.Ciphers.{CiphersHaveOwnDraws, CiphersShowPages};

@@ -2,10 +2,11 @@
 //! file of bytes is the record of one list of items, or has one first fault, and never both; and what a run writes to its
 //! record is the record of its exchange.
 //!
-//! No body changes a law, so there is no wrong body to refuse here. These changed definitions were tried on a copy, and
-//! with none of them did the proofs go through. Of a record and its faults: the number of Close is not tested; a Cipher
-//! is whole with one byte less; a Put of two bytes has no width; a Put may stand before the first step; a byte after
-//! End is let through. Of what is written: the marker of a step stands after its items.
+//! No body changes a law, so there is no wrong body to refuse here. These changed definitions were tried on a copy,
+//! and with none of them did the proofs go through. Of a record and its faults: the number of Close is not tested; a
+//! Cipher is whole with one byte less; a Put of two bytes has no width; a Put may stand before the first step; a byte
+//! after End is let through. Of what is written: the marker of a step stands after its items; steps are numbered from
+//! 0; the report is written to the record, too.
 #![tactic(auto)]
 
 ghost use Rattle.record_law.specs.OneRecord.{OneRecord, OneFault, NeverBoth, RecordOrFault};

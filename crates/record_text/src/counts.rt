@@ -15,16 +15,16 @@ use kernel_report::lines::{SoFar, decimal, text};
 /// How many items there are of each kind.
 #[derive(Clone, Copy, Debug, PartialEq, Eq)]
 pub struct KindCounts {
-    cipher: u64,
-    put: u64,
-    leave: u64,
-    ok: u64,
-    absent: u64,
-    word: u64,
-    timer: u64,
-    resume: u64,
-    stopped: u64,
-    ended: u64,
+    pub cipher: u64,
+    pub put: u64,
+    pub leave: u64,
+    pub ok: u64,
+    pub absent: u64,
+    pub word: u64,
+    pub timer: u64,
+    pub resume: u64,
+    pub stopped: u64,
+    pub ended: u64,
 }
 
 /// How many items are of a kind, after one more.

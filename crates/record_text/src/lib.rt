@@ -19,7 +19,10 @@ mod showing;
 
 pub use causes::{cause_name, put_word};
 pub use command::show_command;
+pub use counts::KindCounts;
 pub use items::put_item;
 pub use kinds::Kinds;
+pub use place::{RecordPlace, place_marked};
 pub use reading::next_item;
 pub use selection::Selection;
+pub use showing::count_items;

@@ -1,3 +1,1 @@
-pub mod Silent
 pub mod Answering
-pub mod Leading

@@ -8,15 +8,14 @@ ghost use Rattle.run_story.specs.Answering.{ExplainAnswers, LacksItem, ReadingEn
 use crate::deeds::Deeds;
 use crate::presented::Presented;
 use crate::story::Story;
-use crate::telling::Passage;
 use crate::untold::Untold;
-use crate::watch::Watch;
 use cloak_model::{Bundle, Item};
 use command_parts::{Refusal, Status, read_bundle, refuse};
 use io_traits::{Shelf, Sink, put_all};
 use read_back::{Ending, show_fault, status};
 use record_reader::{KeptItems, Reader};
 use record_text::next_item;
+use replayed_run::Watch;
 use std::alloc::Global;
 
 /// Takes an item, and notes what it shows of a page and what the kernel's step did that it ends.
@@ -111,7 +110,7 @@ fn tell_page<S: Shelf>(
         return Err(Untold::NoMemory);
     };
     match deeds_of(alloc, &mut watch, presented, name, shelf) {
-        Ok(deeds) => story.tell(&Passage::Page(*presented, deeds)),
+        Ok(deeds) => story.tell_page(alloc, presented, &deeds),
         Err(untold) => Err(untold),
     }
 }

@@ -1,10 +1,9 @@
 //! What was done to a page, and to the frames that it was shown and presented in, up to the violation.
 
-use crate::frames::{DiskCall, disk_call};
-use crate::pages::Showing;
 use crate::presented::Presented;
-use crate::watch::Watch;
+use alone_views::KernelPlace;
 use cloak_base::{NoMemory, PageId};
+use replayed_run::{DiskCall, Showing, Watch, disk_call};
 use std::alloc::Global;
 
 /// A store to a frame: how many bytes it changed, and the first of them.
@@ -28,12 +27,12 @@ pub enum PageDeed {
     },
     /// A hart wrote a frame to a block of the disk, or read a block into one.
     Moved {
-        hart: u32,
+        hart: usize,
         call: DiskCall,
     },
     /// A hart stored to a frame.
     Stored {
-        hart: u32,
+        hart: usize,
         frame: u32,
         change: FrameChange,
     },
@@ -66,7 +65,7 @@ struct SeenFrame {
 #[derive(Clone, Copy)]
 pub struct StepAhead {
     step: u32,
-    hart: u32,
+    hart: usize,
     call: Option<DiskCall>,
     leads: Option<usize>,
 }
@@ -219,18 +218,18 @@ impl Deeds {
 
     /// What the open step of the kernel is about to find, if one is open.
     pub fn before(&mut self, watch: &Watch) -> Option<StepAhead> {
-        let hart = watch.hart()?;
-        if watch.step() == 0 || hart.inside.is_some() {
+        let KernelPlace::Outside { hart } = watch.place() else {
             return None;
-        }
+        };
+        let made = watch.hart_at(hart)?;
         self.shown_in.look(watch);
         if let Some(seen) = &mut self.presented_in {
             seen.look(watch);
         }
         Some(StepAhead {
             step: watch.step(),
-            hart: watch.turn(),
-            call: disk_call(watch.frames(), hart),
+            hart,
+            call: disk_call(watch.frames(), made),
             leads: self.leads(watch),
         })
     }

@@ -1,18 +1,15 @@
 //! What was presented as a violation was met.
 
-use crate::contexts::{FirstTable, ToldContext};
-use crate::frames::Tables;
-use crate::pages::Showing;
-use crate::watch::Watch;
-use alone_views::AskedAccess;
+use alone_views::{AskedAccess, KernelPlace};
 use cloak_base::{HartId, Kind, PageId};
+use replayed_run::{FirstTable, HartWords, Showing, StandingContext, Tables, ToldContext, Watch};
 use sha2::{Digest, Sha256};
 
 /// A page that a frame was presented for.
 #[derive(Clone, Copy)]
 pub struct Presented {
     pub step: u32,
-    pub hart: u32,
+    pub hart: usize,
     pub ctx: u32,
     pub page: PageId,
     pub address: u32,
@@ -29,7 +26,7 @@ pub struct Presented {
 #[derive(Clone, Copy)]
 pub struct AskedResume {
     pub step: u32,
-    pub hart: u32,
+    pub hart: usize,
     pub ctx: u32,
     pub satp: u32,
 }
@@ -38,33 +35,26 @@ pub struct AskedResume {
 #[derive(Clone, Copy)]
 pub enum Refused {
     /// It runs on this hart.
-    Running {
-        on: HartId,
-        told: Option<ToldContext>,
-    },
+    Running(HartId, Option<ToldContext>),
     /// It is not there.
-    Gone {
-        told: Option<ToldContext>,
-    },
+    Gone(Option<ToldContext>),
     /// Its space was first resumed under another page table.
-    Mapping {
-        first: FirstTable,
-    },
+    Mapping(FirstTable),
 }
 
 /// What was presented in a step, by which a program ends unless a draw is missing.
 #[derive(Clone, Copy)]
 pub enum Target {
     Nothing,
-    /// A page, of which no more is told.
-    Question,
+    /// A page, of which no more is told, for a question of this context on this hart.
+    Question { hart: usize, ctx: u32 },
     Page(Presented),
     Context(AskedResume, Refused),
 }
 
 /// The page of a program's question that was stopped, and the frame that was presented for it. Nothing is told if that frame
 /// has what was last shown of the page.
-fn presented_page(watch: &Watch, domain: u8) -> Option<Presented> {
+fn presented_page(watch: &Watch, domain: u8, hart: usize, ctx: u32) -> Option<Presented> {
     let (page, frame) = watch.presented(domain)?;
     let AskedAccess::Page { address, kind, .. } = watch.last_asked(domain) else {
         return None;
@@ -78,8 +68,8 @@ fn presented_page(watch: &Watch, domain: u8) -> Option<Presented> {
     }
     Some(Presented {
         step: watch.step(),
-        hart: watch.turn(),
-        ctx: watch.inside()?,
+        hart,
+        ctx,
         page,
         address,
         kind,
@@ -90,56 +80,106 @@ fn presented_page(watch: &Watch, domain: u8) -> Option<Presented> {
     })
 }
 
-/// What was presented as a program's question was stopped.
-pub fn question_target(watch: &Watch, domain: u8) -> Target {
-    match presented_page(watch, domain) {
+/// The question of a context that was stopped.
+fn page_target(watch: &Watch, domain: u8, hart: usize, ctx: u32) -> Target {
+    match presented_page(watch, domain, hart, ctx) {
         Some(presented) => Target::Page(presented),
-        None => Target::Question,
+        None => Target::Question { hart, ctx },
     }
 }
 
-/// The context that the hart is inside, or for which it asks if it is outside and its step is a resume.
-pub fn context_met(watch: &Watch) -> Option<u32> {
-    let hart = watch.hart()?;
-    match hart.inside {
-        Some(ctx) => Some(ctx),
-        None => Some(hart.regs.get(5)),
+/// What was presented as a program's question was stopped.
+pub fn question_target(watch: &Watch, domain: u8) -> Target {
+    match watch.place() {
+        KernelPlace::Inside { hart, ctx } => page_target(watch, domain, hart, ctx),
+        KernelPlace::Outside { .. } => Target::Nothing,
+        KernelPlace::Between => Target::Nothing,
+        KernelPlace::Left => Target::Nothing,
+    }
+}
+
+/// A space has another page table than this one.
+fn refused_by_table(satp: u32, first: Option<FirstTable>) -> Option<Refused> {
+    match first {
+        None => None,
+        Some(first) => {
+            if first.satp == satp {
+                None
+            } else {
+                Some(Refused::Mapping(first))
+            }
+        }
     }
 }
 
 /// Why a context is not resumed under a page table.
-fn refusal(watch: &Watch, ctx: u32, satp: u32) -> Option<Refused> {
-    let told = watch.told(ctx);
-    let Some((space, on)) = watch.context(ctx) else {
-        return Some(Refused::Gone { told });
-    };
-    if let Some(on) = on {
-        return Some(Refused::Running { on, told });
+fn refusal(
+    watch: &Watch,
+    ctx: u32,
+    satp: u32,
+    context: Option<StandingContext>,
+) -> Option<Refused> {
+    match context {
+        None => Some(Refused::Gone(watch.told(ctx))),
+        Some(StandingContext { space, on }) => match on {
+            Some(on) => Some(Refused::Running(on, watch.told(ctx))),
+            None => refused_by_table(satp, watch.table(space)),
+        },
     }
-    let first = watch.table(space)?;
-    if first.satp == satp {
-        return None;
-    }
-    Some(Refused::Mapping { first })
 }
 
-/// What was presented as a program ends in a step of a hart outside, which asks to resume a context.
-pub fn resume_target(watch: &Watch) -> Target {
-    let (Some(ctx), Some(tables)) = (context_met(watch), watch.tables()) else {
-        return Target::Nothing;
-    };
-    let satp = tables.satp;
-    match refusal(watch, ctx, satp) {
+/// The context that a hart names is not resumed for this reason.
+fn target_for(asking: AskedResume, refused: Option<Refused>) -> Target {
+    match refused {
         None => Target::Nothing,
-        Some(refused) => {
-            let (step, hart) = (watch.step(), watch.turn());
-            let asking = AskedResume {
-                step,
-                hart,
-                ctx,
-                satp,
-            };
-            Target::Context(asking, refused)
+        Some(refused) => Target::Context(asking, refused),
+    }
+}
+
+/// What is presented as a program ends in a step of a hart outside, which asks to resume a context.
+fn resume_target(watch: &Watch, domain: u32, hart: usize) -> Target {
+    let HartWords { ctx, satp } = watch.words_of(hart);
+    if ctx / 8 == domain {
+        let asking = AskedResume {
+            step: watch.step(),
+            hart,
+            ctx,
+            satp,
+        };
+        target_for(asking, refusal(watch, ctx, satp, watch.context(ctx)))
+    } else {
+        Target::Nothing
+    }
+}
+
+/// A page that was presented for a question of this program.
+fn own_target(target: Target, domain: u32) -> Target {
+    match target {
+        Target::Page(presented) => {
+            if presented.ctx / 8 == domain {
+                target
+            } else {
+                Target::Nothing
+            }
         }
+        Target::Question { ctx, .. } => {
+            if ctx / 8 == domain {
+                target
+            } else {
+                Target::Nothing
+            }
+        }
+        Target::Context(_, _) => Target::Nothing,
+        Target::Nothing => Target::Nothing,
+    }
+}
+
+/// By what a program is about to end, if this was presented in the step before.
+pub fn end_target(watch: &Watch, target: Target, domain: u32) -> Target {
+    match watch.place() {
+        KernelPlace::Outside { hart } => resume_target(watch, domain, hart),
+        KernelPlace::Between => own_target(target, domain),
+        KernelPlace::Inside { .. } => own_target(target, domain),
+        KernelPlace::Left => own_target(target, domain),
     }
 }

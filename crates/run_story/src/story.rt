@@ -3,15 +3,14 @@ ghost use Rattle.std.specs.Prelude.{IfErr};
 ghost use Rattle.cloak_model.specs.Bundle.{IsInGrammar};
 ghost use Rattle.run_story.specs.Answering.{LacksItem};
 
-use crate::presented::{
-    AskedResume, Presented, Target, context_met, question_target, resume_target,
-};
-use crate::telling::Passage;
+use crate::deeds::Deeds;
+use crate::presented::{AskedResume, Presented, Refused, Target, end_target, question_target};
+use crate::telling::{PageStory, Passage};
 use crate::untold::Untold;
-use crate::watch::Watch;
 use cloak_base::NoMemory;
 use cloak_model::{Bundle, Item};
 use read_back::Ending;
+use replayed_run::{Asking, Watch};
 use std::alloc::Global;
 use std::fmt;
 
@@ -24,7 +23,7 @@ pub struct Story {
     /// The step in which each program ended.
     ended: [Option<u32>; 4],
     /// How many resumes were refused since no such program was left.
-    refused: u32,
+    refused: u64,
     text: String,
 }
 
@@ -33,6 +32,18 @@ fn unfit(step: u32) -> Untold
     ensures { LacksItem result }
 {
     Untold::Ended(Ending::Unfit(step))
+}
+
+/// Notes that a program ended in a step.
+fn set_ended(ended: &mut [Option<u32>; 4], domain: usize, step: u32) {
+    if domain < ended.len() {
+        ended[domain] = Some(step);
+    }
+}
+
+/// How many programs ended.
+fn programs_ended(ended: &[Option<u32>; 4]) -> usize {
+    ended.iter().filter(|ended| ended.is_some()).count()
 }
 
 impl Story {
@@ -59,44 +70,101 @@ impl Story {
         }
     }
 
-    /// The step in which a program ended.
-    fn ended_at(&self, domain: u32) -> Option<u32> {
-        *self.ended.get(domain as usize)?
-    }
-
-    /// A resume found no program. It was refused, if there is none or it ended before.
-    fn tell_refused(&mut self, step: u32, hart: u32, ctx: u32) -> Result<(), Untold>
+    /// Tells of a page that was presented, with what was done to it before.
+    pub fn tell_page(
+        &mut self,
+        alloc: Global,
+        presented: &Presented,
+        deeds: &Deeds,
+    ) -> Result<(), Untold>
         ensures { IfErr result LacksItem }
     {
-        let ended = self.ended_at(ctx / 8);
-        if ended.is_none() && self.watch.has_program(ctx / 8) {
+        let more = PageStory { presented, deeds };
+        let Ok(more) = format!(in alloc; "{more}") else {
+            return Err(Untold::NoMemory);
+        };
+        self.tell(&Passage::Page(presented.step, presented.hart, presented.ctx, more))
+    }
+
+    /// The step in which a program ended.
+    fn ended_at(&self, domain: u32) -> Option<u32> {
+        let domain = domain as usize;
+        if domain < self.ended.len() {
+            self.ended[domain]
+        } else {
+            None
+        }
+    }
+
+    /// Tells a violation that is no refused resume.
+    fn tell_end(&mut self, passage: &Passage) -> Result<Option<Presented>, Untold>
+        ensures { IfErr result LacksItem }
+    {
+        match self.tell(passage) {
+            Ok(()) => Ok(None),
+            Err(untold) => Err(untold),
+        }
+    }
+
+    /// A context was asked for. This was refused, if there is no such program or it ended before.
+    fn tell_none(&mut self, step: u32, asked: Asking) -> Result<Option<Presented>, Untold>
+        ensures { IfErr result LacksItem }
+    {
+        let ended = self.ended_at(asked.ctx / 8);
+        if ended.is_none() && self.watch.has_program(asked.ctx / 8) {
             return Err(unfit(step));
         }
         self.refused = self.refused.saturating_add(1);
-        self.tell(&Passage::Refused {
-            step,
-            hart,
-            ctx,
-            ended,
-        })
+        match self.tell(&Passage::Gone(step, asked, ended)) {
+            Ok(()) => Ok(None),
+            Err(untold) => Err(untold),
+        }
+    }
+
+    /// A step ended in which no program ended by a resume.
+    fn tell_asked(&mut self, step: u32, asked: Option<Asking>) -> Result<Option<Presented>, Untold>
+        ensures { IfErr result LacksItem }
+    {
+        match asked {
+            None => Ok(None),
+            Some(asked) => self.tell_none(step, asked),
+        }
+    }
+
+    /// A step ended in which a program ended by a resume.
+    fn tell_resume(
+        &mut self,
+        step: u32,
+        asking: AskedResume,
+        why: Refused,
+        asked: Option<Asking>,
+    ) -> Result<Option<Presented>, Untold>
+        ensures { IfErr result LacksItem }
+    {
+        match asked {
+            None => Err(unfit(step)),
+            Some(Asking { ctx, .. }) => {
+                if asking.ctx == ctx {
+                    self.tell_end(&Passage::Resume(asking, why))
+                } else {
+                    Err(unfit(step))
+                }
+            }
+        }
     }
 
     /// A step ended, in which a hart may have asked for a context that it did not get.
-    fn note_made(&mut self, step: u32, hart: u32) -> Result<(), Untold>
+    fn note_made(&mut self, step: u32) -> Result<Option<Presented>, Untold>
         ensures { IfErr result LacksItem }
     {
         let target = self.target;
         self.target = Target::Nothing;
-        match (target, self.watch.asked()) {
-            (Target::Context(asking, refused), Some(ctx)) => {
-                if asking.ctx != ctx {
-                    return Err(unfit(step));
-                }
-                self.tell(&Passage::Resume(asking, refused))
-            }
-            (Target::Context(_, _), None) => Err(unfit(step)),
-            (_, Some(ctx)) => self.tell_refused(step, hart, ctx),
-            (_, None) => Ok(()),
+        let asked = self.watch.asked();
+        match target {
+            Target::Context(asking, why) => self.tell_resume(step, asking, why, asked),
+            Target::Nothing => self.tell_asked(step, asked),
+            Target::Question { .. } => self.tell_asked(step, asked),
+            Target::Page(_) => self.tell_asked(step, asked),
         }
     }
 
@@ -104,31 +172,39 @@ impl Story {
     fn note_ended(&mut self, step: u32, domain: u32) -> Result<Option<Presented>, Untold>
         ensures { IfErr result LacksItem }
     {
-        if let Some(ended) = self.ended.get_mut(domain as usize) {
-            *ended = Some(step);
-        }
+        set_ended(&mut self.ended, domain as usize, step);
         match self.target {
             Target::Nothing => Err(unfit(step)),
             Target::Context(_, _) => Ok(None),
-            Target::Page(presented) => Ok(Some(presented)),
-            Target::Question => match self.tell(&Passage::Question { step, domain }) {
-                Ok(()) => Ok(None),
-                Err(untold) => Err(untold),
-            },
+            Target::Page(presented) => Ok(Some(Presented { step, ..presented })),
+            Target::Question { hart, ctx } => self.tell_end(&Passage::Question(step, ctx)),
         }
     }
 
-    /// Notes what is presented as a program is about to end in a step of a hart outside.
-    fn note_ending(&mut self, domain: u32) {
-        match context_met(&self.watch) {
-            Some(ctx) if ctx / 8 == domain => {}
-            _ => {
-                self.target = Target::Nothing;
-                return;
+    /// Notes what is presented as a program is about to end.
+    fn note_ending(&mut self, item: &Item) {
+        match item {
+            Item::Ended { domain } => {
+                let target = self.target;
+                self.target = end_target(&self.watch, target, u32::from(*domain));
             }
+            _ => {}
         }
-        if self.watch.inside().is_none() {
-            self.target = resume_target(&self.watch);
+    }
+
+    /// Notes an item that the watch took in this step.
+    fn note(&mut self, item: &Item, step: u32) -> Result<Option<Presented>, Untold>
+        ensures { IfErr result LacksItem }
+    {
+        match item {
+            Item::Stopped { domain } => {
+                self.target = question_target(&self.watch, *domain);
+                Ok(None)
+            }
+            Item::Ended { domain } => self.note_ended(step, u32::from(*domain)),
+            Item::Step { .. } => self.note_made(step),
+            Item::Close { .. } => self.note_made(step),
+            _ => Ok(None),
         }
     }
 
@@ -137,43 +213,59 @@ impl Story {
     pub fn take(&mut self, item: &Item) -> Result<Option<Presented>, Untold>
         ensures { IfErr result LacksItem }
     {
-        let (step, hart) = (self.watch.step(), self.watch.turn());
-        if let Item::Ended { domain } = item {
-            self.note_ending(u32::from(*domain));
-        }
+        let step = self.watch.step();
+        self.note_ending(item);
         if let Err(at) = self.watch.take(item) {
             return Err(unfit(at.step));
         }
-        match item {
-            Item::Stopped { domain } => self.target = question_target(&self.watch, *domain),
-            Item::Ended { domain } => return self.note_ended(step, u32::from(*domain)),
-            Item::Step { .. } | Item::Close { .. } => {
-                if let Err(untold) = self.note_made(step, hart) {
-                    return Err(untold);
-                }
-            }
-            _ => {}
-        }
-        Ok(None)
+        self.note(item, step)
     }
+}
+
+/// The last sentence of a story without a violation.
+fn write_none<W: fmt::Write>(steps: u32, f: &mut fmt::Formatter<W>) -> fmt::Result {
+    write!(f, "There was no violation: the run has {steps} steps, ")?;
+    f.write_str("and ended by a halt, by its number of steps, or for want of randomness.\n")
+}
+
+/// The last sentence of a story with violations.
+fn write_some<W: fmt::Write>(
+    steps: u32,
+    ended: usize,
+    refused: u64,
+    f: &mut fmt::Formatter<W>,
+) -> fmt::Result {
+    write!(
+        f,
+        "The run has {steps} steps; programs that ended: {ended}; "
+    )?;
+    write!(f, "resumes that were refused: {refused}.\n")
+}
+
+/// The last sentence of a story.
+fn write_summary<W: fmt::Write>(
+    steps: u32,
+    ended: usize,
+    refused: u64,
+    f: &mut fmt::Formatter<W>,
+) -> fmt::Result {
+    if ended != 0 {
+        return write_some(steps, ended, refused, f);
+    }
+    if refused != 0 {
+        return write_some(steps, ended, refused, f);
+    }
+    write_none(steps, f)
 }
 
 impl fmt::Display for Story {
     fn fmt<W: fmt::Write>(&self, f: &mut fmt::Formatter<W>) -> fmt::Result {
-        let steps = self.watch.step();
-        let ended = self.ended.iter().filter(|ended| ended.is_some()).count();
-        let refused = self.refused;
         f.write_str(&self.text)?;
-        if ended == 0 && refused == 0 {
-            write!(f, "There was no violation: the run has {steps} steps, ")?;
-            return f.write_str(
-                "and ended by a halt, by its number of steps, or for want of randomness.\n",
-            );
-        }
-        write!(
+        write_summary(
+            self.watch.step(),
+            programs_ended(&self.ended),
+            self.refused,
             f,
-            "The run has {steps} steps; programs that ended: {ended}; "
-        )?;
-        write!(f, "resumes that were refused: {refused}.\n")
+        )
     }
 }

@@ -1,11 +1,9 @@
 //! The story in sentences.
 
-use crate::contexts::{FirstTable, ToldContext};
 use crate::deeds::{Deeds, FrameChange, PageDeed, PageEvent};
-use crate::frames::DiskCall;
-use crate::pages::Showing;
 use crate::presented::{AskedResume, Presented, Refused};
 use cloak_base::{Kind, PageId};
+use replayed_run::{Asking, DiskCall, FirstTable, Showing, ToldContext};
 use std::fmt;
 
 /// A violation, as it is told.
@@ -13,20 +11,20 @@ use std::fmt;
 pub enum Passage {
     /// A program ended by a context that was to be resumed.
     Resume(AskedResume, Refused),
-    /// A resume was refused: there is no such program, or it ended in a step before.
-    Refused {
-        step: u32,
-        hart: u32,
-        ctx: u32,
-        ended: Option<u32>,
-    },
-    /// A program ended by the page that a frame was presented for, with what was done to it before.
-    Page(Presented, Deeds),
-    /// A program ended by a page, of which no more is told.
-    Question {
-        step: u32,
-        domain: u32,
-    },
+    /// In this step a resume was refused: there is no such program, or it ended in that step before.
+    Gone(u32, Asking, Option<u32>),
+    /// In this step, on this hart, a program ended by the page that a frame was presented for, for a question of this context,
+    /// with more about it.
+    Page(u32, usize, u32, String),
+    /// In this step a program ended by a page for this context, of which no more is told.
+    Question(u32, u32),
+}
+
+/// More about a page that was presented: what was done to it before, and what was found.
+#[derive(Clone, Copy)]
+pub struct PageStory<'d> {
+    pub presented: &'d Presented,
+    pub deeds: &'d Deeds,
 }
 
 /// A page, by its numbers.
@@ -48,6 +46,10 @@ struct FrameName(Option<usize>);
 /// What an access does.
 #[derive(Clone, Copy)]
 struct AccessName(Kind);
+
+/// What a host call does that reaches the disk.
+#[derive(Clone, Copy)]
+struct CallName(DiskCall);
 
 impl fmt::Display for PageName {
     fn fmt<W: fmt::Write>(&self, f: &mut fmt::Formatter<W>) -> fmt::Result {
@@ -97,10 +99,10 @@ impl fmt::Display for AccessName {
     }
 }
 
-impl fmt::Display for DiskCall {
+impl fmt::Display for CallName {
     fn fmt<W: fmt::Write>(&self, f: &mut fmt::Formatter<W>) -> fmt::Result {
-        let DiskCall { block, frame, .. } = *self;
-        if self.is_write {
+        let DiskCall { block, frame, .. } = self.0;
+        if self.0.is_write {
             write!(f, "wrote frame {frame} to block {block}")
         } else {
             write!(f, "read block {block} into frame {frame}")
@@ -137,7 +139,10 @@ impl fmt::Display for PageDeed {
                 let page = PageName(page);
                 write!(f, "{page} was shown, in frame {frame}")
             }
-            PageDeed::Moved { hart, call } => write!(f, "the kernel, on hart {hart}, {call}"),
+            PageDeed::Moved { hart, call } => {
+                let call = CallName(call);
+                write!(f, "the kernel, on hart {hart}, {call}")
+            }
             PageDeed::Stored {
                 hart,
                 frame,
@@ -163,40 +168,10 @@ impl fmt::Display for PageEvent {
     }
 }
 
-/// A hart's asking to resume a context.
-fn write_asking<W: fmt::Write>(
-    step: u32,
-    hart: u32,
-    ctx: u32,
-    f: &mut fmt::Formatter<W>,
-) -> fmt::Result {
-    write!(
-        f,
-        "A violation at step {step}: the kernel, on hart {hart}, "
-    )?;
-    write!(f, "asked to resume context {ctx}.\n")
-}
-
-/// A program's end.
-fn write_end<W: fmt::Write>(domain: u32, f: &mut fmt::Formatter<W>) -> fmt::Result {
-    write!(f, "So program {domain} ended.\n")
-}
-
 /// The program's access that was stopped.
 fn write_access<W: fmt::Write>(presented: &Presented, f: &mut fmt::Formatter<W>) -> fmt::Result {
-    let Presented {
-        step,
-        hart,
-        ctx,
-        address,
-        frame,
-        ..
-    } = *presented;
+    let Presented { address, frame, .. } = *presented;
     let (access, page) = (AccessName(presented.kind), PageName(presented.page));
-    write!(
-        f,
-        "A violation at step {step}: context {ctx}, on hart {hart}, "
-    )?;
     write!(f, "{access} at {address:08x}, which is {page}.\n")?;
     write!(
         f,
@@ -244,58 +219,63 @@ fn write_found<W: fmt::Write>(
     }
 }
 
-/// The page that a frame was presented for, and the rule that this broke.
-fn write_page<W: fmt::Write>(
-    presented: &Presented,
-    deeds: &Deeds,
+impl fmt::Display for PageStory<'_> {
+    fn fmt<W: fmt::Write>(&self, f: &mut fmt::Formatter<W>) -> fmt::Result {
+        write_access(self.presented, f)?;
+        write_events(self.deeds, f)?;
+        write_found(self.presented, self.deeds.origin(), f)?;
+        f.write_str(
+            "The rule: a frame that the kernel presents for a cloaked page has exactly the bytes that were last shown of that page.\n",
+        )
+    }
+}
+
+/// A hart's asking to resume a context.
+fn write_asking<W: fmt::Write>(
+    step: u32,
+    hart: usize,
+    ctx: u32,
     f: &mut fmt::Formatter<W>,
 ) -> fmt::Result {
-    write_access(presented, f)?;
-    write_events(deeds, f)?;
-    write_found(presented, deeds.origin(), f)?;
-    f.write_str(
-        "The rule: a frame that the kernel presents for a cloaked page has exactly the bytes that were last shown of that page.\n",
-    )?;
-    write_end(presented.page.domain, f)
-}
-
-/// A page of which no more is told.
-fn write_question<W: fmt::Write>(step: u32, domain: u32, f: &mut fmt::Formatter<W>) -> fmt::Result {
     write!(
         f,
-        "A violation at step {step}: what the kernel presented for a page of program {domain} "
+        "A violation at step {step}: the kernel, on hart {hart}, "
     )?;
-    f.write_str("is not what was last shown of that page.\n")?;
-    write_end(domain, f)
+    write!(f, "asked to resume context {ctx}.\n")
 }
 
-/// A context that runs.
-fn write_running<W: fmt::Write>(
-    on: u32,
+/// The end of a context's program.
+fn write_end<W: fmt::Write>(ctx: u32, f: &mut fmt::Formatter<W>) -> fmt::Result {
+    let domain = ctx / 8;
+    write!(f, "So program {domain} ended.\n")
+}
+
+/// Where a context was resumed.
+fn write_resumed<W: fmt::Write>(
     told: Option<ToldContext>,
     f: &mut fmt::Formatter<W>,
 ) -> fmt::Result {
-    write!(f, "The context runs on hart {on}")?;
     match told {
-        Some(ToldContext { resumed, .. }) => write!(
-            f,
-            ", where it was resumed at step {resumed}.\n"
-        ),
+        Some(ToldContext { resumed, .. }) => {
+            write!(f, ", where it was resumed at step {resumed}.\n")
+        }
         None => f.write_str(".\n"),
+    }
+}
+
+/// Where a context ended, if it is known.
+fn write_ended<W: fmt::Write>(ended: Option<u32>, f: &mut fmt::Formatter<W>) -> fmt::Result {
+    match ended {
+        Some(step) => write!(f, "it ended at step {step}.\n"),
+        None => f.write_str("the record has no such context.\n"),
     }
 }
 
 /// A context that is not there.
 fn write_gone<W: fmt::Write>(told: Option<ToldContext>, f: &mut fmt::Formatter<W>) -> fmt::Result {
-    f.write_str("The context is not there: ")?;
     match told {
-        Some(
-            ToldContext {
-                ended: Some(step),
-                ..
-            },
-        ) => write!(f, "it ended at step {step}.\n"),
-        _ => f.write_str("the record has no such context.\n"),
+        Some(ToldContext { ended, .. }) => write_ended(ended, f),
+        None => write_ended(None, f),
     }
 }
 
@@ -313,57 +293,104 @@ fn write_mapping<W: fmt::Write>(
     write!(f, "{was:08x}, at step {step}.\n")
 }
 
-/// A program that ended by the context that was to be resumed, why it was not resumed, and the rule that asking for it broke.
+/// The rule on contexts that are resumed.
+fn write_context_rule<W: fmt::Write>(f: &mut fmt::Formatter<W>) -> fmt::Result {
+    f.write_str("The rule: a context that is resumed is there, and runs on no hart.\n")
+}
+
+/// Why a context was not resumed, and the rule that asking for it broke.
+fn write_why<W: fmt::Write>(satp: u32, why: Refused, f: &mut fmt::Formatter<W>) -> fmt::Result {
+    match why {
+        Refused::Running(on, told) => {
+            let on = on.0;
+            write!(f, "The context runs on hart {on}")?;
+            write_resumed(told, f)?;
+            write_context_rule(f)
+        }
+        Refused::Gone(told) => {
+            f.write_str("The context is not there: ")?;
+            write_gone(told, f)?;
+            write_context_rule(f)
+        }
+        Refused::Mapping(first) => {
+            write_mapping(satp, first, f)?;
+            f.write_str(
+                "The rule: each space of a program is resumed under one page table, the first one.\n",
+            )
+        }
+    }
+}
+
+/// A program that ended by the context that was to be resumed.
 fn write_resume<W: fmt::Write>(
     asking: &AskedResume,
-    refused: Refused,
+    why: Refused,
     f: &mut fmt::Formatter<W>,
 ) -> fmt::Result {
     write_asking(asking.step, asking.hart, asking.ctx, f)?;
-    match refused {
-        Refused::Running { on, told } => write_running(on.0, told, f)?,
-        Refused::Gone { told } => write_gone(told, f)?,
-        Refused::Mapping { first } => write_mapping(asking.satp, first, f)?,
-    }
-    f.write_str(match refused {
-        Refused::Running { .. } | Refused::Gone { .. } => {
-            "The rule: a context that is resumed is there, and runs on no hart.\n"
-        }
-        Refused::Mapping { .. } => {
-            "The rule: each space of a program is resumed under one page table, the first one.\n"
-        }
-    })?;
-    write_end(asking.ctx / 8, f)
+    write_why(asking.satp, why, f)?;
+    write_end(asking.ctx, f)
 }
 
 /// Why no program was left to end.
-fn write_refused<W: fmt::Write>(
-    domain: u32,
+fn write_left<W: fmt::Write>(
+    ctx: u32,
     ended: Option<u32>,
     f: &mut fmt::Formatter<W>,
 ) -> fmt::Result {
-    f.write_str("The resume was refused: ")?;
+    let domain = ctx / 8;
     match ended {
         None => write!(f, "there is no program {domain}.\n"),
         Some(step) => write!(f, "program {domain} ended at step {step}.\n"),
     }
 }
 
+/// A resume that was refused.
+fn write_none<W: fmt::Write>(
+    step: u32,
+    asked: Asking,
+    ended: Option<u32>,
+    f: &mut fmt::Formatter<W>,
+) -> fmt::Result {
+    write_asking(step, asked.hart, asked.ctx, f)?;
+    f.write_str("The resume was refused: ")?;
+    write_left(asked.ctx, ended, f)
+}
+
+/// A page that was presented.
+fn write_page<W: fmt::Write>(
+    step: u32,
+    hart: usize,
+    ctx: u32,
+    more: &str,
+    f: &mut fmt::Formatter<W>,
+) -> fmt::Result {
+    write!(
+        f,
+        "A violation at step {step}: context {ctx}, on hart {hart}, "
+    )?;
+    f.write_str(more)?;
+    write_end(ctx, f)
+}
+
+/// A page of which no more is told.
+fn write_question<W: fmt::Write>(step: u32, ctx: u32, f: &mut fmt::Formatter<W>) -> fmt::Result {
+    let domain = ctx / 8;
+    write!(
+        f,
+        "A violation at step {step}: what the kernel presented for a page of program {domain} "
+    )?;
+    f.write_str("is not what was last shown of that page.\n")?;
+    write_end(ctx, f)
+}
+
 impl fmt::Display for Passage {
     fn fmt<W: fmt::Write>(&self, f: &mut fmt::Formatter<W>) -> fmt::Result {
         match self {
-            Passage::Resume(asking, refused) => write_resume(asking, *refused, f),
-            Passage::Refused {
-                step,
-                hart,
-                ctx,
-                ended,
-            } => {
-                write_asking(*step, *hart, *ctx, f)?;
-                write_refused(*ctx / 8, *ended, f)
-            }
-            Passage::Page(presented, deeds) => write_page(presented, deeds, f),
-            Passage::Question { step, domain } => write_question(*step, *domain, f),
+            Passage::Resume(asking, why) => write_resume(asking, *why, f),
+            Passage::Gone(step, asked, ended) => write_none(*step, *asked, *ended, f),
+            Passage::Page(step, hart, ctx, more) => write_page(*step, *hart, *ctx, more, f),
+            Passage::Question(step, ctx) => write_question(*step, *ctx, f),
         }
     }
 }

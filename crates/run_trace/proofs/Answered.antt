@@ -1,5 +1,5 @@
 -- What a record that was traced is answered.
-use Rattle.std.proofs.Common.{◌≡◌, ◌∙◌, ℕ, List, Option, Some, None, Result, Ok, Err, inl, inr, refl, sym, ap, subst}
+use Rattle.std.proofs.Common.{◌≡◌, ◌∙◌, ℕ, List, Option, Some, None, Result, Ok, Err, inl, inr, refl, subst}
 use Rattle.cloak_base.specs.declared.causes.Failed.{Failed}
 use Rattle.cloak_model.specs.declared.item.Item.{Item}
 use Rattle.io_traits.specs.Told.{GrowsByFront, Puts, Rose, SameFiles}
@@ -13,7 +13,7 @@ use Rattle.read_back.specs.Reading.{IsReadTo, ShowsRecord}
 use Rattle.read_back.specs.declared.ending.Ending.{Ending}
 use Rattle.record_text.specs.Reading.{status_shown}
 use Rattle.read_back.proofs.Answered.{reads_since}
-use Rattle.run_trace.specs.Answering.{RefusesTrace, ShowsBundle}
+use Rattle.run_trace.specs.Answering.{RefusesTrace, ShowsBundle, ShowsSide}
 use Rattle.run_trace.specs.declared.choice.TraceChoice.{TraceChoice}
 
 -- reading ended so
@@ -72,11 +72,22 @@ refuses_since {S} {O} {r} {answer} before mid after reading output refuses = rec
   line = subst (λ (o : Output O). Refuses o after.output r answer) output refuses.line;
 }
 
-pub bundle_since : {S O : Type 0} {name : List ℕ} {answer : Status} (bundle : Bundle) (choice : TraceChoice)
+side_since : {S O : Type 0} (name : List ℕ) (answer : Status) (program : Option ℕ) (bundle : Bundle) (choice : TraceChoice)
     (before mid after : Outside S O) → SameFiles before.files.held mid.files.held →
     mid.files.reading ≡ before.files.reading → mid.output ≡ before.output →
-    ShowsBundle bundle choice name mid after answer → ShowsBundle bundle choice name before after answer
-bundle_since {S} {O} {name} {answer} bundle choice before mid after held reading output (inl shows) =
-    inl (shows_since before mid after held reading output shows)
-bundle_since {S} {O} {name} {answer} bundle choice before mid after held reading output (inr memory) =
-    inr (refuses_since before mid after reading output memory)
+    ShowsSide program bundle choice name mid after answer → ShowsSide program bundle choice name before after answer
+side_since {S} {O} name answer None bundle choice before mid after held reading output shows =
+    shows_since before mid after held reading output shows
+side_since {S} {O} name answer (Some d) bundle choice before mid after held reading output (p, is, shows) =
+    (p, is, shows_since before mid after held reading output shows)
+
+pub bundle_since : {S O : Type 0} (name : List ℕ) (answer : Status) (program : Option ℕ) (bundle : Bundle)
+    (choice : TraceChoice) (before mid after : Outside S O) → SameFiles before.files.held mid.files.held →
+    mid.files.reading ≡ before.files.reading → mid.output ≡ before.output →
+    ShowsBundle program bundle choice name mid after answer → ShowsBundle program bundle choice name before after answer
+bundle_since {S} {O} name answer program bundle choice before mid after held reading output (inl shows) =
+    inl (side_since name answer program bundle choice before mid after held reading output shows)
+bundle_since {S} {O} name answer program bundle choice before mid after held reading output (inr (inl memory)) =
+    inr (inl (refuses_since before mid after reading output memory))
+bundle_since {S} {O} name answer program bundle choice before mid after held reading output (inr (inr lacks)) =
+    inr (inr (lacks.0, refuses_since before mid after reading output lacks.1))

@@ -5,8 +5,9 @@
 //! end of a domain asks keeps it too (`proofs/Endings`). The parts of a program's step stand on that, and the laws on
 //! steps do. The laws here have one of these properties: the page tables that spaces were first resumed with.
 //!
-//! No body changes a law, so there is no wrong body to refuse here. With this changed definition, tried on a copy, the
-//! proofs did not go through: the pages of a resource are dropped with all page tables that are recorded.
+//! No body changes a law, so there is no wrong body to refuse here. With these changed definitions, tried on a copy,
+//! the proofs did not go through: the pages of a resource are dropped with all page tables that are recorded; the
+//! count of draws is kept like a page table; so is the number of items that were written.
 #![tactic(auto)]
 
 ghost use Rattle.script_fold.specs.Tables.{EndKeepsTables, StepKeepsTables};

@@ -1,11 +1,12 @@
 -- How often frames may be read in a step: once for each answer that tells bytes of a frame, once for each frame that the
--- kernel is shown, and twice for each miss.
-use Rattle.std.specs.Prelude.{ℕ, ◌+◌, ◌*◌, ◌-◌, ◌^◌, ◌<◌, ◌≤◌, Bool, true, false, List, ◌++◌, map, Option}
+-- kernel is shown, and twice for each look that misses.
+use Rattle.std.specs.Prelude.{ℕ, zero, suc, ◌≡◌, ◌+◌, ◌*◌, ◌≤◌, Bool, true, false, List, ◌++◌, map, Option}
 use Rattle.std.specs.List.{count_by}
 use Rattle.cloak_base.specs.declared.names.SpaceId.{SpaceId}
 use Rattle.cloak_model.specs.declared.item.Item.{Item}
-use Rattle.cloak_model.specs.Events.{Event, Read, Space}
+use Rattle.cloak_model.specs.Events.{Event, Look, Read, Space}
 use Rattle.cloak_model.specs.Record.{is_cipher}
+use Rattle.shadow_fold.specs.Table.{one_more}
 
 -- What a step asked, for a context of this space, or outside: the events of its questions, and what was written; and the
 -- spaces whose regions it changed, or which it ended.
@@ -27,13 +28,32 @@ is_read _ = false
 abbrev pub reads_due : AskedByStep → ℕ
 reads_due a = count_by is_read a.events + count_by is_cipher a.items
 
+-- the looks among events
+abbrev pub is_look : Event → Bool
+is_look (Look satp a) = true
+is_look _ = false
+
+abbrev pub looks_in : List Event → ℕ
+looks_in events = count_by is_look events
+
 -- how often frames were read, and how many looks missed
 pub record Spent : Type 0 where
   pub reads : ℕ
   pub misses : ℕ
 
--- From one to the other there were at most `due` reads besides two for each miss, of which `left` are left. A count of
--- misses that has reached its last number tells nothing.
-pub record Spends (left due : ℕ) (old new : Spent) : Type 0 where
-  pub on : new.misses < 2 ^ 64 - 1 → old.misses ≤ new.misses
-  pub reads : new.misses < 2 ^ 64 - 1 → new.reads + left + 2 * old.misses ≤ old.reads + due + 2 * new.misses
+-- a count after that many more, up to its last number
+unfoldable pub counted_up : ℕ → ℕ → ℕ
+counted_up zero n = n
+counted_up (suc more) n = one_more (counted_up more n)
+
+-- From one to the other some looks missed, at most `looks` of them, and each was counted. There were at most `due` reads
+-- besides two for each of these looks, of which `left` are left.
+pub record SpendsFor (looks left due : ℕ) (old new : Spent) : Type 0 where
+  pub missed : ℕ
+  pub few : missed ≤ looks
+  pub counted : new.misses ≡ counted_up missed old.misses
+  pub reads : new.reads + left ≤ old.reads + due + 2 * missed
+
+-- the same without a look
+abbrev pub Spends : ℕ → ℕ → Spent → Spent → Type 0
+Spends left due old new = SpendsFor 0 left due old new

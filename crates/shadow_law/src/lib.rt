@@ -5,11 +5,16 @@
 //! What a frame holds is no part of the ledger: the laws speak of any `held`, as far as a frame that is owed a page holds
 //! it. A machine takes what its pager holds.
 //!
-//! No body changes a law, so there is no wrong body to refuse here. These changed definitions were tried on a copy, and
-//! with none of them did the proof of its law go through. Of walks: all addresses of a page lead where its start
-//! leads. Of changes: an entry goes on when a frame is written or settled that it leads through, and not to. Of
-//! tables: the settling of a frame ends only the entries that lead to it. Of misses: the table frames of the new
-//! entry may hold pages. Of hits: the address is the start of the frame.
+//! No body changes a law, so there is no wrong body to refuse here. These changed definitions were tried on a copy,
+//! and with none of them did the proof of its law go through. Of walks: all addresses of a page lead where its start
+//! leads; the tables of a walk are those of its first level alone; a walk depends on its last table alone; a page has
+//! 2048 bytes. Of changes: an entry goes on when a frame is written, settled or offered that it leads through, and not
+//! to, or if it leads to the page that is offered, or if it is of the space that changed. Of tables: the settling of a
+//! frame ends only the entries that lead to it; a write ends none, nor does an offer that is granted, nor a change of
+//! regions. Of misses: the table frames of the new entry may hold pages; the entry is of the next page; its target
+//! need not agree, or may lie outside RAM. Of new entries: a walk stays if its table frames hold pages, or if a page
+//! is offered in one of them; an entry becomes live that does not agree. Of hits: the address is the start of the
+//! frame; nothing is touched; frames may hold older bytes than those that were shown.
 #![tactic(auto)]
 
 ghost use Rattle.shadow_law.specs.Agreeing.{BornAgrees, ChangeKeeps, HitIsWalk, HitIsOffer, OfferKeeps, RemapKeeps};

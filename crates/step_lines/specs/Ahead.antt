@@ -21,14 +21,19 @@ use Rattle.step_lines.specs.Sights.{sight_of}
 
 -- Where an instruction reaches memory, with how many bytes.
 
-abbrev pub reach : Bool → ℕ → ℕ → ℕ → Option MemoryReach
-reach is_store address width stored =
-    Some (record { is_store = is_store; address = address; width = width; stored = stored })
+abbrev pub reach : Bool → Bool → ℕ → ℕ → ℕ → Option MemoryReach
+reach is_store is_atomic address width stored = Some (record {
+  is_store = is_store;
+  is_atomic = is_atomic;
+  address = address;
+  width = width;
+  stored = stored;
+})
 
 -- by its effect
 abbrev pub reach_of_effect : Effect → Option MemoryReach
-reach_of_effect (does.Load rd address width is_signed) = reach false address width 0
-reach_of_effect (does.Store address width value) = reach true address width value
+reach_of_effect (does.Load rd address width is_signed) = reach false false address width 0
+reach_of_effect (does.Store address width value) = reach true false address width value
 reach_of_effect other = None
 
 -- LR loads; SC and the operations are stores
@@ -40,7 +45,7 @@ is_atomic_store other = true
 abbrev pub reach_of_atomic : List ℕ → Option Atomic → Option MemoryReach
 reach_of_atomic regs None = None
 reach_of_atomic regs (Some a) =
-    if register regs a.rs1 % 4 == 0 then reach (is_atomic_store a.op) (register regs a.rs1) 4 0 else None
+    if register regs a.rs1 % 4 == 0 then reach (is_atomic_store a.op) true (register regs a.rs1) 4 0 else None
 
 abbrev pub reach_by : List ℕ → ℕ → ℕ → Option Instr → Option MemoryReach
 reach_by regs pc word None = reach_of_atomic regs (atomic_instruction word)

@@ -6,3 +6,4 @@ pub mod Columns
 pub mod Changes
 pub mod Endings
 pub mod Lines
+pub mod Contexts

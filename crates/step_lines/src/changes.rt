@@ -149,7 +149,7 @@ fn is_next(was: u32, now: u32) -> bool
 }
 
 /// Where the hart went on, unless that is the next instruction.
-fn put_jump<O: Sink>(out: &mut O, at: EffectsSoFar, was: u32, now: u32) -> EffectsSoFar
+pub fn put_jump<O: Sink>(out: &mut O, at: EffectsSoFar, was: u32, now: u32) -> EffectsSoFar
     ensures { PutsEffects (putting O.Sink out.old at.so_far) (putting O.Sink out.new result.so_far) at.gap result.gap
         (spec.jump was now) }
 {
@@ -158,7 +158,7 @@ fn put_jump<O: Sink>(out: &mut O, at: EffectsSoFar, was: u32, now: u32) -> Effec
 }
 
 /// A value of so many bytes.
-fn put_value<O: Sink>(out: &mut O, so_far: SoFar, width: u32, value: u32) -> SoFar
+pub fn put_value<O: Sink>(out: &mut O, so_far: SoFar, width: u32, value: u32) -> SoFar
     ensures { PutsMore (putting O.Sink out.old so_far) (putting O.Sink out.new result) (spec.value_text width value) }
 {
     let mut digits = [0; 8];

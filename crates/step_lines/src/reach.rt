@@ -13,6 +13,7 @@ use rv_isa::decode;
 #[derive(Clone, Copy)]
 pub struct MemoryReach {
     pub is_store: bool,
+    pub is_atomic: bool,
     pub address: u32,
     /// How many bytes.
     pub width: u32,
@@ -27,6 +28,7 @@ fn reach_of_effect(e: &Effect) -> Option<MemoryReach>
     match *e {
         Effect::Load { address, width, .. } => Some(MemoryReach {
             is_store: false,
+            is_atomic: false,
             address,
             width,
             stored: 0,
@@ -37,6 +39,7 @@ fn reach_of_effect(e: &Effect) -> Option<MemoryReach>
             value,
         } => Some(MemoryReach {
             is_store: true,
+            is_atomic: false,
             address,
             width,
             stored: value,
@@ -69,6 +72,7 @@ fn reach_of_atomic(regs: &Regs, a: Option<Atomic>) -> Option<MemoryReach>
             if address % 4 == 0 {
                 Some(MemoryReach {
                     is_store: is_atomic_store(a.op),
+                    is_atomic: true,
                     address,
                     width: 4,
                     stored: 0,

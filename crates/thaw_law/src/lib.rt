@@ -10,9 +10,10 @@
 //!
 //! No body changes a law, so there is no wrong body to refuse here. These changes were tried on a copy, and with none
 //! of them did the proofs go through. Of the definitions: a completed load stands before the earlier ones; the end of
-//! a program drops its loads; a run goes on after the step that stopped it. Of a thawed run: it begins with the
-//! console as it was; its steps are numbered from 1; its Close tells the steps since the thawing. Of the law: the
-//! console at the end is that since the thawing.
+//! a program drops its loads; a run goes on after the step that stopped it. Of a past: what the console showed before
+//! stands after. Of two parts: the steps of the second are counted from where the first began; it begins with the
+//! machine of that moment. Of a thawed run: it begins with the console as it was; its steps are numbered from 1; its
+//! Close tells the steps since the thawing. Of the law: the console at the end is that since the thawing.
 #![tactic(auto)]
 
 ghost use Rattle.thaw_law.specs.FreezeThaw.{RunsAreFirstAndRest, StoppedRunsAreWhole};

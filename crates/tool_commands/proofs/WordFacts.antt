@@ -1,5 +1,5 @@
 -- What is answered, by what was chosen of a record, and by what was read of words.
-use Rattle.std.proofs.Common.{◌≡◌, ℕ, List, Option, inl, inr, subst, string_bytes}
+use Rattle.std.proofs.Common.{◌≡◌, ℕ, Bool, List, Option, inl, inr, subst, sym, string_bytes}
 use Rattle.record_text.specs.declared.selection.Selection.{Selection}
 use Rattle.clap.specs.Walk.{Text}
 use Rattle.command_parts.specs.Outside.{Outside}
@@ -8,25 +8,34 @@ use Rattle.tool_words.specs.ToolRequest.{ReadsTool, tool_asked_of}
 use Rattle.tool_words.specs.declared.request.ToolWords.{ToolWords}
 use Rattle.tool_words.specs.declared.request.ToolWords.TheVariants.{Asks, Help, Faulty}
 use Rattle.run_trace.specs.declared.choice.TraceChoice.{TraceChoice}
-use Rattle.tool_commands.specs.ToolAnswering.{DisasmFrom, ReadAnswers, ShowAnswers, TracesRun, WordsAnswers}
+use Rattle.tool_commands.specs.declared.choosing.WordsMeant.{WordsMeant}
+use Rattle.tool_commands.specs.ToolAnswering.{DisasmMeans, ReadAnswers, ShowAnswers, ShowsSelection, ShowsTrace, WordsAnswers}
 
-pub shows_meant : {S O : Type 0} (meant same : Option Selection) (record_name : List ℕ) (before after : Outside S O)
-    (answer : Status) → meant ≡ same → ShowAnswers meant record_name before after answer →
-    ShowAnswers same record_name before after answer
-shows_meant meant same record_name before after answer is answers =
-    subst (λ (chosen : Option Selection). ShowAnswers chosen record_name before after answer) is answers
+pub shows_meant : {S O : Type 0} (json : Bool) (meant same : Option Selection) (record_name : List ℕ)
+    (before after : Outside S O) (answer : Status) → meant ≡ same →
+    ShowAnswers json meant record_name before after answer → ShowAnswers json same record_name before after answer
+shows_meant json meant same record_name before after answer is answers =
+    subst (λ (chosen : Option Selection). ShowAnswers json chosen record_name before after answer) is answers
 
-pub disasm_meant : {S O : Type 0} (meant same : Option ℕ) (words_name : List ℕ) (before after : Outside S O)
-    (answer : Status) → meant ≡ same → DisasmFrom meant words_name before after answer →
-    DisasmFrom same words_name before after answer
+-- objects or lines, as it is asked
+pub shows_as : {S O : Type 0} (json is : Bool) (meant : Selection) (record_name : List ℕ) (before after : Outside S O)
+    (answer : Status) → json ≡ is → ShowsSelection is meant record_name before after answer →
+    ShowsSelection json meant record_name before after answer
+shows_as json is meant record_name before after answer same shows =
+    subst (λ (b : Bool). ShowsSelection b meant record_name before after answer) (sym same) shows
+
+pub disasm_meant : {S O : Type 0} (meant same : WordsMeant) (words_name : List ℕ) (before after : Outside S O)
+    (answer : Status) → meant ≡ same → DisasmMeans meant words_name before after answer →
+    DisasmMeans same words_name before after answer
 disasm_meant meant same words_name before after answer is answers =
-    subst (λ (base : Option ℕ). DisasmFrom base words_name before after answer) is answers
+    subst (λ (words : WordsMeant). DisasmMeans words words_name before after answer) is answers
 
-pub traces_meant : {S O : Type 0} (bundle_name record_name : List ℕ) (meant same : TraceChoice) (before after : Outside S O)
-    (answer : Status) → meant ≡ same → TracesRun bundle_name record_name meant before after answer →
-    TracesRun bundle_name record_name same before after answer
-traces_meant bundle_name record_name meant same before after answer is traces =
-    subst (λ (choice : TraceChoice). TracesRun bundle_name record_name choice before after answer) is traces
+pub traces_meant : {S O : Type 0} (bundle_name record_name : List ℕ) (program : Option ℕ) (meant same : TraceChoice)
+    (before after : Outside S O) (answer : Status) → meant ≡ same →
+    ShowsTrace bundle_name record_name program meant before after answer →
+    ShowsTrace bundle_name record_name program same before after answer
+traces_meant bundle_name record_name program meant same before after answer is traces =
+    subst (λ (choice : TraceChoice). ShowsTrace bundle_name record_name program choice before after answer) is traces
 
 pub answers_read : {S O : Type 0} (words : List Text) (read : ToolWords) (before after : Outside S O) (answer : Status) →
     ReadsTool words read → ReadAnswers read before after answer → WordsAnswers words before after answer

@@ -1,15 +1,22 @@
 -- How the tools answer, by what the words ask for.
-use Rattle.std.specs.Prelude.{ℕ, ◌≡◌, ◌⊎◌, true, List, Option, Some, None, codes, string_bytes}
+use Rattle.std.specs.Prelude.{ℕ, ◌≡◌, ◌⊎◌, Bool, true, false, List, Option, Some, None, codes, string_bytes}
 use Rattle.io_traits.specs.Told.{SameFiles}
 use Rattle.clap.specs.Walk.{Text}
 use Rattle.asm_text.specs.Commanded.{AsmAnswers}
 use Rattle.manifest.specs.Packing.{PackAnswers}
+use Rattle.cloak_model.specs.declared.item.Item.{Item}
+use Rattle.record_json.specs.JsonText.{json_text}
 use Rattle.record_text.specs.Reading.{never_unfit, record_text}
 use Rattle.record_text.specs.declared.selection.Selection.{Selection}
 use Rattle.read_back.specs.Reading.{ShowsRecord}
+use Rattle.read_back.specs.declared.ending.Ending.{Ending}
 use Rattle.run_story.specs.Answering.{ExplainAnswers}
 use Rattle.rv_asm.specs.Words.{magnitude}
 use Rattle.disassembly.specs.Disassembling.{DisasmAnswers}
+use Rattle.disassembly.specs.ImageParts.{DisasmsPart}
+use Rattle.disassembly.specs.declared.part.ImagePart.{ImagePart}
+use Rattle.disassembly.specs.declared.part.ImagePart.TheVariants as part
+use Rattle.std.specs.Option.{option_map_or}
 use Rattle.run_trace.specs.Answering.{TraceAnswers}
 use Rattle.run_trace.specs.declared.choice.TraceChoice.{TraceChoice}
 use Rattle.command_parts.specs.Outside.{Outside}
@@ -22,21 +29,30 @@ use Rattle.tool_words.specs.ToolRequest.{tool_asked_of}
 use Rattle.tool_words.specs.declared.request.ToolWords.{ToolWords}
 use Rattle.tool_words.specs.declared.request.ToolWords.TheVariants.{Asks, Help, Faulty}
 use Rattle.tool_commands.specs.KindNames.{selection_asked}
+use Rattle.tool_commands.specs.declared.choosing.WordsMeant.{WordsMeant}
+use Rattle.tool_commands.specs.declared.choosing.WordsMeant.TheVariants.{FileFrom, PartOf, NoAddress, Several}
 use Rattle.tool_commands.specs.ToolSaying.{Says}
 
 -- a name is that of no kind
 abbrev pub kinds_line : List ℕ
 kinds_line = codes "error: --only has a name that is of no kind\n"
 
+-- as objects of JSON, or in lines
+abbrev pub shown_text : (json : Bool) → Selection → List Item → Option Ending → List ℕ
+shown_text true meant = json_text meant
+shown_text false meant = record_text meant
+
 -- What is meant of the record of this name was shown, up to its end or its first fault, and no file was changed.
-pub record ShowsSelection {S O : Type 0} (meant : Selection) (record_name : List ℕ) (before after : Outside S O) (answer : Status) : Type 0 where
-  pub shows : ShowsRecord never_unfit (record_text meant) record_name answer before after
+pub record ShowsSelection {S O : Type 0} (json : Bool) (meant : Selection) (record_name : List ℕ) (before after : Outside S O)
+    (answer : Status) : Type 0 where
+  pub shows : ShowsRecord never_unfit (shown_text json meant) record_name answer before after
   pub kept : SameFiles before.files.held after.files.held
   pub writing : after.files.writing ≡ before.files.writing
 
-abbrev pub ShowAnswers : {S O : Type 0} → Option Selection → List ℕ → Outside S O → Outside S O → Status → Type 0
-ShowAnswers None record_name before after answer = Says kinds_line status.Usage before after answer
-ShowAnswers (Some meant) record_name before after answer = ShowsSelection meant record_name before after answer
+abbrev pub ShowAnswers : {S O : Type 0} → (json : Bool) → Option Selection → List ℕ → Outside S O → Outside S O → Status →
+    Type 0
+ShowAnswers json None record_name before after answer = Says kinds_line status.Usage before after answer
+ShowAnswers json (Some meant) record_name before after answer = ShowsSelection json meant record_name before after answer
 
 -- the address that is meant: 0 without an option, or what the text is as a number of the assembler
 abbrev pub base_asked : Option (List ℕ) → Option ℕ
@@ -47,14 +63,32 @@ base_asked (Some text) = magnitude text
 abbrev pub base_line : List ℕ
 base_line = codes "error: --base is no address\n"
 
-abbrev pub DisasmFrom : {S O : Type 0} → Option ℕ → List ℕ → Outside S O → Outside S O → Status → Type 0
-DisasmFrom None words_name before after answer = Says base_line status.Usage before after answer
-DisasmFrom (Some base) words_name before after answer = DisasmAnswers base words_name before after answer
+-- more than one is asked for of an address, a segment and a program
+abbrev pub several_line : List ℕ
+several_line = codes "error: of --base, --segment and --program only one may be given\n"
+
+-- a part of an image, unless an address is asked for, too
+abbrev pub part_asked : Option (List ℕ) → ImagePart → WordsMeant
+part_asked None p = PartOf p
+part_asked (Some text) p = Several
+
+-- Which words are meant: those of a file, if its first address is one; or those of a part of an image.
+abbrev pub words_asked : Option (List ℕ) → (segment program : Option ℕ) → WordsMeant
+words_asked base None None = option_map_or FileFrom (base_asked base) NoAddress
+words_asked base (Some number) None = part_asked base (part.Segment number)
+words_asked base None (Some number) = part_asked base (part.Program number)
+words_asked base (Some segment) (Some program) = Several
+
+abbrev pub DisasmMeans : {S O : Type 0} → WordsMeant → List ℕ → Outside S O → Outside S O → Status → Type 0
+DisasmMeans (FileFrom base) words_name before after answer = DisasmAnswers base words_name before after answer
+DisasmMeans (PartOf p) words_name before after answer = DisasmsPart p words_name before after answer
+DisasmMeans NoAddress words_name before after answer = Says base_line status.Usage before after answer
+DisasmMeans Several words_name before after answer = Says several_line status.Usage before after answer
 
 -- The steps of the run of the record of this name were shown, or why that cannot be, and no file was changed.
-pub record TracesRun {S O : Type 0} (bundle_name record_name : List ℕ) (choice : TraceChoice) (before after : Outside S O)
-    (answer : Status) : Type 0 where
-  pub answers : TraceAnswers bundle_name record_name choice before after answer
+pub record ShowsTrace {S O : Type 0} (bundle_name record_name : List ℕ) (program : Option ℕ) (choice : TraceChoice)
+    (before after : Outside S O) (answer : Status) : Type 0 where
+  pub answers : TraceAnswers bundle_name record_name program choice before after answer
   pub kept : SameFiles before.files.held after.files.held
   pub writing : after.files.writing ≡ before.files.writing
 
@@ -70,12 +104,13 @@ pub record ExplainsRun {S O : Type 0} (bundle_name record_name : List ℕ) (befo
 -- How the tools answer what is asked of them.
 abbrev pub ToolAnswers : {S O : Type 0} → ToolAsked → Outside S O → Outside S O → Status → Type 0
 ToolAnswers (Asm text_name words_name) before after answer = AsmAnswers text_name words_name before after answer
-ToolAnswers (Disasm words_name base) before after answer = DisasmFrom (base_asked base) words_name before after answer
+ToolAnswers (Disasm words_name base segment program) before after answer =
+    DisasmMeans (words_asked base segment program) words_name before after answer
 ToolAnswers (Pack manifest bundle_name) before after answer = PackAnswers manifest bundle_name before after answer
-ToolAnswers (Show record_name from to only counts) before after answer =
-    ShowAnswers (selection_asked from to only counts) record_name before after answer
-ToolAnswers (Trace bundle_name record_name from to hart) before after answer =
-    TracesRun bundle_name record_name (choice_asked from to hart) before after answer
+ToolAnswers (Show record_name from to only counts json) before after answer =
+    ShowAnswers json (selection_asked from to only counts) record_name before after answer
+ToolAnswers (Trace bundle_name record_name program from to hart) before after answer =
+    ShowsTrace bundle_name record_name program (choice_asked from to hart) before after answer
 ToolAnswers (Explain bundle_name record_name) before after answer = ExplainsRun bundle_name record_name before after answer
 
 -- how they answer what was read of words

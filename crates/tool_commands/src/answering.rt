@@ -1,21 +1,43 @@
 //! What is done by the words.
-ghost use Rattle.std.specs.Prelude.{map, option_map, string_bytes};
+ghost use Rattle.std.specs.Prelude.{map, string_bytes};
 ghost use Rattle.command_parts.specs.Outside.{outside};
-ghost use Rattle.tool_words.specs.ToolRequest.{asked_of_show, asked_of_trace, tool_asked_of};
-ghost use Rattle.tool_commands.specs.ToolAnswering.{DisasmFrom, ReadAnswers, ToolAnswers, WordsAnswers, base_asked};
+ghost use Rattle.tool_words.specs.ToolRequest.{asked_of_disasm, asked_of_show, asked_of_trace, tool_asked_of};
+ghost use Rattle.tool_commands.specs.ToolAnswering.{ReadAnswers, ShowsSelection, ToolAnswers, WordsAnswers};
 
-use crate::choosing::{base_asked, choice_asked, selection_asked};
+use crate::choosing::{WordsMeant, choice_asked, selection_asked, words_asked};
 use crate::saying::say;
 use asm_text::asm_command;
 use command_parts::{Refusal, Status, refuse};
-use disassembly::disasm_command;
+use disassembly::{disasm_command, disasm_part_command};
 use io_traits::{Shelf, Sink};
 use manifest::pack_command;
-use record_text::show_command;
+use record_json::show_json_command;
+use record_text::{Selection, show_command};
 use run_story::explain_command;
 use run_trace::trace_command;
 use std::alloc::Global;
-use tool_words::{ShowRequest, ToolRequest, ToolWords, TraceRequest, read_tool_words};
+use tool_words::{
+    DisasmRequest, ShowRequest, ToolRequest, ToolWords, TraceRequest, read_tool_words,
+};
+
+/// Shows what is chosen of a record, as objects of JSON or in lines.
+fn show_as<S: Shelf, O: Sink>(
+    json: bool,
+    name: &str,
+    selection: &Selection,
+    shelf: &mut S,
+    out: &mut O,
+) -> Status
+    requires { S.is_settled shelf.old }
+    ensures { ShowsSelection json selection.now name.now
+        (outside S.Shelf O.Sink shelf.old out.old) (outside S.Shelf O.Sink shelf.new out.new) result }
+{
+    if json {
+        show_json_command(name, selection, shelf, out)
+    } else {
+        show_command(name, selection, shelf, out)
+    }
+}
 
 /// Shows what is meant of a record.
 fn show<S: Shelf, O: Sink>(show: &ShowRequest<'_>, shelf: &mut S, out: &mut O) -> Status
@@ -24,7 +46,7 @@ fn show<S: Shelf, O: Sink>(show: &ShowRequest<'_>, shelf: &mut S, out: &mut O) -
         (outside S.Shelf O.Sink shelf.old out.old) (outside S.Shelf O.Sink shelf.new out.new) result }
 {
     match selection_asked(show) {
-        Some(selection) => show_command(show.record_name, &selection, shelf, out),
+        Some(selection) => show_as(show.json, show.record_name, &selection, shelf, out),
         None => say(
             out,
             b"error: --only has a name that is of no kind\n",
@@ -33,21 +55,26 @@ fn show<S: Shelf, O: Sink>(show: &ShowRequest<'_>, shelf: &mut S, out: &mut O) -
     }
 }
 
-/// Shows words as a text, with the first of them at the address that is meant.
+/// Shows the words that are meant as a text.
 fn disasm<S: Shelf, O: Sink>(
     alloc: Global,
-    words: &str,
-    base: Option<&str>,
+    request: &DisasmRequest<'_>,
     shelf: &mut S,
     out: &mut O,
 ) -> Status
     requires { S.is_settled shelf.old }
-    ensures { DisasmFrom (base_asked (option_map (λ text. text.now) base.entry)) words.now
+    ensures { ToolAnswers (asked_of_disasm request.now)
         (outside S.Shelf O.Sink shelf.old out.old) (outside S.Shelf O.Sink shelf.new out.new) result }
 {
-    match base_asked(base) {
-        Some(base) => disasm_command(alloc, base, words, shelf, out),
-        None => say(out, b"error: --base is no address\n", Status::Usage),
+    match words_asked(request) {
+        WordsMeant::FileFrom(base) => disasm_command(alloc, base, request.words, shelf, out),
+        WordsMeant::PartOf(part) => disasm_part_command(alloc, part, request.words, shelf, out),
+        WordsMeant::NoAddress => say(out, b"error: --base is no address\n", Status::Usage),
+        WordsMeant::Several => say(
+            out,
+            b"error: of --base, --segment and --program only one may be given\n",
+            Status::Usage,
+        ),
     }
 }
 
@@ -67,6 +94,7 @@ fn trace<S: Shelf, O: Sink>(
         alloc,
         request.bundle,
         request.record_name,
+        request.program,
         &choice,
         shelf,
         out,
@@ -86,7 +114,7 @@ fn carry_out<S: Shelf, O: Sink>(
 {
     match request {
         ToolRequest::Asm { text, words } => asm_command(alloc, text, words, shelf, out),
-        ToolRequest::Disasm { words, base } => disasm(alloc, words, *base, shelf, out),
+        ToolRequest::Disasm(request) => disasm(alloc, request, shelf, out),
         ToolRequest::Pack { manifest, bundle } => pack_command(alloc, manifest, bundle, shelf, out),
         ToolRequest::Show(request) => show(request, shelf, out),
         ToolRequest::Trace(request) => trace(alloc, request, shelf, out),

@@ -2,8 +2,8 @@
 //! answered.
 //!
 //! `run_tools` is all of it over any command line, files and output; `specs/ToolAnswering` says how each command
-//! answers: `asm` (`asm_text`), `disasm` (`disassembly`), `pack` (`manifest`), `show` (`record_text`), `trace`
-//! (`run_trace`) and `explain` (`run_story`). `sentence` is what is said of a status on standard error.
+//! answers: `asm` (`asm_text`), `disasm` (`disassembly`), `pack` (`manifest`), `show` (`record_text`,
+//! `record_json`), `trace` (`run_trace`) and `explain` (`run_story`). `sentence` is what is said of a status on standard error.
 #![tactic(auto)]
 
 mod answering;

@@ -7,9 +7,13 @@ mod assembling;
 #[cfg(test)]
 mod checks;
 #[cfg(test)]
+mod elf_manifests;
+#[cfg(test)]
 mod lines;
 #[cfg(test)]
 mod manifests;
+#[cfg(test)]
+mod objects;
 #[cfg(test)]
 mod records;
 #[cfg(test)]

@@ -8,7 +8,7 @@ use std::alloc::Global;
 use std::test::*;
 
 /// All of a record.
-const ALL: Selection = Selection {
+pub const ALL: Selection = Selection {
     from: 0,
     to: u32::MAX,
     only: None,
@@ -17,7 +17,7 @@ const ALL: Selection = Selection {
 
 /// A resume, two answers, a store and a call; a leave for a page fault; a question that ends its program, and the leave
 /// after that.
-const ITEMS: &[u8] = b"CLOAKREC\
+pub const ITEMS: &[u8] = b"CLOAKREC\
 \x10\x01\0\0\0\x24\0\0\0\0\0\x02\0\0\0\
 \x10\x02\0\0\0\x20\0\x20\0\x02\x10\x80\0\x80\x01\x41\0\0\0\
 \x10\x03\0\0\0\x03\x08\0\0\0\0\0\0\0\0\0\0\0\x01\0\0\0\x01\0\0\0\0\x80\x40\0\x06\0\0\0\0\0\0\0\0\0\0\0\0\0\0\0\

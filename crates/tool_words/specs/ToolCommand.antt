@@ -15,14 +15,16 @@ use Rattle.tool_words.specs.ToolForms.{tools_form}
 pub data ToolAsked : Type 0 where
   -- the words of an assembler text, written to a file
   Asm : (text_name words_name : List ℕ) → ToolAsked
-  -- a file of words as assembler text, with an address for the first of them
-  Disasm : (words_name : List ℕ) → (base : Option (List ℕ)) → ToolAsked
+  -- a file of words as assembler text, with an address for the first of them; or the words of a segment, or of a program, of
+  -- an image
+  Disasm : (words_name : List ℕ) → (base : Option (List ℕ)) → (segment program : Option ℕ) → ToolAsked
   -- the bundle that a manifest means, written to a file
   Pack : (manifest bundle_name : List ℕ) → ToolAsked
-  -- the text of a record from one step to another, with the items only of kinds that are named, or how many there are
-  Show : (record_name : List ℕ) → (from to : ℕ) → (only : Option (List (List ℕ))) → (counts : Bool) → ToolAsked
-  -- the steps of the run of a bundle that wrote a record, as the kernel makes them, of one hart or all
-  Trace : (bundle record_name : List ℕ) → (from to : ℕ) → (hart : Option ℕ) → ToolAsked
+  -- the text of a record from one step to another, with the items only of kinds that are named, or how many there are; or
+  -- the same as objects of JSON
+  Show : (record_name : List ℕ) → (from to : ℕ) → (only : Option (List (List ℕ))) → (counts json : Bool) → ToolAsked
+  -- the steps of the run of a bundle that wrote a record, of the kernel's side or of that of a program, of one hart or all
+  Trace : (bundle record_name : List ℕ) → (program : Option ℕ) → (from to : ℕ) → (hart : Option ℕ) → ToolAsked
   -- the violations of the run of a bundle that wrote a record
   Explain : (bundle record_name : List ℕ) → ToolAsked
 
@@ -61,22 +63,31 @@ names_in text = slice_split (λ b. b == 44) text
 abbrev pub last_step : ℕ
 last_step = 2 ^ 32 - 1
 
+-- the first step that is meant: `--follow` names it too, if `--from` is not given
+abbrev pub first_step : List Row → ℕ
+first_step rows = step_named (codes "from") (step_named (codes "follow") 0 rows) rows
+
 abbrev pub show_asked : List Row → ToolAsked
 show_asked rows =
-    Show (needed_text (codes "RECORD") rows) (step_named (codes "from") 0 rows)
+    Show (needed_text (codes "RECORD") rows) (first_step rows)
     (step_named (codes "to") last_step rows) (option_map names_in (first_of (codes "only") rows))
-    (is_flagged (codes "counts") rows)
+    (is_flagged (codes "counts") rows) (is_flagged (codes "json") rows)
+
+abbrev pub disasm_asked : List Row → ToolAsked
+disasm_asked rows =
+    Disasm (needed_text (codes "FILE") rows) (first_of (codes "base") rows) (number_named (codes "segment") rows)
+    (number_named (codes "program") rows)
 
 abbrev pub trace_asked : List Row → ToolAsked
 trace_asked rows =
-    Trace (needed_text (codes "BUNDLE") rows) (needed_text (codes "RECORD") rows) (step_named (codes "from") 0 rows)
-    (step_named (codes "to") last_step rows) (number_named (codes "hart") rows)
+    Trace (needed_text (codes "BUNDLE") rows) (needed_text (codes "RECORD") rows) (number_named (codes "program") rows)
+    (step_named (codes "from") 0 rows) (step_named (codes "to") last_step rows) (number_named (codes "hart") rows)
 
 -- What a command asks with the texts that it found. There are no more than these six.
 unfoldable pub tool_asked_with : Text → List Row → ToolAsked
 tool_asked_with name rows =
     if is (codes "asm") name then Asm (needed_text (codes "TEXT") rows) (needed_text (codes "OUT") rows) else
-    if is (codes "disasm") name then Disasm (needed_text (codes "FILE") rows) (first_of (codes "base") rows) else
+    if is (codes "disasm") name then disasm_asked rows else
     if is (codes "pack") name then Pack (needed_text (codes "MANIFEST") rows) (needed_text (codes "BUNDLE") rows) else
     if is (codes "show") name then show_asked rows else
     if is (codes "trace") name then trace_asked rows else

@@ -14,6 +14,10 @@ named_option name = record (new_rule name) { long = Some name; value_names = 1 }
 abbrev pub step_option : List ℕ → Rule
 step_option name = record (named_option name) { parser = Some (Signed (pos 0) (pos 4294967295)) }
 
+-- an option whose value is the number of a program, 0 to 3
+abbrev pub program_option : List ℕ → Rule
+program_option name = record (named_option name) { parser = Some (Signed (pos 0) (pos 3)) }
+
 -- an option with no value
 abbrev pub flag : List ℕ → Rule
 flag name = record (new_rule name) { long = Some name; action = Some SetTrue }
@@ -26,7 +30,9 @@ abbrev pub asm_form : App
 asm_form = command_with (codes "asm") (position (codes "TEXT") ∷ position (codes "OUT") ∷ [])
 
 abbrev pub disasm_form : App
-disasm_form = command_with (codes "disasm") (position (codes "FILE") ∷ named_option (codes "base") ∷ [])
+disasm_form = command_with (codes "disasm")
+    (position (codes "FILE") ∷ named_option (codes "base") ∷ step_option (codes "segment") ∷ step_option (codes "program")
+    ∷ [])
 
 abbrev pub pack_form : App
 pack_form = command_with (codes "pack") (position (codes "MANIFEST") ∷ position (codes "BUNDLE") ∷ [])
@@ -34,12 +40,12 @@ pack_form = command_with (codes "pack") (position (codes "MANIFEST") ∷ positio
 abbrev pub show_form : App
 show_form = command_with (codes "show")
     (position (codes "RECORD") ∷ step_option (codes "from") ∷ step_option (codes "to")
-    ∷ named_option (codes "only") ∷ flag (codes "counts") ∷ [])
+    ∷ named_option (codes "only") ∷ flag (codes "counts") ∷ flag (codes "json") ∷ step_option (codes "follow") ∷ [])
 
 abbrev pub trace_form : App
 trace_form = command_with (codes "trace")
-    (position (codes "BUNDLE") ∷ position (codes "RECORD") ∷ step_option (codes "from") ∷ step_option (codes "to")
-    ∷ step_option (codes "hart") ∷ [])
+    (position (codes "BUNDLE") ∷ position (codes "RECORD") ∷ program_option (codes "program") ∷ step_option (codes "from")
+    ∷ step_option (codes "to") ∷ step_option (codes "hart") ∷ [])
 
 abbrev pub explain_form : App
 explain_form = command_with (codes "explain") (position (codes "BUNDLE") ∷ position (codes "RECORD") ∷ [])

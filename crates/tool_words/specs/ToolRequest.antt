@@ -6,6 +6,7 @@ use Rattle.clap.specs.Words.{Text}
 use Rattle.clap.specs.declared.error.kind.ErrorKind.{ErrorKind}
 use Rattle.clap.specs.declared.error.kind.ErrorKind.TheVariants.{OutOfMemory}
 use Rattle.tool_words.specs.ToolCommand as spec
+use Rattle.tool_words.specs.declared.request.DisasmRequest.{DisasmRequest}
 use Rattle.tool_words.specs.declared.request.ShowRequest.{ShowRequest}
 use Rattle.tool_words.specs.declared.request.TraceRequest.{TraceRequest}
 use Rattle.tool_words.specs.declared.request.ToolRequest.{ToolRequest}
@@ -17,15 +18,20 @@ abbrev pub names_of : Vec (Bor (List ℕ)) Global → List (List ℕ)
 names_of names = map (λ name. name.now) names.items
 
 abbrev pub asked_of_show : ShowRequest → spec.ToolAsked
-asked_of_show show = spec.Show show.record_name.now show.from show.to (option_map names_of show.only) show.counts
+asked_of_show show =
+    spec.Show show.record_name.now show.from show.to (option_map names_of show.only) show.counts show.json
+
+abbrev pub asked_of_disasm : DisasmRequest → spec.ToolAsked
+asked_of_disasm disasm =
+    spec.Disasm disasm.words.now (option_map (λ text. text.now) disasm.base) disasm.segment disasm.program
 
 abbrev pub asked_of_trace : TraceRequest → spec.ToolAsked
 asked_of_trace trace =
-    spec.Trace trace.bundle.now trace.record_name.now trace.from trace.to trace.hart
+    spec.Trace trace.bundle.now trace.record_name.now trace.program trace.from trace.to trace.hart
 
 abbrev pub tool_asked_of : ToolRequest → spec.ToolAsked
 tool_asked_of (Asm text words) = spec.Asm text.now words.now
-tool_asked_of (Disasm words base) = spec.Disasm words.now (option_map (λ text. text.now) base)
+tool_asked_of (Disasm disasm) = asked_of_disasm disasm
 tool_asked_of (Pack manifest bundle) = spec.Pack manifest.now bundle.now
 tool_asked_of (Show show) = asked_of_show show
 tool_asked_of (Trace trace) = asked_of_trace trace

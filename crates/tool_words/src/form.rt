@@ -5,6 +5,7 @@ ghost use Rattle.command_words.specs.Forms as forms;
 ghost use Rattle.tool_words.specs.HasForm.{AddsForm, HasForm};
 ghost use Rattle.tool_words.specs.ToolForms as spec;
 
+use clap::builder::ValueParser;
 use clap::{Arg, ArgAction, Command, value_parser};
 use cloak_base::NoMemory;
 use std::alloc::Global;
@@ -44,6 +45,14 @@ fn step_option<'a>(alloc: Global, name: &'a str, help: &'a str) -> Arg<'a>
     number_option(alloc, name, "N", help)
 }
 
+/// An option whose value is the number of a program, 0 to 3.
+fn program_option<'a>(alloc: Global, name: &'a str, help: &'a str) -> Arg<'a>
+    ensures rule { rule_of result ≡ spec.program_option name.entry.now }
+    ensures local { result.global ≡ false }
+{
+    named_option(alloc, name, "D", help).value_parser(ValueParser::Signed(0, 3))
+}
+
 /// An option whose value is names of kinds.
 fn kinds_option<'a>(alloc: Global, name: &'a str, help: &'a str) -> Arg<'a>
     ensures rule { rule_of result ≡ spec.named_option name.entry.now }
@@ -81,7 +90,7 @@ fn disasm_form<'a>(alloc: Global) -> Result<Command<'a>, NoMemory>
     let file = position(
         alloc,
         "FILE",
-        "The words, one after another, each with its lowest byte first",
+        "The words, one after another, each with its lowest byte first; or a guest image",
     );
     let base = named_option(
         alloc,
@@ -89,10 +98,24 @@ fn disasm_form<'a>(alloc: Global) -> Result<Command<'a>, NoMemory>
         "ADDRESS",
         "The address of the first word, decimal or hexadecimal after 0x [default: 0]",
     );
+    let segment = number_option(
+        alloc,
+        "segment",
+        "N",
+        "FILE is an image: the words of this segment, from 0 on",
+    );
+    let program = number_option(
+        alloc,
+        "program",
+        "N",
+        "FILE is an image: the words of this program, from 0 on",
+    );
     let disasm = Command::new(alloc, "disasm")
         .about("Show words as a text that assembles to them")
         .arg(file)?
-        .arg(base)?;
+        .arg(base)?
+        .arg(segment)?
+        .arg(program)?;
     Ok(disasm)
 }
 
@@ -124,13 +147,25 @@ fn show_form<'a>(alloc: Global) -> Result<Command<'a>, NoMemory>
         "counts",
         "Show how many items there are of each kind",
     );
+    let json = flag(
+        alloc,
+        "json",
+        "Show objects of JSON, a line for each item, instead of text",
+    );
+    let follow = step_option(
+        alloc,
+        "follow",
+        "Begin at this step: another name for --from, which counts if both are given",
+    );
     let show = Command::new(alloc, "show")
         .about("Show a record as text, a line for each step with its items")
         .arg(record)?
         .arg(from)?
         .arg(to)?
         .arg(only)?
-        .arg(counts)?;
+        .arg(counts)?
+        .arg(json)?
+        .arg(follow)?;
     Ok(show)
 }
 
@@ -141,11 +176,17 @@ fn trace_form<'a>(alloc: Global) -> Result<Command<'a>, NoMemory>
     let record = position(alloc, "RECORD", "The record of its run");
     let from = step_option(alloc, "from", "The first step");
     let to = step_option(alloc, "to", "The last step");
+    let program = program_option(
+        alloc,
+        "program",
+        "The side of this program, 0 to 3, instead of the kernel's",
+    );
     let hart = number_option(alloc, "hart", "H", "Only the steps of this hart");
     let trace = Command::new(alloc, "trace")
-        .about("Show a run as text, a line for each step of the kernel's side")
+        .about("Show a run as text, a line for each step of the kernel's side, or of a program's")
         .arg(bundle)?
         .arg(record)?
+        .arg(program)?
         .arg(from)?
         .arg(to)?
         .arg(hart)?;

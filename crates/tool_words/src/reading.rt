@@ -2,11 +2,11 @@
 ghost use Rattle.std.specs.Prelude.{◌≡◌, IfOk, map, string_bytes};
 ghost use Rattle.clap.specs.Words.{found_of, kind_of, rows_of};
 ghost use Rattle.tool_words.specs.ToolCommand as spec;
-ghost use Rattle.tool_words.specs.ToolRequest.{ReadsTool, SaysFault, asked_of_show, asked_of_trace, tool_asked_of};
+ghost use Rattle.tool_words.specs.ToolRequest.{ReadsTool, SaysFault, asked_of_disasm, asked_of_show, asked_of_trace, tool_asked_of};
 
 use crate::form::tools_form;
 use crate::found::{given_names, given_text, is_flagged, needed_text, number_named, step_named};
-use crate::request::{ShowRequest, ToolRequest, ToolWords, TraceRequest};
+use crate::request::{DisasmRequest, ShowRequest, ToolRequest, ToolWords, TraceRequest};
 use clap::error::ErrorKind;
 use clap::{ArgMatches, Error};
 use cloak_base::NoMemory;
@@ -16,13 +16,27 @@ use std::alloc::Global;
 fn show_request<'a>(alloc: Global, matches: &ArgMatches<'a>) -> Result<ShowRequest<'a>, NoMemory>
     ensures { IfOk result (λ show. asked_of_show show ≡ spec.show_asked (rows_of (found_of matches.now))) }
 {
+    let follow = step_named(matches, "follow", 0);
     Ok(ShowRequest {
         record_name: needed_text(matches, "RECORD"),
-        from: step_named(matches, "from", 0),
+        from: step_named(matches, "from", follow),
         to: step_named(matches, "to", u32::MAX),
         only: given_names(alloc, matches, "only")?,
         counts: is_flagged(matches, "counts"),
+        json: is_flagged(matches, "json"),
     })
+}
+
+/// Which words are asked for with the texts that were found.
+fn disasm_request<'a>(matches: &ArgMatches<'a>) -> DisasmRequest<'a>
+    ensures { asked_of_disasm result ≡ spec.disasm_asked (rows_of (found_of matches.now)) }
+{
+    DisasmRequest {
+        words: needed_text(matches, "FILE"),
+        base: given_text(matches, "base"),
+        segment: number_named(matches, "segment"),
+        program: number_named(matches, "program"),
+    }
 }
 
 /// What is asked of a run with the texts that were found.
@@ -32,6 +46,7 @@ fn trace_request<'a>(matches: &ArgMatches<'a>) -> TraceRequest<'a>
     TraceRequest {
         bundle: needed_text(matches, "BUNDLE"),
         record_name: needed_text(matches, "RECORD"),
+        program: number_named(matches, "program"),
         from: step_named(matches, "from", 0),
         to: step_named(matches, "to", u32::MAX),
         hart: number_named(matches, "hart"),
@@ -53,10 +68,7 @@ fn asked_with<'a>(
             text: needed_text(matches, "TEXT"),
             words: needed_text(matches, "OUT"),
         }),
-        "disasm" => Ok(ToolRequest::Disasm {
-            words: needed_text(matches, "FILE"),
-            base: given_text(matches, "base"),
-        }),
+        "disasm" => Ok(ToolRequest::Disasm(disasm_request(matches))),
         "pack" => Ok(ToolRequest::Pack {
             manifest: needed_text(matches, "MANIFEST"),
             bundle: needed_text(matches, "BUNDLE"),

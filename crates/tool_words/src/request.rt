@@ -1,5 +1,18 @@
 //! What is asked of the tools.
 
+/// Which words must be shown.
+#[derive(Clone, Copy)]
+pub struct DisasmRequest<'a> {
+    /// The file of the words, or of the image that they are of.
+    pub words: &'a str,
+    /// The address of the first word, as it was written.
+    pub base: Option<&'a str>,
+    /// A segment of the image, from 0 on.
+    pub segment: Option<u32>,
+    /// A program of the image, from 0 on.
+    pub program: Option<u32>,
+}
+
 /// What must be shown of a record.
 #[derive(Drop)]
 pub struct ShowRequest<'a> {
@@ -12,6 +25,8 @@ pub struct ShowRequest<'a> {
     pub only: Option<Vec<&'a str>>,
     /// How many items there are of each kind, instead of the items.
     pub counts: bool,
+    /// Objects of JSON, instead of text.
+    pub json: bool,
 }
 
 /// What must be shown of the steps of a run.
@@ -19,6 +34,8 @@ pub struct ShowRequest<'a> {
 pub struct TraceRequest<'a> {
     pub bundle: &'a str,
     pub record_name: &'a str,
+    /// The program whose side is shown; the kernel's, if none is named.
+    pub program: Option<u32>,
     /// The first step.
     pub from: u32,
     /// The last step.
@@ -34,11 +51,7 @@ pub enum ToolRequest<'a> {
         text: &'a str,
         words: &'a str,
     },
-    Disasm {
-        words: &'a str,
-        /// The address of the first word, as it was written.
-        base: Option<&'a str>,
-    },
+    Disasm(DisasmRequest<'a>),
     Pack {
         manifest: &'a str,
         bundle: &'a str,

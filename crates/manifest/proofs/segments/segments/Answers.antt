@@ -1,14 +1,11 @@
-use Rattle.std.proofs.Common.{◌≡◌, ◌+◌, ◌++◌, ◌∷◌, [], ℕ, List, Option, Result, Ok, Err, Vec, refl, subst, sym, length-append, arith}
+use Rattle.std.proofs.Common.{◌≡◌, ◌+◌, ℕ, List, Option, Result, Ok, Err, Vec, subst}
 use Rattle.std.specs.declared.alloc.Global.{Global}
-use Rattle.std.proofs.lemmas.List.Elements.{All-push}
 use Rattle.toml.specs.View.{view, items_view}
 use Rattle.command_parts.specs.Outside.{files}
 use Rattle.cloak_model.specs.declared.image.Segment.{Segment}
-use Rattle.cloak_model.specs.Bundle.{IsSegmentIn}
 use Rattle.manifest.specs.Faults.{ReturnsRead}
-use Rattle.manifest.specs.Sources.{Listing}
 use Rattle.manifest.specs.Images.{SegmentReads, SegmentsRead}
-use Rattle.manifest.proofs.Kept.{same_held, read_more, handed_on, only_lacks}
+use Rattle.manifest.proofs.Kept.{same_held, read_more, handed_on}
 use Rattle.manifest.proofs.Steps.{hands_on}
 use Rattle.manifest.proofs.Turns.{goes_on, ends_wrong, is_over}
 use Rattle.manifest.proofs.segments.segments.Goals as goal
@@ -20,20 +17,18 @@ loop-index-preserved g c =
     let first = c.args.shelf.now in
     let manifest = c.args.manifest.now in
     let frames = c.args.frames in
-    let tables = c.args.tables.now in
     let i = c.loop-index.index in
     let from = c.index-tables-index.result in
     let so_far = c.loop-index.invariant in
     let items = c.loop-index.segments.items in
-    let last = c.in_ok-segment.segment in
-    let here = subst (λ (h : List ℕ → Option (List ℕ)). SegmentReads h manifest frames (i + 1) (view from) (Ok last))
+    let next = c.segment.new.segments.items in
+    let here = subst (λ (h : List ℕ → Option (List ℕ)). SegmentReads h manifest frames (i + 1) (view from) items (Ok next))
     (same_held (held first) (held c.loop-index.shelf) so_far.only.held) c.in_ok-segment.ensures.read in
-    let pushed = c.in_ok-push.ensures.items in
     record {
-      read = λ r rest. so_far.read r (goes_on (Listing (SegmentReads (held first) manifest frames)) tables i from items (items ++ last ∷ []) r
-          c.loop-index-test.true c.index-tables-index.is (Ok last, here, refl) (rw pushed at rest));
-      count = rw pushed (simp length-append (omega (arith, so_far.count)));
-      in_ram = rw pushed (All-push (IsSegmentIn frames) items last so_far.in_ram c.in_ok-segment.ensures.in_ram);
+      read = λ r rest. so_far.read r (goes_on (SegmentReads (held first) manifest frames) c.args.tables.now i from items next r
+          c.loop-index-test.true c.index-tables-index.is here rest);
+      few = c.in_ok-segment.ensures.few;
+      in_ram = c.in_ok-segment.ensures.in_ram;
       only = read_more (state first) (state c.loop-index.shelf) (state c.segment.new.shelf) so_far.only c.in_ok-segment.ensures.reads;
       settled = c.in_ok-segment.ensures.settled;
     }
@@ -49,25 +44,27 @@ returns-in_err-segment-clause-read g c =
     let i = c.loop-index.index in
     let from = c.index-tables-index.result in
     let so_far = c.loop-index.invariant in
-    let here = subst (λ (h : List ℕ → Option (List ℕ)). ReturnsRead {X = Segment} (λ x. x) (SegmentReads h manifest frames (i + 1) (view from))
-    (Err c.in_err-segment.field-0.0))
+    let items = c.loop-index.segments.items in
+    let next = c.segment.new.segments.items in
+    let here = subst (λ (h : List ℕ → Option (List ℕ)). ReturnsRead {X = Unit {0}} (λ u. next)
+    (SegmentReads h manifest frames (i + 1) (view from) items) (Err c.in_err-segment.field-0.0))
     (same_held (held first) (held c.loop-index.shelf) so_far.only.held) c.in_err-segment.ensures.read in
-    hands_on (λ (x : Segment). x) (λ (v : Vec Segment Global). v.items) (SegmentReads (held first) manifest frames (i + 1) (view from))
+    hands_on (λ (u : Unit {0}). next) (λ (v : Vec Segment Global). v.items)
+    (SegmentReads (held first) manifest frames (i + 1) (view from) items)
     (SegmentsRead (held first) manifest frames (items_view tables)) c.in_err-segment.field-0.0 c.from_residual.result
-    (λ fault wrong. so_far.read (Err fault) (ends_wrong (Listing (SegmentReads (held first) manifest frames)) tables i from
-    c.loop-index.segments.items fault c.loop-index-test.true c.index-tables-index.is (Err fault, wrong, refl)))
+    (λ fault wrong. so_far.read (Err fault) (ends_wrong (SegmentReads (held first) manifest frames) tables i from
+    items fault c.loop-index-test.true c.index-tables-index.is wrong))
     here c.from_residual.ensures.1
 
 pub returns-clause-read : goal.returns-clause-read
 unfolding SegmentsRead
 returns-clause-read g c =
     c.loop-index.invariant.read (Ok c.loop-index.segments.items)
-    (is_over (Listing (SegmentReads (g.S.Shelf.held c.args.shelf.now) c.args.manifest.now c.args.frames)) (c.loop-index.index + 1)
+    (is_over (SegmentReads (g.S.Shelf.held c.args.shelf.now) c.args.manifest.now c.args.frames) (c.loop-index.index + 1)
     c.args.tables.now c.loop-index.index c.loop-index.segments.items c.loop-index-test.false)
 
-pub returns-clause-count : goal.returns-clause-count
-returns-clause-count g c =
-    omega (arith, c.loop-index.invariant.count, c.loop-index-test.false, c.loop-index.auto.index-end)
+pub returns-clause-few : goal.returns-clause-few
+returns-clause-few g c = c.loop-index.invariant.few
 
 pub returns-clause-in_ram : goal.returns-clause-in_ram
 returns-clause-in_ram g c = c.loop-index.invariant.in_ram
@@ -81,12 +78,6 @@ returns-clause-settled g c = c.loop-index.invariant.settled
 pub returns-in_err-segment-clause-reads : goal.returns-in_err-segment-clause-reads
 returns-in_err-segment-clause-reads g c =
     let state = files g.S.Shelf in
-    handed_on Segment (state c.args.shelf.now) (state c.loop-index.shelf) (state c.segment.new.shelf) c.in_err-segment.field-0.0
-    c.from_residual.result c.loop-index.invariant.only c.in_err-segment.ensures.reads c.from_residual.ensures.1
-
-pub returns-in_err-push-clause-reads : goal.returns-in_err-push-clause-reads
-returns-in_err-push-clause-reads g c =
-    let state = files g.S.Shelf in
-    only_lacks (state c.args.shelf.now) (state c.segment.new.shelf) c.from_residual-in_err-push.result
-    (read_more (state c.args.shelf.now) (state c.loop-index.shelf) (state c.segment.new.shelf) c.loop-index.invariant.only
-    c.in_ok-segment.ensures.reads) c.from_residual-in_err-push.ensures.1
+    handed_on (Unit {0}) (state c.args.shelf.now) (state c.loop-index.shelf) (state c.segment.new.shelf)
+    c.in_err-segment.field-0.0 c.from_residual.result c.loop-index.invariant.only c.in_err-segment.ensures.reads
+    c.from_residual.ensures.1

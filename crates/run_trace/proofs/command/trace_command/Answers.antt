@@ -1,4 +1,4 @@
-use Rattle.std.proofs.Common.{◌∙◌, inl, inr, refl}
+use Rattle.std.proofs.Common.{inl, inr, refl}
 use Rattle.command_parts.specs.Outside.{outside}
 use Rattle.run_trace.proofs.Answered.{bundle_since}
 use Rattle.run_trace.proofs.command.trace_command.Goals as goal
@@ -12,8 +12,8 @@ returns-clause-answers g c =
     inl (record {
       bundle = c.in-Ok.bundle;
       file = c.in-Ok.ensures.bundle.1;
-      shows = bundle_since c.in-Ok.bundle c.args.choice.now (outside g.S.Shelf g.O.Sink c.args.shelf.now c.args.out.now)
+      shows = bundle_since _ _ c.args.program c.in-Ok.bundle c.args.choice.now (outside g.S.Shelf g.O.Sink c.args.shelf.now c.args.out.now)
           (outside g.S.Shelf g.O.Sink c.read_bundle.new.shelf c.args.out.now)
-          (outside g.S.Shelf g.O.Sink c.trace_kernel_side.new.shelf c.trace_kernel_side.new.out)
-          c.in-Ok.ensures.files c.in-Ok.ensures.bundle.0 refl c.trace_kernel_side.ensures.shows;
+          (outside g.S.Shelf g.O.Sink c.trace_bundle.new.shelf c.trace_bundle.new.out)
+          c.in-Ok.ensures.files c.in-Ok.ensures.bundle.0 refl c.trace_bundle.ensures.shows;
     })

@@ -1,4 +1,4 @@
-use Rattle.std.proofs.Common.{Ok, Err, refl}
+use Rattle.std.proofs.Common.{refl}
 use Rattle.cloak_model.specs.KernelAlone.{kernel_alone}
 use Rattle.kernel_report.proofs.PutFacts.{then, Puts-all}
 use Rattle.run_trace.specs.Tracing.{kernel_text}

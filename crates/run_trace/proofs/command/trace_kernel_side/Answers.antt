@@ -5,4 +5,4 @@ pub returns-in-Ok-clause-shows : goal.returns-in-Ok-clause-shows
 returns-in-Ok-clause-shows g c = inl (c.trace_kernel.ensures.shows c.args.bundle.now.kernel c.in-Ok.ensures)
 
 pub returns-in-Err-clause-shows : goal.returns-in-Err-clause-shows
-returns-in-Err-clause-shows g c = inr (record { reading = refl; line = c.refuse.ensures })
+returns-in-Err-clause-shows g c = inr (inl (record { reading = refl; line = c.refuse.ensures }))

@@ -1,4 +1,4 @@
-use Rattle.std.proofs.Common.{◌∙◌, ap, refl, sym}
+use Rattle.std.proofs.Common.{◌∙◌, ap, sym}
 use Rattle.cloak_model.specs.KernelAlone as model
 use Rattle.alone_views.specs.KernelPlaces.{stood_place}
 use Rattle.run_trace.specs.KernelTrace.{open_at}

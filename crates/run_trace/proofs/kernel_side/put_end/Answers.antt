@@ -1,4 +1,4 @@
-use Rattle.std.proofs.Common.{ℕ, Bool, ap, decimal}
+use Rattle.std.proofs.Common.{ℕ, ap, decimal}
 use Rattle.kernel_report.proofs.PutFacts.{then, text_is}
 use Rattle.run_trace.specs.KernelTrace.{halt_text}
 use Rattle.run_trace.proofs.kernel_side.put_end.Goals as goal

@@ -1,4 +1,4 @@
-use Rattle.std.proofs.Common.{◌∙◌, sym, ap}
+use Rattle.std.proofs.Common.{◌∙◌, ap}
 use Rattle.run_trace.specs.KernelTrace.{hart_there}
 use Rattle.run_trace.proofs.KernelAdds.{adds_outward}
 use Rattle.run_trace.proofs.kernel_side.trace_outward.Goals as goal

@@ -10,14 +10,18 @@ returns c =
     let to = c.step_option-to.ensures in
     let only = c.kinds_option-only.ensures in
     let counts = c.flag-counts.ensures in
+    let json = c.flag-json.ensures in
+    let follow = c.step_option-follow.ensures in
     let bare : app_of c.about.result ≡ new_app (codes "show") = search rules in
     let own : app_of c.in_ok-show.show ≡ show_form =
-    c.in_ok-show.ensures.shape counts.local
+    c.in_ok-show.ensures.shape follow.local
+    ∙ ap₂ with_rule (c.in_ok-arg-6.ensures.shape json.local
+    ∙ ap₂ with_rule (c.in_ok-arg-5.ensures.shape counts.local
     ∙ ap₂ with_rule (c.in_ok-arg-4.ensures.shape only.local
     ∙ ap₂ with_rule (c.in_ok-arg-3.ensures.shape to.local
     ∙ ap₂ with_rule (c.in_ok-arg-2.ensures.shape from.local
     ∙ ap₂ with_rule (c.in_ok-arg.ensures.shape name.local
-    ∙ ap₂ with_rule bare name.rule) from.rule) to.rule) only.rule) counts.rule in
+    ∙ ap₂ with_rule bare name.rule) from.rule) to.rule) only.rule) counts.rule) json.rule) follow.rule in
     record {
       own = own;
       added = λ above more adds. adds.shape (search rules)

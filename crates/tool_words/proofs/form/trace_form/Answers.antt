@@ -7,17 +7,19 @@ pub returns : goal.returns
 returns c =
     let bundle = c.position-bundle.ensures in
     let name = c.position-record.ensures in
+    let program = c.program_option-program.ensures in
     let from = c.step_option-from.ensures in
     let to = c.step_option-to.ensures in
     let hart = c.number_option-hart.ensures in
     let bare : app_of c.about.result ≡ new_app (codes "trace") = search rules in
     let own : app_of c.in_ok-trace.trace ≡ trace_form =
     c.in_ok-trace.ensures.shape hart.local
-    ∙ ap₂ with_rule (c.in_ok-arg-4.ensures.shape to.local
-    ∙ ap₂ with_rule (c.in_ok-arg-3.ensures.shape from.local
+    ∙ ap₂ with_rule (c.in_ok-arg-5.ensures.shape to.local
+    ∙ ap₂ with_rule (c.in_ok-arg-4.ensures.shape from.local
+    ∙ ap₂ with_rule (c.in_ok-arg-3.ensures.shape program.local
     ∙ ap₂ with_rule (c.in_ok-arg-2.ensures.shape name.local
     ∙ ap₂ with_rule (c.in_ok-arg.ensures.shape bundle.local
-    ∙ ap₂ with_rule bare bundle.rule) name.rule) from.rule) to.rule) hart.rule in
+    ∙ ap₂ with_rule bare bundle.rule) name.rule) program.rule) from.rule) to.rule) hart.rule in
     record {
       own = own;
       added = λ above more adds. adds.shape (search rules)

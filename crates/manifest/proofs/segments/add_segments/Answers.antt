@@ -1,0 +1,94 @@
+use Rattle.std.proofs.Common.{◌≡◌, ℕ, List, Option, Some, None, Result, Ok, Err, Vec, sym}
+use Rattle.std.specs.declared.alloc.Global.{Global}
+use Rattle.cloak_model.specs.declared.image.Segment.{Segment}
+use Rattle.toml.specs.View.{view}
+use Rattle.command_parts.specs.Outside.{files}
+use Rattle.manifest.specs.declared.key.Key.TheVariants.{Elf}
+use Rattle.manifest.specs.Keys.{stands_at}
+use Rattle.manifest.specs.Faults.{Fault, by_keys}
+use Rattle.manifest.specs.Parts.{with_flat}
+use Rattle.manifest.specs.Loading.{with_elf}
+use Rattle.manifest.specs.Sources.{ElfReads, SourceReads}
+use Rattle.manifest.specs.Images.{beside_no_elf, SegmentsBy}
+use Rattle.manifest.proofs.ImageParts.{flat_unread, flat_read, elf_unread, elf_read}
+use Rattle.manifest.proofs.Kept.{returned_unread}
+use Rattle.manifest.proofs.Steps.{answers_more, hands_on}
+use Rattle.manifest.proofs.segments.add_segments.Goals as goal
+
+pub returns-in_err-bytes-clause-read : goal.returns-in_err-bytes-clause-read
+returns-in_err-bytes-clause-read g c =
+    let held = g.S.Shelf.held c.args.shelf.now in
+    let manifest = c.args.manifest.now in
+    let at = c.args.place.part in
+    let from = view c.args.place.table.now in
+    let stands = stands_at Elf from in
+    let items = c.args.segments.now.items in
+    let next = items in
+    let none : stands ≡ None = sym (rw c.in_default.is at c.value.ensures) in
+    hands_on (λ (v : Vec ℕ Global). v.items) (λ (u : Unit {0}). next) (SourceReads held manifest at from) (SegmentsBy held manifest at c.args.frames from stands items)
+    c.in_err-bytes.field-0.0 c.from_residual.result
+    (λ fault source. flat_unread held manifest c.args.frames from items at stands none fault source)
+    c.in_err-bytes.ensures.source c.from_residual.ensures.1
+
+pub returns-in_default-clause-read : goal.returns-in_default-clause-read
+returns-in_default-clause-read g c =
+    let held = g.S.Shelf.held c.args.shelf.now in
+    let manifest = c.args.manifest.now in
+    let at = c.args.place.part in
+    let from = view c.args.place.table.now in
+    let stands = stands_at Elf from in
+    let items = c.args.segments.now.items in
+    let next = c.add_flat.new.segments.items in
+    let none : stands ≡ None = sym (rw c.in_default.is at c.value.ensures) in
+    let bytes = c.in_ok-bytes.bytes.items in
+    answers_more (λ (u : Unit {0}). next) (λ (u : Unit {0}). next)
+    (λ (r : Result (List Segment) Fault). r ≡ by_keys (with_flat at from c.args.frames items c.in_ok-bytes.bytes.items))
+    (SegmentsBy held manifest at c.args.frames from stands items) c.add_flat.result
+    (λ fault is. flat_read held manifest c.args.frames from items at stands none bytes (Err fault) c.in_ok-bytes.ensures.source is)
+    (λ u is. flat_read held manifest c.args.frames from items at stands none bytes (Ok next) c.in_ok-bytes.ensures.source is)
+    c.add_flat.ensures.read
+
+pub returns-in_default-clause-reads : goal.returns-in_default-clause-reads
+returns-in_default-clause-reads g c =
+    returned_unread (files g.S.Shelf c.args.shelf.now) (files g.S.Shelf c.source.new.shelf) c.add_flat.result
+    c.in_ok-bytes.ensures.reads c.add_flat.ensures.no_read
+
+pub returns-in_err-file-clause-read : goal.returns-in_err-file-clause-read
+returns-in_err-file-clause-read g c =
+    let held = g.S.Shelf.held c.args.shelf.now in
+    let manifest = c.args.manifest.now in
+    let at = c.args.place.part in
+    let from = view c.args.place.table.now in
+    let stands = stands_at Elf from in
+    let items = c.args.segments.now.items in
+    let next = items in
+    let value = view c.in-Some.value.now in
+    let some : stands ≡ Some value = sym (rw c.in-Some.is at c.value.ensures) in
+    hands_on (λ (v : Vec ℕ Global). v.items) (λ (u : Unit {0}). next) (ElfReads held manifest at beside_no_elf from value) (SegmentsBy held manifest at c.args.frames from stands items)
+    c.in_err-file.field-0.0 c.from_residual-in_err-file.result
+    (λ fault wrong. elf_unread held manifest c.args.frames from items at stands value some fault wrong)
+    c.in_err-file.ensures.read c.from_residual-in_err-file.ensures.1
+
+pub returns-clause-read : goal.returns-clause-read
+returns-clause-read g c =
+    let held = g.S.Shelf.held c.args.shelf.now in
+    let manifest = c.args.manifest.now in
+    let at = c.args.place.part in
+    let from = view c.args.place.table.now in
+    let stands = stands_at Elf from in
+    let items = c.args.segments.now.items in
+    let next = c.add_elf.new.segments.items in
+    let value = view c.in-Some.value.now in
+    let some : stands ≡ Some value = sym (rw c.in-Some.is at c.value.ensures) in
+    let file = c.in_ok-file.file.items in
+    answers_more (λ (u : Unit {0}). next) (λ (u : Unit {0}). next)
+    (λ (r : Result (List Segment) Fault). r ≡ by_keys (with_elf at c.args.frames items c.in_ok-file.file.items))
+    (SegmentsBy held manifest at c.args.frames from stands items) c.add_elf.result
+    (λ fault is. elf_read held manifest c.args.frames from items at stands value some file (Err fault) c.in_ok-file.ensures.read is)
+    (λ u is. elf_read held manifest c.args.frames from items at stands value some file (Ok next) c.in_ok-file.ensures.read is)
+    (rw c.as_slice.ensures.value at c.add_elf.ensures.read)
+
+pub returns-clause-reads : goal.returns-clause-reads
+returns-clause-reads g c =
+    returned_unread (files g.S.Shelf c.args.shelf.now) (files g.S.Shelf c.elf_file.new.shelf) c.add_elf.result
+    c.in_ok-file.ensures.reads c.add_elf.ensures.no_read

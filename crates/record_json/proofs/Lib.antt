@@ -1,0 +1,5 @@
+pub mod Texts
+pub mod Placed
+pub mod Fits
+pub mod ObjectsSoFar
+pub mod Answered

@@ -1,0 +1,8 @@
+use Rattle.std.proofs.Common.{ℕ, List, ◌∷◌, [], ◌++◌, ap, sym}
+use Rattle.kernel_report.proofs.PutFacts.{then, text_is}
+use Rattle.record_json.proofs.members.put_quoted.Goals as goal
+
+pub returns : goal.returns
+returns g c =
+    text_is (then c.text-so_far.ensures (then c.put_plain-so_far.ensures c.text.ensures))
+    (ap (λ (s : List ℕ). 34 ∷ (s ++ 34 ∷ [])) (sym c.requires))

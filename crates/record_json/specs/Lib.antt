@@ -1,0 +1,5 @@
+pub mod Members
+pub mod Objects
+pub mod JsonText
+pub mod Showing
+pub mod JsonLaw

@@ -1,0 +1,91 @@
+-- What is noted of items and one more.
+use Rattle.std.proofs.Common.{◌≡◌, ◌+◌, ◌*◌, ◌/◌, ◌&&◌, ℕ, Bool, true, false, not, List, [], ◌∷◌, ◌++◌, Option, Some, add-one, refl, sym, ap, subst, ◌∙◌, append_assoc, append-nil}
+use Rattle.std.specs.List.{fold}
+use Rattle.std.proofs.lemmas.List.Sums.{fold-append}
+use Rattle.cloak_model.specs.declared.image.Bundle.{Bundle}
+use Rattle.cloak_model.specs.declared.item.Item.{Item}
+use Rattle.cloak_model.specs.declared.outcome.Kernel.{Kernel}
+use Rattle.cloak_model.specs.KernelAlone as model
+use Rattle.cloak_model.specs.KernelAlone.{kernel_alone, kernel_hart}
+use Rattle.alone_views.specs.KernelEnding.{is_end, plain_ending}
+use Rattle.replayed_run.specs.Alone.{standing_told, words_of}
+use Rattle.replayed_run.specs.ContextsTold.{resumed_at}
+use Rattle.replayed_run.specs.Machines.{StandAlone}
+use Rattle.replayed_run.specs.Noted.{Noted, asked_at_end, asked_from, asked_unless, is_in_space, is_left, no_notes, noted_in, noted_more, notes_after, resume_noted}
+use Rattle.replayed_run.specs.Watching.{Watches, notes_of}
+use Rattle.replayed_run.specs.declared.machines.HartWords.{HartWords}
+use Rattle.replayed_run.specs.declared.machines.StandingContext.{StandingContext}
+use Rattle.replayed_run.specs.declared.notes.Asking.{Asking}
+use Rattle.replayed_run.specs.declared.notes.Notes.{Notes}
+use Rattle.replayed_run.specs.declared.watch.Watch.{Watch}
+
+-- the items that were noted
+items_noted : (b : Bundle) (n : Noted) (items : List Item) → (fold (noted_more b) n items).items ≡ n.items ++ items
+unfolding noted_more
+items_noted b n [] = sym (append-nil n.items)
+items_noted b n (i ∷ items) = items_noted b (noted_more b n i) items ∙ append_assoc n.items (i ∷ []) items
+
+pub noted_items : (b : Bundle) (items : List Item) → (noted_in b items).items ≡ items
+noted_items b items = items_noted b (record { items = []; notes = no_notes }) items
+
+-- one item more
+pub noted_in_more : (b : Bundle) (items : List Item) (i : Item) →
+    noted_in b (items ++ i ∷ []) ≡ noted_more b (noted_in b items) i
+noted_in_more b items i = fold-append (noted_more b) (record { items = []; notes = no_notes }) items (i ∷ [])
+
+notes_more : (b : Bundle) (items : List Item) (i : Item) →
+    (noted_in b (items ++ i ∷ [])).notes ≡ notes_after b items (items ++ i ∷ []) (noted_in b items).notes i
+unfolding noted_more
+notes_more b items i =
+    ap (λ (n : Noted). n.notes) (noted_in_more b items i)
+    ∙ ap (λ (l : List Item). notes_after b l (l ++ i ∷ []) (noted_in b items).notes i) (noted_items b items)
+
+-- the machines took an item, and it was noted
+pub watches_more : (b : Bundle) (items : List Item) (i : Item) (old new : Watch) → Watches b items old →
+    StandAlone b (items ++ i ∷ []) new.machines →
+    notes_of new ≡ notes_after b items (items ++ i ∷ []) (notes_of old) i → Watches b (items ++ i ∷ []) new
+watches_more b items i old new watched stand noted = record {
+  machines = stand;
+  notes = noted ∙ (ap (λ (n : Notes). notes_after b items (items ++ i ∷ []) n i) watched.notes ∙ sym (notes_more b items i));
+}
+
+-- for which context a hart asked, by how the last plain step ended
+
+asked_as : (s : model.KernelAlone) (place : model.KernelPlace) (ending : Kernel) →
+    ((number : ℕ) → place ≡ model.Outside number → ending ≡ plain_ending number s) →
+    asked_from place (λ hart. ending) ≡ asked_from place (λ hart. plain_ending hart s)
+asked_as s (model.Outside hart) ending ends = ap (λ (e : Kernel). asked_from (model.Outside hart) (λ h. e)) (ends hart refl)
+asked_as s model.Between ending ends = refl
+asked_as s (model.Inside hart ctx) ending ends = refl
+asked_as s model.Left ending ends = refl
+
+pub asked_told : (s : model.KernelAlone) (place : model.KernelPlace) (ending : Kernel) (resumed : Bool) → s.place ≡ place →
+    ((number : ℕ) → s.place ≡ model.Outside number → ending ≡ plain_ending number s) →
+    asked_unless resumed place ending ≡ asked_at_end resumed s
+asked_told s place ending true is ends = refl
+asked_told s place ending false is ends =
+    asked_as s place ending (λ number at. ends number (is ∙ at))
+    ∙ ap (λ (p : model.KernelPlace). asked_from p (λ hart. plain_ending hart s)) (sym is)
+
+-- a context that a hart outside resumed
+pub resumed_told : (b : Bundle) (items : List Item) (n : Notes) (ctx hart : ℕ) (c : StandingContext) (words : HartWords) →
+    (kernel_alone b.kernel items).place ≡ model.Outside hart → standing_told b items ctx ≡ Some c →
+    words ≡ words_of (kernel_hart (kernel_alone b.kernel items).kernel hart) →
+    resumed_at n.contexts ctx c.space words.satp n.step
+    ≡ resume_noted n ctx (kernel_alone b.kernel items).place (kernel_alone b.kernel items) (standing_told b items ctx)
+resumed_told b items n ctx hart c words at there is =
+    let s = kernel_alone b.kernel items in
+    ap (λ (w : HartWords). resumed_at n.contexts ctx c.space w.satp n.step) is
+    ∙ (ap (λ (o : Option StandingContext). resume_noted n ctx (model.Outside hart) s o) (sym there)
+    ∙ ap (λ (p : model.KernelPlace). resume_noted n ctx p s (standing_told b items ctx)) (sym at))
+
+-- one context more is looked at
+pub left_more : (b : Bundle) (items : List Item) (space n : ℕ) →
+    is_left b items space (n + 1)
+    ≡ (is_left b items space n && not (is_in_space space (standing_told b items (space / 8 * 8 + n))))
+unfolding is_left
+left_more b items space n = ap (λ (k : ℕ). is_left b items space k) (add-one n)
+
+pub left_none : (b : Bundle) (items : List Item) (space : ℕ) → true ≡ is_left b items space 0
+unfolding is_left
+left_none b items space = refl

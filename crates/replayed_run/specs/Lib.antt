@@ -1,0 +1,7 @@
+pub mod Silent
+pub mod Leading
+pub mod Alone
+pub mod ContextsTold
+pub mod Machines
+pub mod Noted
+pub mod Watching

@@ -1,0 +1,143 @@
+//! The machines that run alone on the items of a record: the kernel, and each program.
+ghost use Rattle.std.specs.Prelude.{◌≡◌, ◌++◌, [], ◌∷◌, List, IfOk};
+ghost use Rattle.cloak_model.specs.Bundle.{IsInGrammar};
+ghost use Rattle.cloak_model.specs.Record.{IsItem};
+ghost use Rattle.cloak_model.specs.declared.image.Bundle.{Bundle};
+ghost use Rattle.cloak_model.specs.declared.item.Item.{Item};
+ghost use Rattle.cloak_model.specs.KernelAlone.{kernel_alone, kernel_hart};
+ghost use Rattle.alone_views.specs.KernelPlaces.{stood_place};
+ghost use Rattle.replayed_run.specs.Alone as alone;
+ghost use Rattle.replayed_run.specs.Machines.{ProgramsStand, ProgramsTake, StandAlone, TakeAlone};
+
+use crate::silent::Silent;
+use alone_views::{DomainAlone, KernelAlone, KernelPlace, Unfit};
+use cloak_base::{HartId, NoMemory};
+use cloak_model::{Bundle, Item};
+use host_calls::Hart;
+use std::alloc::Global;
+
+/// The kernel and the programs of a guest image, each alone, as far as they took the items of a record.
+#[derive(Drop)]
+pub struct Machines {
+    pub kernel: KernelAlone,
+    pub programs: Vec<DomainAlone>,
+}
+
+/// A context as its program has it.
+#[derive(Clone, Copy)]
+pub struct StandingContext {
+    /// Its space, counted from 8 times the number of its program on.
+    pub space: u32,
+    /// The hart on which it runs.
+    pub on: Option<HartId>,
+}
+
+/// What a hart says as it asks to resume a context.
+#[derive(Clone, Copy)]
+pub struct HartWords {
+    pub ctx: u32,
+    /// Its page table.
+    pub satp: u32,
+}
+
+/// What this hart says.
+fn words_of(hart: &Hart) -> HartWords
+    ensures { result ≡ alone.words_of hart.now }
+{
+    HartWords {
+        ctx: hart.regs.get(5),
+        satp: hart.csrs.satp(),
+    }
+}
+
+/// The programs of a bundle, each alone.
+fn open_programs(alloc: Global, bundle: &Bundle) -> Result<Vec<DomainAlone>, NoMemory>
+    requires { IsInGrammar bundle.now }
+    ensures { IfOk result (λ programs. ProgramsStand bundle.now [] programs.items) }
+{
+    let programs = bundle.programs.as_slice();
+    let mut opened = Vec::new(alloc);
+    for number in 0..programs.len() {
+        let program = DomainAlone::open(alloc, &bundle.kernel, number as u32, &programs[number])?;
+        opened.push(program)?;
+    }
+    Ok(opened)
+}
+
+/// Gives an item to each program, up to the first that it does not fit.
+fn give_programs(programs: &mut [DomainAlone], item: &Item) -> Result<(), Unfit>
+    ensures { (b : Bundle) (items : List Item) → ProgramsStand b items programs.old →
+        ProgramsTake b (items ++ item.now ∷ []) programs.new result }
+{
+    for number in 0..programs.len() {
+        if let Err(unfit) = programs[number].take(item) {
+            return Err(unfit);
+        }
+    }
+    Ok(())
+}
+
+impl Machines {
+    /// The machines of a bundle before the first item.
+    pub fn open(alloc: Global, bundle: &Bundle) -> Result<Machines, NoMemory>
+        requires { IsInGrammar bundle.now }
+        ensures { IfOk result (StandAlone bundle.now []) }
+    {
+        Ok(Machines {
+            kernel: KernelAlone::open(alloc, &bundle.kernel)?,
+            programs: open_programs(alloc, bundle)?,
+        })
+    }
+
+    /// Takes the next item. Once one did not fit, the machines are of no more use.
+    pub fn take(&mut self, item: &Item) -> Result<(), Unfit>
+        ensures { (b : Bundle) (items : List Item) → IsItem item.now → StandAlone b items self.old →
+            TakeAlone b items item.now self.new result }
+    {
+        if let Err(unfit) = self.kernel.take(item, &mut Silent {}) {
+            return Err(unfit);
+        }
+        give_programs(self.programs.as_mut_slice(), item)
+    }
+
+    /// Where the items of the kernel stand.
+    pub fn place(&self) -> KernelPlace
+        ensures { (b : Bundle) (items : List Item) → StandAlone b items self.now →
+            stood_place result ≡ (kernel_alone b.kernel items).place }
+    {
+        self.kernel.place()
+    }
+
+    /// What a hart says; of a number without a hart what one says as a run begins.
+    pub fn words_of(&self, hart: usize) -> HartWords
+        ensures { (b : Bundle) (items : List Item) → StandAlone b items self.now →
+            result ≡ alone.words_of (kernel_hart (kernel_alone b.kernel items).kernel hart) }
+    {
+        let harts = self.kernel.harts();
+        if hart < harts.len() {
+            words_of(&harts[hart])
+        } else {
+            words_of(&Hart::start(0, 0))
+        }
+    }
+
+    /// A context, if there is one of this number.
+    pub fn context(&self, ctx: u32) -> Option<StandingContext>
+        ensures { (b : Bundle) (items : List Item) → StandAlone b items self.now →
+            result ≡ alone.standing_told b items ctx }
+    {
+        let programs = self.programs.as_slice();
+        let number = (ctx / 8) as usize;
+        if number < programs.len() {
+            match programs[number].context(ctx % 8) {
+                Some(told) => Some(StandingContext {
+                    space: ctx / 8 * 8 + told.0,
+                    on: told.1,
+                }),
+                None => None,
+            }
+        } else {
+            None
+        }
+    }
+}

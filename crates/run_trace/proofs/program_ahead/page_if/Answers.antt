@@ -1,0 +1,8 @@
+use Rattle.std.proofs.Common.{refl}
+use Rattle.run_trace.proofs.program_ahead.page_if.Goals as goal
+
+pub returns-in-None : goal.returns-in-None
+returns-in-None c number turns s stands fits = rw c.in-None.is refl
+
+pub returns-in-Some : goal.returns-in-Some
+returns-in-Some c number turns s stands fits = rw c.in-Some.is (c.page_reached.ensures number turns s stands fits)

@@ -1,0 +1,64 @@
+//! A record, from its first item to its end or its first fault, with a program that runs alone.
+ghost use Rattle.std.specs.Prelude.{◌≡◌, ◌<◌, Ok};
+ghost use Rattle.cloak_model.specs.declared.image.KernelImage.{KernelImage};
+ghost use Rattle.cloak_model.specs.declared.image.Program.{Program};
+ghost use Rattle.cloak_model.specs.DomainAlone as model;
+ghost use Rattle.alone_views.specs.DomainStanding.{StandsForDomain};
+ghost use Rattle.io_traits.specs.Told.{SameFiles};
+ghost use Rattle.kernel_report.specs.Putting.{putting};
+ghost use Rattle.run_trace.specs.ProgramTracing.{TracesOwn};
+
+use crate::choice::TraceChoice;
+use crate::program_side::trace_program_item;
+use alone_views::DomainAlone;
+use cloak_base::Failed;
+use io_traits::{Shelf, Sink};
+use read_back::Ending;
+use record_reader::{KeptItems, NextFault, Reader};
+
+/// Gives the items of a record to a program of this number that runs alone, and shows what they add, up to the first that
+/// does not fit, the first fault, or where the output fails.
+pub fn trace_program_items<S: Shelf, O: Sink>(
+    program: &mut DomainAlone,
+    number: u32,
+    choice: &TraceChoice,
+    name: &str,
+    shelf: &mut S,
+    out: &mut O,
+) -> Result<Ending, Failed>
+    requires settled { S.is_settled shelf.old }
+    requires number { number < 4 }
+    ensures traces { (k : KernelImage) (p : Program) →
+        StandsForDomain number k.schedule program.old (model.opened_domain number p) →
+        TracesOwn choice.now number k p program.new (S.held shelf.old name.now)
+        (S.reading_faults shelf.old) (S.reading_faults shelf.new)
+        (putting O.Sink out.old (Ok tt)) (putting O.Sink out.new) result }
+    ensures files { SameFiles (S.held shelf.old) (S.held shelf.new) }
+    ensures writing { S.writing_faults shelf.new ≡ S.writing_faults shelf.old }
+{
+    let mut reader = Reader::open(name);
+    let mut kept = KeptItems::new();
+    loop {
+        match reader.next(shelf, &mut kept) {
+            Ok(Some(tag)) => {
+                let (put, taken) = trace_program_item(
+                    program,
+                    number,
+                    choice,
+                    kept.item(tag),
+                    out,
+                    Ok(()),
+                );
+                if let Err(failed) = put {
+                    return Err(failed);
+                }
+                if let Err(unfit) = taken {
+                    return Ok(Ending::Unfit(unfit.step));
+                }
+            }
+            Ok(None) => return Ok(Ending::Whole),
+            Err(NextFault::Read) => return Ok(Ending::Unread),
+            Err(NextFault::Record(fault)) => return Ok(Ending::Fault(fault)),
+        }
+    }
+}
