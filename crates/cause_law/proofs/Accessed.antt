@@ -28,14 +28,16 @@ use Rattle.cloak_model.specs.declared.outcome.Effect.TheVariants as does
 use Rattle.cloak_model.specs.declared.resource.MapFault.{MapFault}
 use Rattle.cloak_model.specs.Asking.{Told, answered}
 use Rattle.cloak_model.specs.AskPages.{ask_reach, ask_read, ask_get}
-use Rattle.cloak_model.specs.Calls.{Copy, buffer, area, call_length, byte_address, is_cloaked, in_put, in_reached, in_placed, in_step, copy_in_step, out_reached, out_got, out_placed, out_step, copy_out_step}
+use Rattle.cloak_model.specs.Calls.{Copy, buffer, area, call_length, byte_address, is_cloaked, copy_in_step, copy_out_step}
+use Rattle.cloak_model.proofs.CallParts.{in_put, in_reached, in_placed, in_step, out_reached, out_got, out_placed, out_step}
 use Rattle.cloak_model.specs.Contexts.{Context}
 use Rattle.cloak_model.specs.DomainState.{Control, Domain}
 use Rattle.cloak_model.specs.DomainStep.{DomainStepped, instruction_ended, copy_ended, after_write, phase_step}
 use Rattle.cloak_model.specs.Effect.{effect}
 use Rattle.cloak_model.specs.Fork.{fork_cleared, fork_if, fork, end_cleared, end_if, end_context}
 use Rattle.cloak_model.specs.Hypercalls.{Hypercall, New, Map, Unmap, File, Thread, ForkSpace, Exit, Call, Unknown, fork_call, exit_call, hypercall, hypercall_of}
-use Rattle.cloak_model.specs.InsideStep.{AfterInstruction, loaded_inside, load_reached, load_got, load_inside, store_reached, store_put, store_inside, conditional_inside, atomic_granted, atomic_reached, atomic_placed, traps, atomic_inside, system_inside, done_inside, decoded_inside, executed_inside, fetched_inside, fetch, instruction_inside}
+use Rattle.cloak_model.specs.InsideStep.{AfterInstruction, load_inside, store_inside, atomic_granted, atomic_placed, traps, atomic_inside, system_inside, done_inside, decoded_inside, fetch, instruction_inside}
+use Rattle.cloak_model.proofs.InsideParts.{loaded_inside, load_reached, load_got, store_reached, store_put, conditional_inside, atomic_reached, executed_inside, fetched_inside}
 use Rattle.cloak_model.specs.Joint.{pages_for}
 use Rattle.cloak_model.specs.KernelStep.{atomic_kind, misaligned}
 use Rattle.cloak_model.specs.Memory.{value_in}
@@ -106,7 +108,7 @@ get_regime va width w calm =
 load_goes : (d : Domain) (c : Context) (begun : World) (q : PageId) (rd va width : ℕ) (is_signed : Bool) (a : Answer)
     (w : World) → Goes d c begun a w →
     EndsCalmOrMet IsStoppedRun d c begun (load_reached c q rd va width is_signed a w)
-unfolding load_reached loaded_inside ask_read
+unfolding ask_read
 load_goes d c begun q rd va width is_signed a w (inl calm) = inl (calm_by a)
   where
     calm_by : (a : Answer) → Calm (load_reached c q rd va width is_signed a w).world
@@ -121,7 +123,6 @@ load_goes d c begun q rd va width is_signed (told.Word value) w (inr met) = let 
 
 store_goes : (d : Domain) (c : Context) (begun : World) (q : PageId) (va width value : ℕ) (a : Answer) (w : World) →
     Goes d c begun a w → EndsCalmOrMet IsStoppedRun d c begun (store_reached c q va width value a w)
-unfolding store_reached
 store_goes d c begun q va width value a w (inl calm) = inl (calm_by a)
   where
     calm_by : (a : Answer) → Calm (store_reached c q va width value a w).world
@@ -136,14 +137,12 @@ store_goes d c begun q va width value (told.Word other) w (inr met) = let is = m
 
 calms_load_got : (c : Context) (rd va width : ℕ) (is_signed : Bool) (a : Answer) (w : World) →
     Calms w (load_got c rd va width is_signed a w).world
-unfolding load_got
 calms_load_got c rd va width is_signed told.Ok w = Calms-refl w
 calms_load_got c rd va width is_signed (told.Absent cause) w = Calms-refl w
 calms_load_got c rd va width is_signed (told.Word value) w = Calms-refl w
 calms_load_got c rd va width is_signed told.Stopped w = Calms-refl w
 
 calms_store_put : (c : Context) (va : ℕ) (a : Answer) (w : World) → Calms w (store_put c va a w).world
-unfolding store_put
 calms_store_put c va told.Ok w = Calms-refl w
 calms_store_put c va (told.Absent cause) w = Calms-refl w
 calms_store_put c va (told.Word value) w = Calms-refl w
@@ -195,7 +194,6 @@ done_meets d c begun word i (does.Raise cause value) w runs found is regime calm
 
 calms_conditional : (reserved : Bool) (c : Context) (rd : ℕ) (q : PageId) (va operand : ℕ) (w : World) →
     Calms w (conditional_inside reserved c rd q va operand w).world
-unfolding conditional_inside
 calms_conditional true c rd q va operand w = calms_writes q (va % 4096) 4 operand w
 calms_conditional false c rd q va operand w = Calms-refl w
 
@@ -209,7 +207,6 @@ calms_granted c rd op q va operand w = calms_writes q (va % 4096) 4 _ w
 atomic_goes : (d : Domain) (c : Context) (begun : World) (rd : ℕ) (op : AtomicOp) (q : PageId) (va operand : ℕ)
     (a : Answer) (w : World) → Goes d c begun a w →
     EndsCalmOrMet IsStoppedRun d c begun (atomic_reached c rd op q va operand a w)
-unfolding atomic_reached
 atomic_goes d c begun rd op q va operand a w (inl calm) = inl (calm_by a)
   where
     calm_by : (a : Answer) → Calm (atomic_reached c rd op q va operand a w).world
@@ -265,7 +262,7 @@ fetched_goes : (d : Domain) (c : Context) (begun : World) (q : PageId) (a : Answ
     pages_for d (Some c) c.pc ≡ Some q → ask_reach q c.pc Fetch begun ≡ record { answer = a; world = w } →
     regime_of w ≡ regime_of begun → Goes d c begun a w →
     EndsCalmOrMet IsStoppedRun d c begun (fetched_inside d.control.number d.control.resources c q a w)
-unfolding fetched_inside executed_inside ask_read
+unfolding ask_read
 fetched_goes d c begun q told.Ok w plain lies granted regime (inl calm) =
     decoded_meets d c begun (value_in (plain_of w q) (c.pc % 4096) 4) _ w
     (record { plain = plain; page = q; lies = lies; granted = granted; has = refl }) refl regime calm
@@ -350,7 +347,6 @@ ran_meets slot d c made begun ran.Ecall w (inr met) = let is = met.0 in absurd c
 -- Copies.
 
 calms_in_put : (c : Context) (done byte : ℕ) (a : Answer) (w : World) → Calms w (in_put c done byte a w).world
-unfolding in_put
 calms_in_put c done byte told.Ok w = Calms-refl w
 calms_in_put c done byte (told.Absent cause) w = Calms-refl w
 calms_in_put c done byte (told.Word value) w = Calms-refl w
@@ -358,7 +354,7 @@ calms_in_put c done byte told.Stopped w = Calms-refl w
 
 in_goes : (d : Domain) (c : Context) (begun : World) (q : PageId) (done : ℕ) (a : Answer) (w : World) →
     Goes d c begun a w → EndsCalmOrMet IsStoppedCopy d c begun (in_reached c q done a w)
-unfolding in_reached ask_read
+unfolding ask_read
 in_goes d c begun q done told.Ok w (inl calm) =
     inl ((Calms-trans _ _ _ (calms_asks_put (byte_address (area c) done) 1 _ w) (calms_in_put c done _ _ _)).by calm)
 in_goes d c begun q done (told.Absent cause) w (inl calm) = inl calm
@@ -374,7 +370,6 @@ in_meets : (d : Domain) (c : Context) (begun : World) (done : ℕ) (o : Option P
     pages_for d (Some c) (byte_address (buffer c) done) ≡ o →
     is_cloaked d.control.resources c (byte_address (area c) done) ≡ cloaked → Calm begun →
     EndsCalmOrMet IsStoppedCopy d c begun (in_placed c done o cloaked begun)
-unfolding in_placed
 in_meets d c begun done None cloaked phase more lies is calm = inl calm
 in_meets d c begun done (Some q) true phase more lies is calm = inl calm
 in_meets d c begun done (Some q) false phase more lies is calm =
@@ -384,13 +379,11 @@ in_meets d c begun done (Some q) false phase more lies is calm =
 in_step_meets : (d : Domain) (c : Context) (begun : World) (done : ℕ) (all : Bool) → c.phase ≡ CopyIn done →
     nat_le (call_length c) done ≡ all → Calm begun →
     EndsCalmOrMet IsStoppedCopy d c begun (in_step all d.control.number d.control.resources c done begun)
-unfolding in_step
 in_step_meets d c begun done true phase more calm = inl calm
 in_step_meets d c begun done false phase more calm = in_meets d c begun done _ _ phase more refl refl calm
 
 out_goes : (d : Domain) (c : Context) (begun : World) (q : PageId) (done total byte : ℕ) (a : Answer) (w : World) →
     Goes d c begun a w → EndsCalmOrMet IsStoppedCopy d c begun (out_reached c q done total byte a w)
-unfolding out_reached
 out_goes d c begun q done total byte told.Ok w (inl calm) =
     inl ((calms_writes q (byte_address (buffer c) done % 4096) 1 byte w).by calm)
 out_goes d c begun q done total byte (told.Absent cause) w (inl calm) = inl calm
@@ -408,7 +401,6 @@ got_goes : (d : Domain) (c : Context) (begun : World) (q : PageId) (done total :
     ask_get (byte_address (area c) done) 1 begun ≡ record { answer = a; world = w } →
     regime_of w ≡ regime_of begun → Calm w →
     EndsCalmOrMet IsStoppedCopy d c begun (out_got c q done total a w)
-unfolding out_got
 got_goes d c begun q done total (told.Word byte) w phase more lies is got regime calm =
     out_goes d c begun q done total byte _ _ (asks_goes d c begun w q (byte_address (buffer c) done) Store lies regime
     (CopiesTo done total byte phase (leb-false total done more) refl is got refl) calm)
@@ -421,7 +413,6 @@ out_meets : (d : Domain) (c : Context) (begun : World) (done total : ℕ) (o : O
     pages_for d (Some c) (byte_address (buffer c) done) ≡ o →
     is_cloaked d.control.resources c (byte_address (area c) done) ≡ cloaked → Calm begun →
     EndsCalmOrMet IsStoppedCopy d c begun (out_placed c done total o cloaked begun)
-unfolding out_placed
 out_meets d c begun done total None cloaked phase more lies is calm = inl calm
 out_meets d c begun done total (Some q) true phase more lies is calm = inl calm
 out_meets d c begun done total (Some q) false phase more lies is calm =
@@ -432,7 +423,6 @@ out_meets d c begun done total (Some q) false phase more lies is calm =
 out_step_meets : (d : Domain) (c : Context) (begun : World) (done total : ℕ) (all : Bool) →
     c.phase ≡ CopyOut done total → nat_le total done ≡ all → Calm begun →
     EndsCalmOrMet IsStoppedCopy d c begun (out_step all d.control.number d.control.resources c done total begun)
-unfolding out_step
 out_step_meets d c begun done total true phase more calm = inl calm
 out_step_meets d c begun done total false phase more calm = out_meets d c begun done total _ _ phase more refl refl calm
 

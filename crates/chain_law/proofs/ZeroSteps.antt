@@ -23,14 +23,16 @@ use Rattle.cloak_model.specs.declared.outcome.Effect.TheVariants as does
 use Rattle.cloak_model.specs.declared.resource.MapFault.{MapFault}
 use Rattle.cloak_model.specs.Asking.{Told, Asking, then_ask}
 use Rattle.cloak_model.specs.AskPages.{ask_reach, ask_read, ask_copy, ask_forget}
-use Rattle.cloak_model.specs.Calls.{in_put, in_reached, in_placed, in_step, copy_in_step, out_reached, out_got, out_placed, out_step, copy_out_step}
+use Rattle.cloak_model.specs.Calls.{copy_in_step, copy_out_step}
+use Rattle.cloak_model.proofs.CallParts.{in_put, in_reached, in_placed, in_step, out_reached, out_got, out_placed, out_step}
 use Rattle.cloak_model.specs.Contexts.{Context, context_at}
 use Rattle.cloak_model.specs.DomainState.{Control, Domain}
 use Rattle.cloak_model.specs.DomainStep.{instruction_ended, phase_step, step_if, domain_step}
 use Rattle.cloak_model.specs.Effect.{effect}
 use Rattle.cloak_model.specs.Fork.{marked, private_numbers, free_numbers, ask_copies, ask_forgets, fork_cleared, fork_if, fork, end_cleared, end_if, end_context}
 use Rattle.cloak_model.specs.Hypercalls.{Hypercall, New, Map, Unmap, File, Thread, ForkSpace, Exit, Call, Unknown, hypercall, fork_call, exit_call}
-use Rattle.cloak_model.specs.InsideStep.{loaded_inside, load_reached, load_got, load_inside, store_reached, store_put, store_inside, conditional_inside, atomic_granted, atomic_reached, atomic_placed, atomic_inside, system_inside, done_inside, decoded_inside, executed_inside, fetched_inside, fetch, instruction_inside}
+use Rattle.cloak_model.specs.InsideStep.{load_inside, store_inside, atomic_granted, atomic_placed, atomic_inside, system_inside, done_inside, decoded_inside, fetch, instruction_inside}
+use Rattle.cloak_model.proofs.InsideParts.{loaded_inside, load_reached, load_got, store_reached, store_put, conditional_inside, atomic_reached, executed_inside, fetched_inside}
 use Rattle.cloak_model.specs.Resources.{Resources, is_private_to, page_at}
 use Rattle.cloak_model.specs.World.{World}
 use Rattle.resource_map.proofs.Places.{All-places, places-map}
@@ -50,7 +52,7 @@ then_reach q va kind w next later = record {
 
 load_reached_learns : (c : Context) (q : PageId) (rd va width : ℕ) (signed : Bool) (a : Answer) (w : World) →
     Learns w (load_reached c q rd va width signed a w).world
-unfolding load_reached loaded_inside ask_read
+unfolding ask_read
 load_reached_learns c q rd va width signed told.Ok w = learns_same w
 load_reached_learns c q rd va width signed (told.Absent cause) w = learns_same w
 load_reached_learns c q rd va width signed (told.Word value) w = learns_same w
@@ -58,7 +60,6 @@ load_reached_learns c q rd va width signed told.Stopped w = learns_same w
 
 load_got_learns : (c : Context) (rd va width : ℕ) (signed : Bool) (a : Answer) (w : World) →
     Learns w (load_got c rd va width signed a w).world
-unfolding load_got
 load_got_learns c rd va width signed told.Ok w = learns_same w
 load_got_learns c rd va width signed (told.Absent cause) w = learns_same w
 load_got_learns c rd va width signed (told.Word value) w = learns_same w
@@ -74,7 +75,6 @@ load_learns c rd va width signed (Some q) w =
 
 store_reached_learns : (c : Context) (q : PageId) (va width value : ℕ) (a : Answer) (w : World) →
     (a ≡ told.Ok → AtHandIn q w) → Learns w (store_reached c q va width value a w).world
-unfolding store_reached
 store_reached_learns c q va width value told.Ok w hand =
     write_learns q (va % 4096) width value w (λ knows. hand refl)
 store_reached_learns c q va width value (told.Absent cause) w hand = learns_same w
@@ -82,7 +82,6 @@ store_reached_learns c q va width value (told.Word other) w hand = learns_same w
 store_reached_learns c q va width value told.Stopped w hand = learns_same w
 
 store_put_learns : (c : Context) (va : ℕ) (a : Answer) (w : World) → Learns w (store_put c va a w).world
-unfolding store_put
 store_put_learns c va told.Ok w = learns_same w
 store_put_learns c va (told.Absent cause) w = learns_same w
 store_put_learns c va (told.Word value) w = learns_same w
@@ -97,7 +96,6 @@ store_learns c va width value (Some q) w =
 
 conditional_learns : (reserved : Bool) (c : Context) (rd : ℕ) (q : PageId) (va operand : ℕ) (w : World) →
     AtHandIn q w → Learns w (conditional_inside reserved c rd q va operand w).world
-unfolding conditional_inside
 conditional_learns true c rd q va operand w hand = write_learns q (va % 4096) 4 operand w (λ knows. hand)
 conditional_learns false c rd q va operand w hand = learns_same w
 
@@ -110,7 +108,6 @@ granted_learns c rd op q va operand w hand = write_learns q (va % 4096) 4 _ w (�
 
 atomic_reached_learns : (c : Context) (rd : ℕ) (op : AtomicOp) (q : PageId) (va operand : ℕ) (a : Answer) (w : World) →
     (a ≡ told.Ok → AtHandIn q w) → Learns w (atomic_reached c rd op q va operand a w).world
-unfolding atomic_reached
 atomic_reached_learns c rd op q va operand told.Ok w hand = granted_learns c rd op q va operand w (hand refl)
 atomic_reached_learns c rd op q va operand (told.Absent cause) w hand = learns_same w
 atomic_reached_learns c rd op q va operand (told.Word value) w hand = learns_same w
@@ -163,12 +160,11 @@ decoded_learns domain r c word (Some i) w = done_learns domain r c i (effect i c
 
 executed_learns : (domain : ℕ) (r : Resources) (c : Context) (word : ℕ) (w : World) →
     Learns w (executed_inside domain r c word w).world
-unfolding executed_inside
 executed_learns domain r c word w = decoded_learns domain r c word (instruction word) w
 
 fetched_learns : (domain : ℕ) (r : Resources) (c : Context) (q : PageId) (a : Answer) (w : World) →
     Learns w (fetched_inside domain r c q a w).world
-unfolding fetched_inside ask_read
+unfolding ask_read
 fetched_learns domain r c q told.Ok w = executed_learns domain r c _ w
 fetched_learns domain r c q (told.Absent cause) w = learns_same w
 fetched_learns domain r c q (told.Word value) w = learns_same w
@@ -188,7 +184,6 @@ instruction_learns domain r c w = fetch_learns domain r c (page_at domain r c.sp
 -- Copying.
 
 in_put_learns : (c : Context) (done byte : ℕ) (a : Answer) (w : World) → Learns w (in_put c done byte a w).world
-unfolding in_put
 in_put_learns c done byte told.Ok w = learns_same w
 in_put_learns c done byte (told.Absent cause) w = learns_same w
 in_put_learns c done byte (told.Word value) w = learns_same w
@@ -196,7 +191,7 @@ in_put_learns c done byte told.Stopped w = learns_same w
 
 in_reached_learns : (c : Context) (q : PageId) (done : ℕ) (a : Answer) (w : World) →
     Learns w (in_reached c q done a w).world
-unfolding in_reached ask_read
+unfolding ask_read
 in_reached_learns c q done told.Ok w = learns_then _ _ _ (put_learns _ _ _ w) (in_put_learns c done _ _ _)
 in_reached_learns c q done (told.Absent cause) w = learns_same w
 in_reached_learns c q done (told.Word value) w = learns_same w
@@ -204,14 +199,12 @@ in_reached_learns c q done told.Stopped w = learns_same w
 
 in_placed_learns : (c : Context) (done : ℕ) (place : Option PageId) (cloaked : Bool) (w : World) →
     Learns w (in_placed c done place cloaked w).world
-unfolding in_placed
 in_placed_learns c done None cloaked w = learns_same w
 in_placed_learns c done (Some q) true w = learns_same w
 in_placed_learns c done (Some q) false w = learns_then _ _ _ (reach_learns q _ _ w) (in_reached_learns c q done _ _)
 
 in_step_learns : (all : Bool) (domain : ℕ) (r : Resources) (c : Context) (done : ℕ) (w : World) →
     Learns w (in_step all domain r c done w).world
-unfolding in_step
 in_step_learns true domain r c done w = learns_same w
 in_step_learns false domain r c done w = in_placed_learns c done _ _ w
 
@@ -222,7 +215,6 @@ copy_in_learns domain r c done w = in_step_learns _ domain r c done w
 
 out_reached_learns : (c : Context) (q : PageId) (done total byte : ℕ) (a : Answer) (w : World) →
     (a ≡ told.Ok → AtHandIn q w) → Learns w (out_reached c q done total byte a w).world
-unfolding out_reached
 out_reached_learns c q done total byte told.Ok w hand = write_learns q _ 1 byte w (λ knows. hand refl)
 out_reached_learns c q done total byte (told.Absent cause) w hand = learns_same w
 out_reached_learns c q done total byte (told.Word value) w hand = learns_same w
@@ -230,7 +222,6 @@ out_reached_learns c q done total byte told.Stopped w hand = learns_same w
 
 out_got_learns : (c : Context) (q : PageId) (done total : ℕ) (a : Answer) (w : World) →
     Learns w (out_got c q done total a w).world
-unfolding out_got
 out_got_learns c q done total (told.Word byte) w =
     then_reach q _ _ w (out_reached c q done total byte) (out_reached_learns c q done total byte)
 out_got_learns c q done total (told.Absent cause) w = learns_same w
@@ -239,7 +230,6 @@ out_got_learns c q done total told.Stopped w = learns_same w
 
 out_placed_learns : (c : Context) (done total : ℕ) (place : Option PageId) (cloaked : Bool) (w : World) →
     Learns w (out_placed c done total place cloaked w).world
-unfolding out_placed
 out_placed_learns c done total None cloaked w = learns_same w
 out_placed_learns c done total (Some q) true w = learns_same w
 out_placed_learns c done total (Some q) false w =
@@ -247,7 +237,6 @@ out_placed_learns c done total (Some q) false w =
 
 out_step_learns : (all : Bool) (domain : ℕ) (r : Resources) (c : Context) (done total : ℕ) (w : World) →
     Learns w (out_step all domain r c done total w).world
-unfolding out_step
 out_step_learns true domain r c done total w = learns_same w
 out_step_learns false domain r c done total w = out_placed_learns c done total _ _ w
 

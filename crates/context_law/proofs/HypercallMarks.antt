@@ -12,7 +12,8 @@ use Rattle.cloak_model.specs.declared.inside.Begun.TheVariants as begun
 use Rattle.cloak_model.specs.declared.inside.Ended.{Ended}
 use Rattle.cloak_model.specs.declared.inside.Ended.TheVariants as ends
 use Rattle.cloak_model.specs.declared.resource.MapFault.{MapFault}
-use Rattle.cloak_model.specs.Calls.{call_number, takes_bytes, is_good, is_in_bounds, BeginsCall, waiting, copy_begin, call_begin, begin_call}
+use Rattle.cloak_model.specs.Calls.{call_number, takes_bytes, is_good, is_in_bounds, BeginsCall, waiting, begin_call}
+use Rattle.cloak_model.proofs.CallParts.{copy_begin, call_begin}
 use Rattle.cloak_model.specs.Contexts.{Context, set_word, in_phase, moved_on, has_buffer, suspended, new_context, context_number}
 use Rattle.cloak_model.specs.DomainState.{Control}
 use Rattle.cloak_model.specs.Files.{file_resource}
@@ -145,12 +146,10 @@ begin_either true c = refl
 begin_either false c = refl
 
 copy_begin_mark : (t : Bool) (c : Context) → (copy_begin t c).context.mark ≡ c.mark
-unfolding copy_begin
 copy_begin_mark false c = refl
 copy_begin_mark true c = begin_either (takes_bytes (call_number c)) c
 
 call_begin_mark : (t : Bool) (r : Resources) (c : Context) → (call_begin t r c).context.mark ≡ c.mark
-unfolding call_begin
 call_begin_mark false r c = refl
 call_begin_mark true r c = copy_begin_mark (is_good (is_in_bounds c) r c) c
 

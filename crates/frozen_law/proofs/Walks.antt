@@ -23,13 +23,15 @@ use Rattle.cloak_model.specs.declared.outcome.Effect.{Effect}
 use Rattle.cloak_model.specs.declared.outcome.Effect.TheVariants as does
 use Rattle.cloak_model.specs.Asking.{Told}
 use Rattle.cloak_model.specs.AskPages.{is_store, ask_reach, ask_read, ask_write}
-use Rattle.cloak_model.specs.Calls.{in_put, in_reached, in_placed, in_step, copy_in_step, out_reached, out_got, out_placed, out_step, copy_out_step}
+use Rattle.cloak_model.specs.Calls.{copy_in_step, copy_out_step}
+use Rattle.cloak_model.proofs.CallParts.{in_put, in_reached, in_placed, in_step, out_reached, out_got, out_placed, out_step}
 use Rattle.cloak_model.specs.Contexts.{Context, word_of_page, is_reserved, context_at}
 use Rattle.cloak_model.specs.DomainState.{Domain}
 use Rattle.cloak_model.specs.DomainStep.{instruction_ended, phase_step, step_if, domain_step}
 use Rattle.cloak_model.specs.Effect.{effect}
 use Rattle.cloak_model.specs.Hypercalls.{Hypercall, hypercall, hypercall_of}
-use Rattle.cloak_model.specs.InsideStep.{loaded_inside, load_reached, load_got, load_inside, store_reached, store_put, store_inside, conditional_inside, atomic_granted, atomic_reached, atomic_placed, atomic_inside, system_inside, done_inside, decoded_inside, executed_inside, fetched_inside, fetch, instruction_inside}
+use Rattle.cloak_model.specs.InsideStep.{load_inside, store_inside, atomic_granted, atomic_placed, atomic_inside, system_inside, done_inside, decoded_inside, fetch, instruction_inside}
+use Rattle.cloak_model.proofs.InsideParts.{loaded_inside, load_reached, load_got, store_reached, store_put, conditional_inside, atomic_reached, executed_inside, fetched_inside}
 use Rattle.cloak_model.specs.KernelStep.{atomic_kind}
 use Rattle.cloak_model.specs.Resources.{Resources, page_at}
 use Rattle.cloak_model.specs.World.{World}
@@ -58,7 +60,7 @@ module _ (P : PageId → Type 0) (R : ℕ → World → World → Type 0) (k : K
 
   load_reached_keeps : (c : Context) (q : PageId) (rd va width : ℕ) (signed : Bool) (a : Answer) (w v : World) →
       R 1 w v → R 1 w (load_reached c q rd va width signed a v).world
-  unfolding load_reached ask_read loaded_inside
+  unfolding ask_read
   load_reached_keeps c q rd va width signed told.Ok w v here = here
   load_reached_keeps c q rd va width signed (told.Absent cause) w v here = here
   load_reached_keeps c q rd va width signed (told.Word value) w v here = here
@@ -66,7 +68,6 @@ module _ (P : PageId → Type 0) (R : ℕ → World → World → Type 0) (k : K
 
   load_got_keeps : (c : Context) (rd va width : ℕ) (signed : Bool) (a : Answer) (w v : World) → R 1 w v →
       R 1 w (load_got c rd va width signed a v).world
-  unfolding load_got
   load_got_keeps c rd va width signed told.Ok w v here = here
   load_got_keeps c rd va width signed (told.Absent cause) w v here = here
   load_got_keeps c rd va width signed (told.Word value) w v here = here
@@ -82,14 +83,12 @@ module _ (P : PageId → Type 0) (R : ℕ → World → World → Type 0) (k : K
 
   store_reached_keeps : (c : Context) (q : PageId) (va width value : ℕ) (a : Answer) (w v : World) → R 1 w v →
       Writes q a w v → R 1 w (store_reached c q va width value a v).world
-  unfolding store_reached
   store_reached_keeps c q va width value told.Ok w v here writes = writes refl (va % 4096) width value
   store_reached_keeps c q va width value (told.Absent cause) w v here writes = here
   store_reached_keeps c q va width value (told.Word other) w v here writes = here
   store_reached_keeps c q va width value told.Stopped w v here writes = here
 
   store_put_keeps : (c : Context) (va : ℕ) (a : Answer) (w v : World) → R 1 w v → R 1 w (store_put c va a v).world
-  unfolding store_put
   store_put_keeps c va told.Ok w v here = here
   store_put_keeps c va (told.Absent cause) w v here = here
   store_put_keeps c va (told.Word value) w v here = here
@@ -107,7 +106,6 @@ module _ (P : PageId → Type 0) (R : ℕ → World → World → Type 0) (k : K
   conditional_keeps : (reserved : Bool) (c : Context) (rd : ℕ) (q : PageId) (va operand : ℕ) (w v : World) → R 1 w v →
       ((at width value : ℕ) → R 1 w (ask_write q at width value v).world) →
       R 1 w (conditional_inside reserved c rd q va operand v).world
-  unfolding conditional_inside
   conditional_keeps true c rd q va operand w v here writes = writes (va % 4096) 4 operand
   conditional_keeps false c rd q va operand w v here writes = here
 
@@ -124,7 +122,6 @@ module _ (P : PageId → Type 0) (R : ℕ → World → World → Type 0) (k : K
       R 1 w v →
       (is_store (atomic_kind op) ≡ true → a ≡ told.Ok → (at width value : ℕ) → R 1 w (ask_write q at width value v).world) →
       R 1 w (atomic_reached c rd op q va operand a v).world
-  unfolding atomic_reached
   atomic_reached_keeps c rd op q va operand told.Ok w v here writes =
       granted_keeps c rd op q va operand w v here (λ is. writes is refl)
   atomic_reached_keeps c rd op q va operand (told.Absent cause) w v here writes = here
@@ -181,7 +178,7 @@ module _ (P : PageId → Type 0) (R : ℕ → World → World → Type 0) (k : K
 
   fetched_keeps : (domain : ℕ) (r : Resources) (c : Context) (q : PageId) (a : Answer) (w : World) →
       AreOf P domain r c.space → R 1 w (fetched_inside domain r c q a w).world
-  unfolding fetched_inside ask_read executed_inside
+  unfolding ask_read
   fetched_keeps domain r c q told.Ok w all = decoded_keeps domain r c _ _ w all
   fetched_keeps domain r c q (told.Absent cause) w all = one _ _ (k.same w)
   fetched_keeps domain r c q (told.Word value) w all = one _ _ (k.same w)
@@ -202,7 +199,6 @@ module _ (P : PageId → Type 0) (R : ℕ → World → World → Type 0) (k : K
   -- Copying.
 
   in_put_keeps : (c : Context) (done byte : ℕ) (a : Answer) (w : World) → R 0 w (in_put c done byte a w).world
-  unfolding in_put
   in_put_keeps c done byte told.Ok w = k.same w
   in_put_keeps c done byte (told.Absent cause) w = k.same w
   in_put_keeps c done byte (told.Word value) w = k.same w
@@ -210,7 +206,7 @@ module _ (P : PageId → Type 0) (R : ℕ → World → World → Type 0) (k : K
 
   in_reached_keeps : (c : Context) (q : PageId) (done : ℕ) (a : Answer) (w : World) →
       R 0 w (in_reached c q done a w).world
-  unfolding in_reached ask_read
+  unfolding ask_read
   in_reached_keeps c q done told.Ok w = k.chained 0 0 _ _ _ (put_keeps P R k _ _ _ w) (in_put_keeps c done _ _ _)
   in_reached_keeps c q done (told.Absent cause) w = k.same w
   in_reached_keeps c q done (told.Word value) w = k.same w
@@ -218,7 +214,6 @@ module _ (P : PageId → Type 0) (R : ℕ → World → World → Type 0) (k : K
 
   in_placed_keeps : (c : Context) (done : ℕ) (place : Option PageId) (cloaked : Bool) (w : World) → IfSome place P →
       R 1 w (in_placed c done place cloaked w).world
-  unfolding in_placed
   in_placed_keeps c done None cloaked w own = one _ _ (k.same w)
   in_placed_keeps c done (Some q) true w own = one _ _ (k.same w)
   in_placed_keeps c done (Some q) false w own =
@@ -226,7 +221,6 @@ module _ (P : PageId → Type 0) (R : ℕ → World → World → Type 0) (k : K
 
   in_step_keeps : (over : Bool) (domain : ℕ) (r : Resources) (c : Context) (done : ℕ) (w : World) →
       AreOf P domain r c.space → R 1 w (in_step over domain r c done w).world
-  unfolding in_step
   in_step_keeps true domain r c done w all = one _ _ (k.same w)
   in_step_keeps false domain r c done w all = in_placed_keeps c done _ _ w (all _)
 
@@ -237,7 +231,6 @@ module _ (P : PageId → Type 0) (R : ℕ → World → World → Type 0) (k : K
 
   out_reached_keeps : (c : Context) (q : PageId) (done total byte : ℕ) (a : Answer) (w v : World) → R 1 w v →
       Writes q a w v → R 1 w (out_reached c q done total byte a v).world
-  unfolding out_reached
   out_reached_keeps c q done total byte told.Ok w v here writes = writes refl _ 1 byte
   out_reached_keeps c q done total byte (told.Absent cause) w v here writes = here
   out_reached_keeps c q done total byte (told.Word value) w v here writes = here
@@ -245,7 +238,6 @@ module _ (P : PageId → Type 0) (R : ℕ → World → World → Type 0) (k : K
 
   out_got_keeps : (c : Context) (q : PageId) (done total : ℕ) (a : Answer) (w : World) → P q →
       R 1 w (out_got c q done total a w).world
-  unfolding out_got
   out_got_keeps c q done total (told.Word byte) w own =
       out_reached_keeps c q done total byte _ w _ (reach_keeps P R k q own _ Store w)
       (λ is at size new. stores q own _ Store at size new w refl is)
@@ -255,7 +247,6 @@ module _ (P : PageId → Type 0) (R : ℕ → World → World → Type 0) (k : K
 
   out_placed_keeps : (c : Context) (done total : ℕ) (place : Option PageId) (cloaked : Bool) (w : World) →
       IfSome place P → R 1 w (out_placed c done total place cloaked w).world
-  unfolding out_placed
   out_placed_keeps c done total None cloaked w own = one _ _ (k.same w)
   out_placed_keeps c done total (Some q) true w own = one _ _ (k.same w)
   out_placed_keeps c done total (Some q) false w own =
@@ -263,7 +254,6 @@ module _ (P : PageId → Type 0) (R : ℕ → World → World → Type 0) (k : K
 
   out_step_keeps : (over : Bool) (domain : ℕ) (r : Resources) (c : Context) (done total : ℕ) (w : World) →
       AreOf P domain r c.space → R 1 w (out_step over domain r c done total w).world
-  unfolding out_step
   out_step_keeps true domain r c done total w all = one _ _ (k.same w)
   out_step_keeps false domain r c done total w all = out_placed_keeps c done total _ _ w (all _)
 

@@ -23,7 +23,8 @@ use Rattle.cloak_model.specs.AskPages.{ask_read}
 use Rattle.cloak_model.specs.Asking.{Told}
 use Rattle.cloak_model.specs.Contexts.{Context, set_word, moved_on, word_of_page, is_reserved}
 use Rattle.cloak_model.specs.Effect.{jump, go, branch, load_effect, store_effect, effect}
-use Rattle.cloak_model.specs.InsideStep.{AfterInstruction, made, made_writing, traps, loaded_inside, load_reached, load_got, load_inside, store_reached, store_put, store_inside, conditional_inside, atomic_granted, atomic_reached, atomic_placed, atomic_inside, system_inside, done_inside, decoded_inside, executed_inside, fetched_inside, fetch, instruction_inside}
+use Rattle.cloak_model.specs.InsideStep.{AfterInstruction, made, made_writing, traps, load_inside, store_inside, atomic_granted, atomic_placed, atomic_inside, system_inside, done_inside, decoded_inside, fetch, instruction_inside}
+use Rattle.cloak_model.proofs.InsideParts.{loaded_inside, load_reached, load_got, store_reached, store_put, conditional_inside, atomic_reached, executed_inside, fetched_inside}
 use Rattle.cloak_model.specs.KernelStep.{misaligned}
 use Rattle.cloak_model.specs.Resources.{Resources, page_at}
 use Rattle.cloak_model.specs.World.{World}
@@ -136,12 +137,10 @@ module _ (c : Context) (plain : c.phase ≡ Plain) (s : IsSteady c) where
 
   loaded_one : (rd va width : ℕ) (is_signed : Bool) (value : ℕ) (w : World) →
       AfterOne c (loaded_inside c rd va width is_signed value w).answer
-  unfolding loaded_inside
   loaded_one rd va width is_signed value w = wrote rd _ (ran.Loaded va value) (λ is. cc)
 
   load_reached_one : (q : PageId) (rd va width : ℕ) (is_signed : Bool) (a : Answer) (w : World) →
       AfterOne c (load_reached c q rd va width is_signed a w).answer
-  unfolding load_reached
   load_reached_one q rd va width is_signed told.Ok w = loaded_one rd va width is_signed _ _
   load_reached_one q rd va width is_signed (told.Absent cause) w = same _
   load_reached_one q rd va width is_signed (told.Word value) w = same _
@@ -149,7 +148,6 @@ module _ (c : Context) (plain : c.phase ≡ Plain) (s : IsSteady c) where
 
   load_got_one : (rd va width : ℕ) (is_signed : Bool) (a : Answer) (w : World) →
       AfterOne c (load_got c rd va width is_signed a w).answer
-  unfolding load_got
   load_got_one rd va width is_signed (told.Word value) w = wrote rd _ ran.Stay (λ is. cc)
   load_got_one rd va width is_signed (told.Absent cause) w = same _
   load_got_one rd va width is_signed told.Ok w = same _
@@ -163,14 +161,12 @@ module _ (c : Context) (plain : c.phase ≡ Plain) (s : IsSteady c) where
 
   store_reached_one : (q : PageId) (va width value : ℕ) (a : Answer) (w : World) →
       AfterOne c (store_reached c q va width value a w).answer
-  unfolding store_reached
   store_reached_one q va width value told.Ok w = on_stay (Some (word_of_page q va))
   store_reached_one q va width value (told.Absent cause) w = same _
   store_reached_one q va width value (told.Word other) w = same _
   store_reached_one q va width value told.Stopped w = same _
 
   store_put_one : (va : ℕ) (a : Answer) (w : World) → AfterOne c (store_put c va a w).answer
-  unfolding store_put
   store_put_one va told.Ok w = on_stay None
   store_put_one va (told.Absent cause) w = same _
   store_put_one va (told.Word value) w = same _
@@ -184,7 +180,6 @@ module _ (c : Context) (plain : c.phase ≡ Plain) (s : IsSteady c) where
 
   conditional_one : (reserved : Bool) (rd : ℕ) (q : PageId) (va operand : ℕ) (w : World) →
       AfterOne c (conditional_inside reserved c rd q va operand w).answer
-  unfolding conditional_inside
   conditional_one true rd q va operand w = marked rd 0 None ran.Stay (Some (word_of_page q va)) (λ is. cc) tt
   conditional_one false rd q va operand w = marked rd 1 None ran.Stay None (λ is. cc) tt
 
@@ -212,7 +207,6 @@ module _ (c : Context) (plain : c.phase ≡ Plain) (s : IsSteady c) where
 
   atomic_reached_one : (rd : ℕ) (op : AtomicOp) (q : PageId) (va operand : ℕ) (a : Answer) (w : World) → IsPage q →
       AfterOne c (atomic_reached c rd op q va operand a w).answer
-  unfolding atomic_reached
   atomic_reached_one rd op q va operand told.Ok w page = granted_one rd op q va operand w page
   atomic_reached_one rd op q va operand (told.Absent cause) w page = same _
   atomic_reached_one rd op q va operand (told.Word value) w page = same _
@@ -314,7 +308,6 @@ module _ (c : Context) (plain : c.phase ≡ Plain) (s : IsSteady c) where
 
   fetched_one : (domain : ℕ) (r : Resources) (q : PageId) (a : Answer) (w : World) → AreInPages domain r c.space →
       AfterOne c (fetched_inside domain r c q a w).answer
-  unfolding fetched_inside executed_inside
   fetched_one domain r q told.Ok w pages = decoded_one domain r _ _ _ pages
   fetched_one domain r q (told.Absent cause) w pages = same c plain s _
   fetched_one domain r q (told.Word value) w pages = same c plain s _

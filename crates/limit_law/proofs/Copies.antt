@@ -14,7 +14,8 @@ use Rattle.cloak_model.specs.declared.inside.Begun.TheVariants as begun
 use Rattle.cloak_model.specs.declared.inside.Copied.{Copied}
 use Rattle.cloak_model.specs.declared.inside.Copied.TheVariants as copied
 use Rattle.cloak_model.specs.declared.resource.MapFault.{MapFault}
-use Rattle.cloak_model.specs.Calls.{call_number, call_length, buffer, area, takes_bytes, gives_bytes, is_in_bounds, is_good, BeginsCall, waiting, copy_begin, call_begin, begin_call, Copy, copy, copy_refused, in_put, in_reached, in_placed, in_step, copy_in_step, out_reached, out_got, out_placed, out_step, copy_out_step, finish_call}
+use Rattle.cloak_model.specs.Calls.{call_number, call_length, buffer, area, takes_bytes, gives_bytes, is_in_bounds, is_good, BeginsCall, waiting, begin_call, Copy, copy, copy_refused, copy_in_step, copy_out_step, finish_call}
+use Rattle.cloak_model.proofs.CallParts.{copy_begin, call_begin, in_put, in_reached, in_placed, in_step, out_reached, out_got, out_placed, out_step}
 use Rattle.cloak_model.specs.Contexts.{Context, set_word, in_phase, has_buffer}
 use Rattle.cloak_model.specs.Resources.{Resources}
 use Rattle.cloak_model.specs.World.{World}
@@ -88,7 +89,6 @@ module _ (c : Context) (s : IsSteady c) where
   module _ (done : ℕ) (p : IsCopyIn c.regs done) where
     in_put_one : (byte : ℕ) (a : Answer) (w : World) → done < register c.regs 12 →
         AfterCopy c (in_put c done byte a w).answer
-    unfolding in_put
     in_put_one byte told.Ok w low = record {
       steady = phase_steady c (CopyIn (done + 1)) s (record {
         number = p.number;
@@ -105,7 +105,6 @@ module _ (c : Context) (s : IsSteady c) where
 
     in_reached_one : (q : PageId) (a : Answer) (w : World) → done < register c.regs 12 →
         AfterCopy c (in_reached c q done a w).answer
-    unfolding in_reached
     in_reached_one q told.Ok w low = in_put_one _ _ _ low
     in_reached_one q (told.Absent cause) w low = absent _ _
     in_reached_one q (told.Word value) w low = stopped
@@ -113,14 +112,12 @@ module _ (c : Context) (s : IsSteady c) where
 
     in_placed_one : (place : Option PageId) (cloaked : Bool) (w : World) → done < register c.regs 12 →
         AfterCopy c (in_placed c done place cloaked w).answer
-    unfolding in_placed
     in_placed_one None cloaked w low = refused w
     in_placed_one (Some q) true w low = refused w
     in_placed_one (Some q) false w low = in_reached_one q _ _ low
 
     in_step_one : (t : Bool) (domain : ℕ) (r : Resources) (w : World) → nat_le (call_length c) done ≡ t →
         AfterCopy c (in_step t domain r c done w).answer
-    unfolding in_step
     in_step_one true domain r w is =
         record { steady = phase_steady c Waiting s (λ a b. p.call); space = refl; on = refl; idle = tt }
     in_step_one false domain r w is = in_placed_one _ _ w (leb-false _ _ is)
@@ -132,7 +129,6 @@ module _ (c : Context) (s : IsSteady c) where
   module _ (done total : ℕ) (p : IsCopyOut c.regs done total) where
     out_reached_one : (q : PageId) (byte : ℕ) (a : Answer) (w : World) → done < total →
         AfterCopy c (out_reached c q done total byte a w).answer
-    unfolding out_reached
     out_reached_one q byte told.Ok w low = record {
       steady = phase_steady c (CopyOut (done + 1) total) s (record {
         number = p.number;
@@ -149,7 +145,6 @@ module _ (c : Context) (s : IsSteady c) where
     out_reached_one q byte told.Stopped w low = stopped
 
     out_got_one : (q : PageId) (a : Answer) (w : World) → done < total → AfterCopy c (out_got c q done total a w).answer
-    unfolding out_got
     out_got_one q (told.Word byte) w low = out_reached_one q _ _ _ low
     out_got_one q (told.Absent cause) w low = absent _ _
     out_got_one q told.Ok w low = stopped
@@ -157,14 +152,12 @@ module _ (c : Context) (s : IsSteady c) where
 
     out_placed_one : (place : Option PageId) (cloaked : Bool) (w : World) → done < total →
         AfterCopy c (out_placed c done total place cloaked w).answer
-    unfolding out_placed
     out_placed_one None cloaked w low = refused w
     out_placed_one (Some q) true w low = refused w
     out_placed_one (Some q) false w low = out_got_one q _ _ low
 
     out_step_one : (t : Bool) (domain : ℕ) (r : Resources) (w : World) → nat_le total done ≡ t →
         AfterCopy c (out_step t domain r c done total w).answer
-    unfolding out_step
     out_step_one true domain r w is =
         record { steady = phase_steady c Plain s tt; space = refl; on = refl; idle = tt }
     out_step_one false domain r w is = out_placed_one _ _ w (leb-false _ _ is)
@@ -222,7 +215,6 @@ module _ (c : Context) (s : IsSteady c) where
   begin_either false is call = waits (λ a b. call)
 
   copy_begin_one : (t : Bool) → (t ≡ true → IsCall c.regs) → AfterBegin c (copy_begin t c)
-  unfolding copy_begin
   copy_begin_one false call = record { steady = s; space = refl; on = refl; idle = refl }
   copy_begin_one true call = begin_either _ refl (call refl)
 
@@ -233,7 +225,6 @@ module _ (c : Context) (s : IsSteady c) where
   ]
 
   call_begin_one : (t : Bool) (r : Resources) → has_buffer (call_number c) ≡ t → AfterBegin c (call_begin t r c)
-  unfolding call_begin
   call_begin_one false r is = waits (λ a b. absurd (no_buffer _ is a b))
   call_begin_one true r is = copy_begin_one _ (λ good. in_bounds c (good_in_bounds _ r c good))
 

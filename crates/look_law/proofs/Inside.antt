@@ -17,10 +17,12 @@ use Rattle.cloak_model.specs.declared.outcome.Effect.{Effect}
 use Rattle.cloak_model.specs.declared.outcome.Effect.TheVariants as does
 use Rattle.cloak_model.specs.Effect.{effect}
 use Rattle.cloak_model.specs.KernelStep.{atomic_kind}
-use Rattle.cloak_model.specs.InsideStep.{loaded_inside, load_reached, load_got, load_inside, store_reached, store_put, store_inside, conditional_inside, atomic_granted, atomic_reached, atomic_placed, atomic_inside, system_inside, done_inside, decoded_inside, executed_inside, fetched_inside, fetch, instruction_inside}
+use Rattle.cloak_model.specs.InsideStep.{load_inside, store_inside, atomic_granted, atomic_placed, atomic_inside, system_inside, done_inside, decoded_inside, fetch, instruction_inside}
+use Rattle.cloak_model.proofs.InsideParts.{loaded_inside, load_reached, load_got, store_reached, store_put, conditional_inside, atomic_reached, executed_inside, fetched_inside}
 use Rattle.cloak_model.specs.Resources.{Resources, page_at}
 use Rattle.cloak_model.specs.AskPages.{ask_read}
-use Rattle.cloak_model.specs.Calls.{buffer, area, byte_address, in_put, in_reached, in_placed, in_step, copy_in_step, out_reached, out_got, out_placed, out_step, copy_out_step}
+use Rattle.cloak_model.specs.Calls.{buffer, area, byte_address, copy_in_step, copy_out_step}
+use Rattle.cloak_model.proofs.CallParts.{in_put, in_reached, in_placed, in_step, out_reached, out_got, out_placed, out_step}
 use Rattle.cloak_model.specs.declared.context.Phase.{Phase}
 use Rattle.cloak_model.specs.declared.context.Phase.TheVariants.{Plain, CopyIn, Waiting, CopyOut}
 use Rattle.cloak_model.specs.declared.inside.Ran.{Ran}
@@ -36,7 +38,7 @@ use Rattle.look_law.proofs.Questions.{Looks, none, then_one, then_still, either,
 
 pub looks_load_reached : (c : Context) (q : PageId) (rd va width : ℕ) (signed : Bool) (a : Answer) (w : World) →
     Looks 0 w (load_reached c q rd va width signed a w).world
-unfolding load_reached ask_read loaded_inside
+unfolding ask_read
 looks_load_reached c q rd va width signed told.Ok w = none w
 looks_load_reached c q rd va width signed (told.Absent cause) w = none w
 looks_load_reached c q rd va width signed (told.Word value) w = none w
@@ -44,7 +46,6 @@ looks_load_reached c q rd va width signed told.Stopped w = none w
 
 pub looks_load_got : (c : Context) (rd va width : ℕ) (signed : Bool) (a : Answer) (w : World) →
     Looks 0 w (load_got c rd va width signed a w).world
-unfolding load_got
 looks_load_got c rd va width signed told.Ok w = none w
 looks_load_got c rd va width signed (told.Absent cause) w = none w
 looks_load_got c rd va width signed (told.Word value) w = none w
@@ -60,14 +61,12 @@ looks_load c rd va width signed (Some q) w =
 
 pub looks_store_reached : (c : Context) (q : PageId) (va width value : ℕ) (a : Answer) (w : World) →
     Looks 0 w (store_reached c q va width value a w).world
-unfolding store_reached
 looks_store_reached c q va width value told.Ok w = asks_write _ _ _ _ w
 looks_store_reached c q va width value (told.Absent cause) w = none w
 looks_store_reached c q va width value (told.Word other) w = none w
 looks_store_reached c q va width value told.Stopped w = none w
 
 pub looks_store_put : (c : Context) (va : ℕ) (a : Answer) (w : World) → Looks 0 w (store_put c va a w).world
-unfolding store_put
 looks_store_put c va told.Ok w = none w
 looks_store_put c va (told.Absent cause) w = none w
 looks_store_put c va (told.Word value) w = none w
@@ -85,7 +84,6 @@ looks_store c va width value (Some q) w =
 
 pub looks_conditional : (is_reserved : Bool) (c : Context) (rd : ℕ) (q : PageId) (va operand : ℕ) (w : World) →
     Looks 0 w (conditional_inside is_reserved c rd q va operand w).world
-unfolding conditional_inside
 looks_conditional true c rd q va operand w = asks_write _ _ _ _ w
 looks_conditional false c rd q va operand w = none w
 
@@ -107,7 +105,6 @@ looks_granted c rd Maxu q va operand w = asks_write _ _ _ _ w
 pub looks_atomic_reached : (c : Context) (rd : ℕ) (op : AtomicOp) (q : PageId) (va operand : ℕ) (a : Answer)
     (w : World) →
     Looks 0 w (atomic_reached c rd op q va operand a w).world
-unfolding atomic_reached
 looks_atomic_reached c rd op q va operand told.Ok w = looks_granted c rd op q va operand w
 looks_atomic_reached c rd op q va operand (told.Absent cause) w = none w
 looks_atomic_reached c rd op q va operand (told.Word value) w = none w
@@ -159,12 +156,11 @@ looks_decoded domain r c word (Some i) w = looks_done domain r c i (effect i c.r
 
 pub looks_executed : (domain : ℕ) (r : Resources) (c : Context) (word : ℕ) (w : World) →
     Looks 1 w (executed_inside domain r c word w).world
-unfolding executed_inside
 looks_executed domain r c word w = looks_decoded domain r c word (instruction word) w
 
 pub looks_fetched : (domain : ℕ) (r : Resources) (c : Context) (q : PageId) (a : Answer) (w : World) →
     Looks 1 w (fetched_inside domain r c q a w).world
-unfolding fetched_inside ask_read
+unfolding ask_read
 looks_fetched domain r c q told.Ok w = looks_executed domain r c _ w
 looks_fetched domain r c q (told.Absent cause) w = none w
 looks_fetched domain r c q (told.Word value) w = none w
@@ -185,7 +181,6 @@ looks_instruction domain r c w = looks_fetch domain r c _ w
 -- A byte of a call.
 
 pub looks_in_put : (c : Context) (done byte : ℕ) (a : Answer) (w : World) → Looks 0 w (in_put c done byte a w).world
-unfolding in_put
 looks_in_put c done byte told.Ok w = none w
 looks_in_put c done byte (told.Absent cause) w = none w
 looks_in_put c done byte (told.Word value) w = none w
@@ -193,7 +188,7 @@ looks_in_put c done byte told.Stopped w = none w
 
 pub looks_in_reached : (c : Context) (q : PageId) (done : ℕ) (a : Answer) (w : World) →
     Looks 1 w (in_reached c q done a w).world
-unfolding in_reached ask_read
+unfolding ask_read
 looks_in_reached c q done told.Ok w =
     then_still w _ _ (asks_put (byte_address (area c) done) 1 _ w) (looks_in_put c done _ _ _)
 looks_in_reached c q done (told.Absent cause) w = none w
@@ -202,7 +197,6 @@ looks_in_reached c q done told.Stopped w = none w
 
 pub looks_in_placed : (c : Context) (done : ℕ) (place : Option PageId) (cloaked : Bool) (w : World) →
     Looks 2 w (in_placed c done place cloaked w).world
-unfolding in_placed
 looks_in_placed c done None cloaked w = none w
 looks_in_placed c done (Some q) true w = none w
 looks_in_placed c done (Some q) false w =
@@ -211,7 +205,6 @@ looks_in_placed c done (Some q) false w =
 
 pub looks_in_step : (all : Bool) (domain : ℕ) (r : Resources) (c : Context) (done : ℕ) (w : World) →
     Looks 2 w (in_step all domain r c done w).world
-unfolding in_step
 looks_in_step true domain r c done w = none w
 looks_in_step false domain r c done w = looks_in_placed c done _ _ w
 
@@ -222,7 +215,6 @@ looks_copy_in domain r c done w = looks_in_step _ domain r c done w
 
 pub looks_out_reached : (c : Context) (q : PageId) (done total byte : ℕ) (a : Answer) (w : World) →
     Looks 0 w (out_reached c q done total byte a w).world
-unfolding out_reached
 looks_out_reached c q done total byte told.Ok w = asks_write _ _ _ _ w
 looks_out_reached c q done total byte (told.Absent cause) w = none w
 looks_out_reached c q done total byte (told.Word value) w = none w
@@ -230,7 +222,6 @@ looks_out_reached c q done total byte told.Stopped w = none w
 
 pub looks_out_got : (c : Context) (q : PageId) (done total : ℕ) (a : Answer) (w : World) →
     Looks 1 w (out_got c q done total a w).world
-unfolding out_got
 looks_out_got c q done total (told.Word byte) w =
     then_still w _ _ (asks_reach q (byte_address (buffer c) done) Store w)
     (looks_out_reached c q done total byte _ _)
@@ -240,7 +231,6 @@ looks_out_got c q done total told.Stopped w = none w
 
 pub looks_out_placed : (c : Context) (done total : ℕ) (place : Option PageId) (cloaked : Bool) (w : World) →
     Looks 2 w (out_placed c done total place cloaked w).world
-unfolding out_placed
 looks_out_placed c done total None cloaked w = none w
 looks_out_placed c done total (Some q) true w = none w
 looks_out_placed c done total (Some q) false w =
@@ -248,7 +238,6 @@ looks_out_placed c done total (Some q) false w =
 
 pub looks_out_step : (all : Bool) (domain : ℕ) (r : Resources) (c : Context) (done total : ℕ) (w : World) →
     Looks 2 w (out_step all domain r c done total w).world
-unfolding out_step
 looks_out_step true domain r c done total w = none w
 looks_out_step false domain r c done total w =
     looks_out_placed c done total _ _ w

@@ -19,7 +19,8 @@ use Rattle.cloak_model.specs.declared.outcome.Effect.TheVariants as does
 use Rattle.cloak_model.specs.Contexts.{Context}
 use Rattle.cloak_model.specs.Effect.{effect}
 use Rattle.cloak_model.specs.KernelStep.{atomic_kind}
-use Rattle.cloak_model.specs.InsideStep.{loaded_inside, load_reached, load_got, load_inside, store_reached, store_put, store_inside, conditional_inside, atomic_granted, atomic_reached, atomic_placed, atomic_inside, system_inside, done_inside, decoded_inside, executed_inside, fetched_inside, fetch, instruction_inside}
+use Rattle.cloak_model.specs.InsideStep.{load_inside, store_inside, atomic_granted, atomic_placed, atomic_inside, system_inside, done_inside, decoded_inside, fetch, instruction_inside}
+use Rattle.cloak_model.proofs.InsideParts.{loaded_inside, load_reached, load_got, store_reached, store_put, conditional_inside, atomic_reached, executed_inside, fetched_inside}
 use Rattle.cloak_model.specs.Resources.{Resources, page_at}
 use Rattle.cloak_model.specs.World.{World}
 use Rattle.cloak_model.specs.AskPages.{ask_read}
@@ -36,7 +37,7 @@ LieAll mapped s domain r space = (va : ℕ) → LiesIf mapped s (page_at domain 
 module _ (mapped : SpaceId → ℕ → Option PageId) (s : Option SpaceId) where
   pub maps_load_reached : (c : Context) (q : PageId) (rd va width : ℕ) (signed : Bool) (a : Answer) (w : World) →
       Maps mapped s w (load_reached c q rd va width signed a w).world
-  unfolding load_reached ask_read loaded_inside
+  unfolding ask_read
   maps_load_reached c q rd va width signed told.Ok w = maps_refl mapped s w
   maps_load_reached c q rd va width signed (told.Absent cause) w = maps_refl mapped s w
   maps_load_reached c q rd va width signed (told.Word value) w = maps_refl mapped s w
@@ -44,7 +45,6 @@ module _ (mapped : SpaceId → ℕ → Option PageId) (s : Option SpaceId) where
 
   pub maps_load_got : (c : Context) (rd va width : ℕ) (signed : Bool) (a : Answer) (w : World) →
       Maps mapped s w (load_got c rd va width signed a w).world
-  unfolding load_got
   maps_load_got c rd va width signed told.Ok w = maps_refl mapped s w
   maps_load_got c rd va width signed (told.Absent cause) w = maps_refl mapped s w
   maps_load_got c rd va width signed (told.Word value) w = maps_refl mapped s w
@@ -60,14 +60,12 @@ module _ (mapped : SpaceId → ℕ → Option PageId) (s : Option SpaceId) where
 
   pub maps_store_reached : (c : Context) (q : PageId) (va width value : ℕ) (a : Answer) (w : World) →
       Maps mapped s w (store_reached c q va width value a w).world
-  unfolding store_reached
   maps_store_reached c q va width value told.Ok w = asks_write mapped s _ _ _ _ w
   maps_store_reached c q va width value (told.Absent cause) w = maps_refl mapped s w
   maps_store_reached c q va width value (told.Word other) w = maps_refl mapped s w
   maps_store_reached c q va width value told.Stopped w = maps_refl mapped s w
 
   pub maps_store_put : (c : Context) (va : ℕ) (a : Answer) (w : World) → Maps mapped s w (store_put c va a w).world
-  unfolding store_put
   maps_store_put c va told.Ok w = maps_refl mapped s w
   maps_store_put c va (told.Absent cause) w = maps_refl mapped s w
   maps_store_put c va (told.Word value) w = maps_refl mapped s w
@@ -85,7 +83,6 @@ module _ (mapped : SpaceId → ℕ → Option PageId) (s : Option SpaceId) where
 
   pub maps_conditional : (is_reserved : Bool) (c : Context) (rd : ℕ) (q : PageId) (va operand : ℕ) (w : World) →
       Maps mapped s w (conditional_inside is_reserved c rd q va operand w).world
-  unfolding conditional_inside
   maps_conditional true c rd q va operand w = asks_write mapped s _ _ _ _ w
   maps_conditional false c rd q va operand w = maps_refl mapped s w
 
@@ -107,7 +104,6 @@ module _ (mapped : SpaceId → ℕ → Option PageId) (s : Option SpaceId) where
   pub maps_atomic_reached : (c : Context) (rd : ℕ) (op : AtomicOp) (q : PageId) (va operand : ℕ) (a : Answer)
       (w : World) →
       Maps mapped s w (atomic_reached c rd op q va operand a w).world
-  unfolding atomic_reached
   maps_atomic_reached c rd op q va operand told.Ok w = maps_granted c rd op q va operand w
   maps_atomic_reached c rd op q va operand (told.Absent cause) w = maps_refl mapped s w
   maps_atomic_reached c rd op q va operand (told.Word value) w = maps_refl mapped s w
@@ -159,12 +155,11 @@ module _ (mapped : SpaceId → ℕ → Option PageId) (s : Option SpaceId) where
 
   pub maps_executed : (domain : ℕ) (r : Resources) (c : Context) (word : ℕ) (w : World) →
       LieAll mapped s domain r c.space → Maps mapped s w (executed_inside domain r c word w).world
-  unfolding executed_inside
   maps_executed domain r c word w lie = maps_decoded domain r c word (instruction word) w lie
 
   pub maps_fetched : (domain : ℕ) (r : Resources) (c : Context) (q : PageId) (a : Answer) (w : World) →
       LieAll mapped s domain r c.space → Maps mapped s w (fetched_inside domain r c q a w).world
-  unfolding fetched_inside ask_read
+  unfolding ask_read
   maps_fetched domain r c q told.Ok w lie = maps_executed domain r c _ w lie
   maps_fetched domain r c q (told.Absent cause) w lie = maps_refl mapped s w
   maps_fetched domain r c q (told.Word value) w lie = maps_refl mapped s w
