@@ -1,0 +1,22 @@
+use Rattle.std.proofs.Common.{◌∙◌, sym, subst}
+use Rattle.read_back.specs.declared.ending.Ending.{Ending}
+use Rattle.draw_command.specs.Replaying.{ReadsRun}
+use Rattle.draw_command.proofs.Answered.{reading_same, reads_unread}
+use Rattle.draw_command.proofs.command.draw_with.Goals as goal
+
+pub returns-then-is_unread-clause-makes : goal.returns-then-is_unread-clause-makes
+returns-then-is_unread-clause-makes g c =
+    reads_unread _ _ _ _ c.in-Ok.once.ending c.is_unread.result c.is_unread.ensures c.if-is_unread.true c.in-Ok.ensures.reads
+
+pub returns-in-Ok-drawn-clause-makes : goal.returns-in-Ok-drawn-clause-makes
+returns-in-Ok-drawn-clause-makes g c = (
+  c.in-Ok-drawn.ensures.text,
+  (
+    subst (λ (e : Ending). ReadsRun c.args.bundle.now.kernel _ _ _ e) (sym c.in-Ok-drawn.ensures.ending) c.in-Ok.ensures.reads,
+    reading_same _ _ _ _ c.in-Ok.once.ending c.is_unread.result c.is_unread.ensures c.if-is_unread.false c.in-Ok.ensures.reads,
+  ),
+)
+
+pub returns-in-Err-drawn-clause-makes : goal.returns-in-Err-drawn-clause-makes
+returns-in-Err-drawn-clause-makes g c =
+    reading_same _ _ _ _ c.in-Ok.once.ending c.is_unread.result c.is_unread.ensures c.if-is_unread.false c.in-Ok.ensures.reads
