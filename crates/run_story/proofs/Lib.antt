@@ -1,2 +1,5 @@
+pub mod ToldMore
+pub mod StoryMore
 pub mod Ends
 pub mod Answered
+pub mod SoFar
