@@ -34,8 +34,10 @@ use Rattle.cloak_model.specs.Contexts.{Context, context_at, context_number, end_
 use Rattle.cloak_model.specs.declared.context.WordPlace.{WordPlace}
 use Rattle.cloak_model.specs.Resources.{Resources, page_at, first_free, drop_space}
 use Rattle.cloak_model.specs.InsideStep as inside
+use Rattle.cloak_model.proofs.InsideParts as inside_parts
 use Rattle.cloak_model.specs.InsideStep.{AfterInstruction}
 use Rattle.cloak_model.specs.Calls as calls
+use Rattle.cloak_model.proofs.CallParts as call_parts
 use Rattle.cloak_model.specs.Calls.{Copy}
 use Rattle.cloak_model.specs.Fork as forks
 use Rattle.cloak_model.specs.Fork.{Fork, End}
@@ -60,9 +62,8 @@ pub record Lacks (h now : Handed) : Type 0 where
 
 -- Either each question found its answer, or one did not, and then Stops is true of the result.
 abbrev pub Outcome : {A : Type 0} → Handed → (A → Handed → Type 0) → (A → Type 0) → A → World → Type 0
-Outcome h Good Stops a (Flat ram) = ⊥
-Outcome h Good Stops a (Cloaked c) = ⊥
 Outcome h Good Stops a (Alone now) = Good a now ⊎ (Lacks h now × Stops a)
+Outcome h Good Stops a _ = ⊥
 
 -- what goes on after a missing answer changes nothing, and Stops is true of its result
 abbrev pub Quits : {A : Type 0} → (A → Type 0) → Handed → Told A → Type 0
@@ -144,10 +145,7 @@ then_asked B h k GoodNext StopsNext next t o goes quits =
 -- at an ecall at most one answer was taken, nothing was written, and nothing has changed
 abbrev pub AfterRan : Handed → Option WordPlace → Ran → Handed → Type 0
 AfterRan h wrote ran.Ecall now = Kept 1 h now × (wrote ≡ None)
-AfterRan h wrote ran.Stay now = now.unfit ≡ false
-AfterRan h wrote (ran.Loaded address value) now = now.unfit ≡ false
-AfterRan h wrote (ran.Trap cause address) now = now.unfit ≡ false
-AfterRan h wrote ran.Stopped now = now.unfit ≡ false
+AfterRan h wrote _ now = now.unfit ≡ false
 
 abbrev Instructs : Handed → AfterInstruction → Handed → Type 0
 Instructs h made now = AfterRan h made.wrote made.ending now
@@ -159,54 +157,44 @@ abbrev Instructed : Handed → Told AfterInstruction → Type 0
 Instructed h t = Outcome h (Instructs h) LeavesOpen t.answer t.world
 
 asks_load_reached : (h : Handed) (c : Context) (q : PageId) (rd va width : ℕ) (is_signed : Bool) (a : Answer) (now : Handed) → Kept 2 h now →
-    Instructed h (inside.load_reached c q rd va width is_signed a (Alone now))
-unfolding inside.load_reached inside.loaded_inside ask_read
+    Instructed h (inside_parts.load_reached c q rd va width is_signed a (Alone now))
+unfolding ask_read
 asks_load_reached h c q rd va width is_signed told.Ok now kept = inl kept.fit
-asks_load_reached h c q rd va width is_signed (told.Absent cause) now kept = inl kept.fit
-asks_load_reached h c q rd va width is_signed (told.Word value) now kept = inl kept.fit
-asks_load_reached h c q rd va width is_signed told.Stopped now kept = inl kept.fit
+asks_load_reached h c q rd va width is_signed _ now kept = inl kept.fit
 
 asks_load_got : (h : Handed) (c : Context) (rd va width : ℕ) (is_signed : Bool) (a : Answer) (now : Handed) → Kept 2 h now →
-    Instructed h (inside.load_got c rd va width is_signed a (Alone now))
-unfolding inside.load_got
+    Instructed h (inside_parts.load_got c rd va width is_signed a (Alone now))
 asks_load_got h c rd va width is_signed (told.Word value) now kept = inl kept.fit
-asks_load_got h c rd va width is_signed (told.Absent cause) now kept = inl kept.fit
-asks_load_got h c rd va width is_signed told.Ok now kept = inl kept.fit
-asks_load_got h c rd va width is_signed told.Stopped now kept = inl kept.fit
+asks_load_got h c rd va width is_signed _ now kept = inl kept.fit
 
 asks_load : (h : Handed) (c : Context) (rd va width : ℕ) (is_signed : Bool) (place : Option PageId) (now : Handed) → Kept 1 h now →
     Instructed h (inside.load_inside c rd va width is_signed place (Alone now))
-unfolding inside.load_inside inside.load_reached inside.load_got
+unfolding inside.load_inside
 asks_load h c rd va width is_signed (Some q) now kept =
-    then_asked AfterInstruction h 2 (Instructs h) LeavesOpen (inside.load_reached c q rd va width is_signed) (ask_reach q va Load (Alone now))
+    then_asked AfterInstruction h 2 (Instructs h) LeavesOpen (inside_parts.load_reached c q rd va width is_signed) (ask_reach q va Load (Alone now))
     (asked_reach h now 1 q va Load (omega arith) kept) (asks_load_reached h c q rd va width is_signed) (λ after. (refl, (refl, refl)))
 asks_load h c rd va width is_signed None now kept =
-    then_asked AfterInstruction h 2 (Instructs h) LeavesOpen (inside.load_got c rd va width is_signed) (ask_get va width (Alone now))
+    then_asked AfterInstruction h 2 (Instructs h) LeavesOpen (inside_parts.load_got c rd va width is_signed) (ask_get va width (Alone now))
     (asked_get h now 1 va width (omega arith) kept) (asks_load_got h c rd va width is_signed) (λ after. (refl, (refl, refl)))
 
 asks_store_reached : (h : Handed) (c : Context) (q : PageId) (va width value : ℕ) (a : Answer) (now : Handed) → Kept 2 h now →
-    Instructed h (inside.store_reached c q va width value a (Alone now))
-unfolding inside.store_reached ask_write
+    Instructed h (inside_parts.store_reached c q va width value a (Alone now))
+unfolding ask_write
 asks_store_reached h c q va width value told.Ok now kept = inl kept.fit
-asks_store_reached h c q va width value (told.Absent cause) now kept = inl kept.fit
-asks_store_reached h c q va width value (told.Word other) now kept = inl kept.fit
-asks_store_reached h c q va width value told.Stopped now kept = inl kept.fit
+asks_store_reached h c q va width value _ now kept = inl kept.fit
 
-asks_store_put : (h : Handed) (c : Context) (va : ℕ) (a : Answer) (now : Handed) → Kept 2 h now → Instructed h (inside.store_put c va a (Alone now))
-unfolding inside.store_put
+asks_store_put : (h : Handed) (c : Context) (va : ℕ) (a : Answer) (now : Handed) → Kept 2 h now → Instructed h (inside_parts.store_put c va a (Alone now))
 asks_store_put h c va told.Ok now kept = inl kept.fit
-asks_store_put h c va (told.Absent cause) now kept = inl kept.fit
-asks_store_put h c va (told.Word value) now kept = inl kept.fit
-asks_store_put h c va told.Stopped now kept = inl kept.fit
+asks_store_put h c va _ now kept = inl kept.fit
 
 asks_store : (h : Handed) (c : Context) (va width value : ℕ) (place : Option PageId) (now : Handed) → Kept 1 h now →
     Instructed h (inside.store_inside c va width value place (Alone now))
-unfolding inside.store_inside inside.store_reached inside.store_put
+unfolding inside.store_inside
 asks_store h c va width value (Some q) now kept =
-    then_asked AfterInstruction h 2 (Instructs h) LeavesOpen (inside.store_reached c q va width value) (ask_reach q va Store (Alone now))
+    then_asked AfterInstruction h 2 (Instructs h) LeavesOpen (inside_parts.store_reached c q va width value) (ask_reach q va Store (Alone now))
     (asked_reach h now 1 q va Store (omega arith) kept) (asks_store_reached h c q va width value) (λ after. (refl, (refl, refl)))
 asks_store h c va width value None now kept =
-    then_asked AfterInstruction h 2 (Instructs h) LeavesOpen (inside.store_put c va) (ask_put va width value (Alone now))
+    then_asked AfterInstruction h 2 (Instructs h) LeavesOpen (inside_parts.store_put c va) (ask_put va width value (Alone now))
     (asked_put h now 1 va width value (omega arith) kept) (asks_store_put h c va) (λ after. (refl, (refl, refl)))
 
 asks_system : (h : Handed) (c : Context) (i : Instr) (now : Handed) → Kept 1 h now → Instructed h (inside.system_inside c i (Alone now))
@@ -218,20 +206,16 @@ asks_system h c i now kept = inl kept.fit
 asks_done : (h : Handed) (domain : ℕ) (r : Resources) (c : Context) (i : Instr) (e : Effect) (now : Handed) → Kept 1 h now →
     Instructed h (inside.done_inside domain r c i e (Alone now))
 unfolding inside.done_inside
-asks_done h domain r c i (does.Write rd value) now kept = inl kept.fit
-asks_done h domain r c i (does.Jump rd link target) now kept = inl kept.fit
-asks_done h domain r c i (does.Go target) now kept = inl kept.fit
 asks_done h domain r c i (does.Load rd va width is_signed) now kept = asks_load h c rd va width is_signed (page_at domain r c.space va) now kept
 asks_done h domain r c i (does.Store va width value) now kept = asks_store h c va width value (page_at domain r c.space va) now kept
 asks_done h domain r c i does.System now kept = asks_system h c i now kept
-asks_done h domain r c i does.Nothing now kept = inl kept.fit
-asks_done h domain r c i (does.Raise cause value) now kept = inl kept.fit
+asks_done h domain r c i _ now kept = inl kept.fit
 
 -- Atomic instructions.
 
 asks_conditional : (h : Handed) (reserved : Bool) (c : Context) (rd : ℕ) (q : PageId) (va operand : ℕ) (now : Handed) → Kept 2 h now →
-    Instructed h (inside.conditional_inside reserved c rd q va operand (Alone now))
-unfolding inside.conditional_inside ask_write
+    Instructed h (inside_parts.conditional_inside reserved c rd q va operand (Alone now))
+unfolding ask_write
 asks_conditional h true c rd q va operand now kept = inl kept.fit
 asks_conditional h false c rd q va operand now kept = inl kept.fit
 
@@ -243,19 +227,16 @@ asks_granted h c rd Sc q va operand now kept = asks_conditional h (is_reserved (
 asks_granted h c rd op q va operand now kept = inl kept.fit
 
 asks_atomic_reached : (h : Handed) (c : Context) (rd : ℕ) (op : AtomicOp) (q : PageId) (va operand : ℕ) (a : Answer) (now : Handed) → Kept 2 h now →
-    Instructed h (inside.atomic_reached c rd op q va operand a (Alone now))
-unfolding inside.atomic_reached
+    Instructed h (inside_parts.atomic_reached c rd op q va operand a (Alone now))
 asks_atomic_reached h c rd op q va operand told.Ok now kept = asks_granted h c rd op q va operand now kept
-asks_atomic_reached h c rd op q va operand (told.Absent cause) now kept = inl kept.fit
-asks_atomic_reached h c rd op q va operand (told.Word value) now kept = inl kept.fit
-asks_atomic_reached h c rd op q va operand told.Stopped now kept = inl kept.fit
+asks_atomic_reached h c rd op q va operand _ now kept = inl kept.fit
 
 asks_atomic_placed : (h : Handed) (c : Context) (rd : ℕ) (op : AtomicOp) (va operand : ℕ) (place : Option PageId) (now : Handed) → Kept 1 h now →
     Instructed h (inside.atomic_placed c rd op va operand place (Alone now))
-unfolding inside.atomic_placed inside.atomic_reached
+unfolding inside.atomic_placed
 asks_atomic_placed h c rd op va operand None now kept = inl kept.fit
 asks_atomic_placed h c rd op va operand (Some q) now kept =
-    then_asked AfterInstruction h 2 (Instructs h) LeavesOpen (inside.atomic_reached c rd op q va operand) (ask_reach q va (atomic_kind op) (Alone now))
+    then_asked AfterInstruction h 2 (Instructs h) LeavesOpen (inside_parts.atomic_reached c rd op q va operand) (ask_reach q va (atomic_kind op) (Alone now))
     (asked_reach h now 1 q va (atomic_kind op) (omega arith) kept) (asks_atomic_reached h c rd op q va operand) (λ after. (refl, (refl, refl)))
 
 instructed_either : (h : Handed) (b : Bool) (x y : Told AfterInstruction) → Instructed h x → Instructed h y → Instructed h (cond b x y)
@@ -278,24 +259,21 @@ asks_decoded h domain r c word None now kept = asks_atomic h domain r c (atomic_
 asks_decoded h domain r c word (Some i) now kept = asks_done h domain r c i (effect i c.regs c.pc) now kept
 
 asks_executed : (h : Handed) (domain : ℕ) (r : Resources) (c : Context) (word : ℕ) (now : Handed) → Kept 1 h now →
-    Instructed h (inside.executed_inside domain r c word (Alone now))
-unfolding inside.executed_inside
+    Instructed h (inside_parts.executed_inside domain r c word (Alone now))
 asks_executed h domain r c word now kept = asks_decoded h domain r c word (instruction word) now kept
 
 asks_fetched : (h : Handed) (domain : ℕ) (r : Resources) (c : Context) (q : PageId) (a : Answer) (now : Handed) → Kept 1 h now →
-    Instructed h (inside.fetched_inside domain r c q a (Alone now))
-unfolding inside.fetched_inside ask_read
+    Instructed h (inside_parts.fetched_inside domain r c q a (Alone now))
+unfolding ask_read
 asks_fetched h domain r c q told.Ok now kept = asks_executed h domain r c _ now kept
-asks_fetched h domain r c q (told.Absent cause) now kept = inl kept.fit
-asks_fetched h domain r c q (told.Word value) now kept = inl kept.fit
-asks_fetched h domain r c q told.Stopped now kept = inl kept.fit
+asks_fetched h domain r c q _ now kept = inl kept.fit
 
 asks_fetch : (h : Handed) (domain : ℕ) (r : Resources) (c : Context) (place : Option PageId) → Kept 0 h h →
     Instructed h (inside.fetch domain r c place (Alone h))
-unfolding inside.fetch inside.fetched_inside
+unfolding inside.fetch
 asks_fetch h domain r c None kept = inl kept.fit
 asks_fetch h domain r c (Some q) kept =
-    then_asked AfterInstruction h 1 (Instructs h) LeavesOpen (inside.fetched_inside domain r c q) (ask_reach q c.pc Fetch (Alone h))
+    then_asked AfterInstruction h 1 (Instructs h) LeavesOpen (inside_parts.fetched_inside domain r c q) (ask_reach q c.pc Fetch (Alone h))
     (asked_reach h h 0 q c.pc Fetch (omega arith) kept) (asks_fetched h domain r c q) (λ after. (refl, (refl, refl)))
 
 asks_instruction : (h : Handed) (domain : ℕ) (r : Resources) (c : Context) → Kept 0 h h → Instructed h (inside.instruction_inside domain r c (Alone h))
@@ -313,40 +291,33 @@ CopyStops copy = (copy.ending ≡ copied.Stopped) × (copy.wrote ≡ None)
 abbrev Copies : Handed → Told Copy → Type 0
 Copies h t = Outcome h (IsFit {A = Copy}) CopyStops t.answer t.world
 
-asks_in_put : (h : Handed) (c : Context) (done byte : ℕ) (a : Answer) (now : Handed) → Kept 2 h now → Copies h (calls.in_put c done byte a (Alone now))
-unfolding calls.in_put
+asks_in_put : (h : Handed) (c : Context) (done byte : ℕ) (a : Answer) (now : Handed) → Kept 2 h now → Copies h (call_parts.in_put c done byte a (Alone now))
 asks_in_put h c done byte told.Ok now kept = inl kept.fit
-asks_in_put h c done byte (told.Absent cause) now kept = inl kept.fit
-asks_in_put h c done byte (told.Word value) now kept = inl kept.fit
-asks_in_put h c done byte told.Stopped now kept = inl kept.fit
+asks_in_put h c done byte _ now kept = inl kept.fit
 
-in_put_stopped : (c : Context) (done byte : ℕ) (now : Handed) → Quits CopyStops now (calls.in_put c done byte told.Stopped (Alone now))
-unfolding calls.in_put
+in_put_stopped : (c : Context) (done byte : ℕ) (now : Handed) → Quits CopyStops now (call_parts.in_put c done byte told.Stopped (Alone now))
 in_put_stopped c done byte now = (refl, (refl, refl))
 
-asks_in_reached : (h : Handed) (c : Context) (q : PageId) (done : ℕ) (a : Answer) (now : Handed) → Kept 1 h now → Copies h (calls.in_reached c q done a (Alone now))
-unfolding calls.in_reached ask_read
+asks_in_reached : (h : Handed) (c : Context) (q : PageId) (done : ℕ) (a : Answer) (now : Handed) → Kept 1 h now → Copies h (call_parts.in_reached c q done a (Alone now))
+unfolding ask_read
 asks_in_reached h c q done told.Ok now kept =
-    then_asked Copy h 2 (IsFit {A = Copy}) CopyStops (calls.in_put c done _) (ask_put (calls.byte_address (calls.area c) done) 1 _ (Alone now))
-    (asked_put h now 1 _ 1 _ (omega arith) kept) (asks_in_put h c done _) (in_put_stopped c done _)
+    then_asked Copy h 2 (IsFit {A = Copy}) CopyStops (call_parts.in_put c done _) (ask_put (calls.byte_address (calls.area c) done) 1 _ (Alone now))
+    (asked_put h now 1 _ 1 _ (omega arith) kept) (asks_in_put h c done _) (in_put_stopped c done 0)
 asks_in_reached h c q done (told.Absent cause) now kept = inl kept.fit
 asks_in_reached h c q done (told.Word value) now kept = inl kept.fit
 asks_in_reached h c q done told.Stopped now kept = inl kept.fit
 
-in_reached_stopped : (c : Context) (q : PageId) (done : ℕ) (now : Handed) → Quits CopyStops now (calls.in_reached c q done told.Stopped (Alone now))
-unfolding calls.in_reached
+in_reached_stopped : (c : Context) (q : PageId) (done : ℕ) (now : Handed) → Quits CopyStops now (call_parts.in_reached c q done told.Stopped (Alone now))
 in_reached_stopped c q done now = (refl, (refl, refl))
 
-asks_in_placed : (h : Handed) (c : Context) (done : ℕ) (place : Option PageId) (cloaked : Bool) → Kept 0 h h → Copies h (calls.in_placed c done place cloaked (Alone h))
-unfolding calls.in_placed
+asks_in_placed : (h : Handed) (c : Context) (done : ℕ) (place : Option PageId) (cloaked : Bool) → Kept 0 h h → Copies h (call_parts.in_placed c done place cloaked (Alone h))
 asks_in_placed h c done None cloaked kept = inl kept.fit
 asks_in_placed h c done (Some q) true kept = inl kept.fit
 asks_in_placed h c done (Some q) false kept =
-    then_asked Copy h 1 (IsFit {A = Copy}) CopyStops (calls.in_reached c q done) (ask_reach q (calls.byte_address (calls.buffer c) done) Load (Alone h))
+    then_asked Copy h 1 (IsFit {A = Copy}) CopyStops (call_parts.in_reached c q done) (ask_reach q (calls.byte_address (calls.buffer c) done) Load (Alone h))
     (asked_reach h h 0 q _ Load (omega arith) kept) (asks_in_reached h c q done) (in_reached_stopped c q done)
 
-asks_in_step : (h : Handed) (all : Bool) (domain : ℕ) (r : Resources) (c : Context) (done : ℕ) → Kept 0 h h → Copies h (calls.in_step all domain r c done (Alone h))
-unfolding calls.in_step
+asks_in_step : (h : Handed) (all : Bool) (domain : ℕ) (r : Resources) (c : Context) (done : ℕ) → Kept 0 h h → Copies h (call_parts.in_step all domain r c done (Alone h))
 asks_in_step h true domain r c done kept = inl kept.fit
 asks_in_step h false domain r c done kept = asks_in_placed h c done _ _ kept
 
@@ -355,40 +326,31 @@ unfolding calls.copy_in_step
 asks_copy_in h domain r c done kept = asks_in_step h _ domain r c done kept
 
 asks_out_reached : (h : Handed) (c : Context) (q : PageId) (done total byte : ℕ) (a : Answer) (now : Handed) → Kept 2 h now →
-    Copies h (calls.out_reached c q done total byte a (Alone now))
-unfolding calls.out_reached ask_write
+    Copies h (call_parts.out_reached c q done total byte a (Alone now))
+unfolding ask_write
 asks_out_reached h c q done total byte told.Ok now kept = inl kept.fit
-asks_out_reached h c q done total byte (told.Absent cause) now kept = inl kept.fit
-asks_out_reached h c q done total byte (told.Word value) now kept = inl kept.fit
-asks_out_reached h c q done total byte told.Stopped now kept = inl kept.fit
+asks_out_reached h c q done total byte _ now kept = inl kept.fit
 
-out_reached_stopped : (c : Context) (q : PageId) (done total byte : ℕ) (now : Handed) → Quits CopyStops now (calls.out_reached c q done total byte told.Stopped (Alone now))
-unfolding calls.out_reached
+out_reached_stopped : (c : Context) (q : PageId) (done total byte : ℕ) (now : Handed) → Quits CopyStops now (call_parts.out_reached c q done total byte told.Stopped (Alone now))
 out_reached_stopped c q done total byte now = (refl, (refl, refl))
 
-asks_out_got : (h : Handed) (c : Context) (q : PageId) (done total : ℕ) (a : Answer) (now : Handed) → Kept 1 h now → Copies h (calls.out_got c q done total a (Alone now))
-unfolding calls.out_got
+asks_out_got : (h : Handed) (c : Context) (q : PageId) (done total : ℕ) (a : Answer) (now : Handed) → Kept 1 h now → Copies h (call_parts.out_got c q done total a (Alone now))
 asks_out_got h c q done total (told.Word byte) now kept =
-    then_asked Copy h 2 (IsFit {A = Copy}) CopyStops (calls.out_reached c q done total byte) (ask_reach q (calls.byte_address (calls.buffer c) done) Store (Alone now))
+    then_asked Copy h 2 (IsFit {A = Copy}) CopyStops (call_parts.out_reached c q done total byte) (ask_reach q (calls.byte_address (calls.buffer c) done) Store (Alone now))
     (asked_reach h now 1 q _ Store (omega arith) kept) (asks_out_reached h c q done total byte) (out_reached_stopped c q done total byte)
-asks_out_got h c q done total (told.Absent cause) now kept = inl kept.fit
-asks_out_got h c q done total told.Ok now kept = inl kept.fit
-asks_out_got h c q done total told.Stopped now kept = inl kept.fit
+asks_out_got h c q done total _ now kept = inl kept.fit
 
-out_got_stopped : (c : Context) (q : PageId) (done total : ℕ) (now : Handed) → Quits CopyStops now (calls.out_got c q done total told.Stopped (Alone now))
-unfolding calls.out_got
+out_got_stopped : (c : Context) (q : PageId) (done total : ℕ) (now : Handed) → Quits CopyStops now (call_parts.out_got c q done total told.Stopped (Alone now))
 out_got_stopped c q done total now = (refl, (refl, refl))
 
-asks_out_placed : (h : Handed) (c : Context) (done total : ℕ) (place : Option PageId) (cloaked : Bool) → Kept 0 h h → Copies h (calls.out_placed c done total place cloaked (Alone h))
-unfolding calls.out_placed
+asks_out_placed : (h : Handed) (c : Context) (done total : ℕ) (place : Option PageId) (cloaked : Bool) → Kept 0 h h → Copies h (call_parts.out_placed c done total place cloaked (Alone h))
 asks_out_placed h c done total None cloaked kept = inl kept.fit
 asks_out_placed h c done total (Some q) true kept = inl kept.fit
 asks_out_placed h c done total (Some q) false kept =
-    then_asked Copy h 1 (IsFit {A = Copy}) CopyStops (calls.out_got c q done total) (ask_get (calls.byte_address (calls.area c) done) 1 (Alone h))
+    then_asked Copy h 1 (IsFit {A = Copy}) CopyStops (call_parts.out_got c q done total) (ask_get (calls.byte_address (calls.area c) done) 1 (Alone h))
     (asked_get h h 0 _ 1 (omega arith) kept) (asks_out_got h c q done total) (out_got_stopped c q done total)
 
-asks_out_step : (h : Handed) (all : Bool) (domain : ℕ) (r : Resources) (c : Context) (done total : ℕ) → Kept 0 h h → Copies h (calls.out_step all domain r c done total (Alone h))
-unfolding calls.out_step
+asks_out_step : (h : Handed) (all : Bool) (domain : ℕ) (r : Resources) (c : Context) (done total : ℕ) → Kept 0 h h → Copies h (call_parts.out_step all domain r c done total (Alone h))
 asks_out_step h true domain r c done total kept = inl kept.fit
 asks_out_step h false domain r c done total kept = asks_out_placed h c done total _ _ kept
 
@@ -399,20 +361,17 @@ asks_copy_out h domain r c done total kept = asks_out_step h _ domain r c done t
 -- Forks and ends.
 
 abbrev IsFitAlone : World → Type 0
-IsFitAlone (Flat ram) = ⊥
-IsFitAlone (Cloaked c) = ⊥
 IsFitAlone (Alone now) = now.unfit ≡ false
+IsFitAlone _ = ⊥
 
 fit_outcome : (A : Type 0) (h : Handed) (Stops : A → Type 0) (a : A) (w : World) → IsFitAlone w → Outcome h (IsFit {A = A}) Stops a w
-fit_outcome A h Stops a (Flat ram) fit = absurd fit
-fit_outcome A h Stops a (Cloaked c) fit = absurd fit
 fit_outcome A h Stops a (Alone now) fit = inl fit
+fit_outcome A h Stops a _ fit = absurd fit
 
 fit_copy : (domain from to : ℕ) (w : World) → IsFitAlone w → IsFitAlone (ask_copy domain from to w).world
 unfolding ask_copy
-fit_copy domain from to (Flat ram) fit = absurd fit
-fit_copy domain from to (Cloaked c) fit = absurd fit
 fit_copy domain from to (Alone now) fit = fit
+fit_copy domain from to _ fit = absurd fit
 
 fit_copies : (domain : ℕ) (list : List (ℕ × ℕ)) (w : World) → IsFitAlone w → IsFitAlone (forks.ask_copies domain list w).world
 unfolding forks.ask_copies
@@ -421,9 +380,8 @@ fit_copies domain (copy ∷ rest) w fit = fit_copies domain rest _ (fit_copy dom
 
 fit_forget : (domain resource : ℕ) (w : World) → IsFitAlone w → IsFitAlone (ask_forget domain resource w).world
 unfolding ask_forget
-fit_forget domain resource (Flat ram) fit = absurd fit
-fit_forget domain resource (Cloaked c) fit = absurd fit
 fit_forget domain resource (Alone now) fit = fit
+fit_forget domain resource _ fit = absurd fit
 
 fit_forgets : (domain : ℕ) (list : List ℕ) (w : World) → IsFitAlone w → IsFitAlone (forks.ask_forgets domain list w).world
 unfolding forks.ask_forgets
@@ -560,13 +518,10 @@ asks_call h slot d c now kept =
 asks_ended : (h : Handed) (slot : ℕ) (d : Domain) (c : Context) (wrote : Option WordPlace) (e : Ran) (now : Handed) → AfterRan h wrote e now →
     Steps h d (ended_writing slot d c wrote e (Alone now))
 unfolding step.instruction_ended
-asks_ended h slot d c wrote ran.Stay now good = inl good
-asks_ended h slot d c wrote (ran.Loaded address value) now good = inl good
-asks_ended h slot d c wrote (ran.Trap cause address) now good = inl good
 asks_ended h slot d c wrote ran.Ecall now good =
     subst (λ (x : Option WordPlace). Steps h d (ended_writing slot d c x ran.Ecall (Alone now))) (sym good.1)
     (asks_call h slot d c now good.0)
-asks_ended h slot d c wrote ran.Stopped now good = inl good
+asks_ended h slot d c wrote _ now good = inl good
 
 ended_stopped : (slot : ℕ) (d : Domain) (c : Context) (wrote : Option WordPlace) (e : Ran) (now : Handed) → (e ≡ ran.Stopped) × (wrote ≡ None) →
     Quits (StepStops d) now (ended_writing slot d c wrote e (Alone now))

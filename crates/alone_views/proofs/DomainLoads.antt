@@ -33,21 +33,13 @@ one_load d address value = let e = length-append d.loads ((address, value) ∷ [
 
 loads_instruction : (slot : ℕ) (d : Domain) (c : Context) (r : Ran) (w : World) → LoadsOnce d (step.instruction_ended slot d c r w).answer
 unfolding step.instruction_ended
-loads_instruction slot d c ran.Stay w = no_load (length d.loads)
 loads_instruction slot d c (ran.Loaded address value) w = one_load d address value
-loads_instruction slot d c (ran.Trap cause address) w = no_load (length d.loads)
-loads_instruction slot d c ran.Ecall w = no_load (length d.loads)
-loads_instruction slot d c ran.Stopped w = no_load (length d.loads)
+loads_instruction slot d c _ w = no_load (length d.loads)
 
 loads_copy : (slot : ℕ) (d : Domain) (c : Context) (r : Copied) → LoadsOnce d (step.copy_ended slot d c r)
 unfolding step.copy_ended
-loads_copy slot d c copied.Going = no_load (length d.loads)
-loads_copy slot d c copied.CallReady = no_load (length d.loads)
-loads_copy slot d c copied.Done = no_load (length d.loads)
-loads_copy slot d c (copied.Absent cause address) = no_load (length d.loads)
-loads_copy slot d c copied.Stopped = no_load (length d.loads)
-loads_copy slot d c copied.Refused = no_load (length d.loads)
 loads_copy slot d c (copied.Loaded address byte) = one_load d address byte
+loads_copy slot d c _ = no_load (length d.loads)
 
 -- a write after a step
 loads_written : (wrote : Option WordPlace) (d : Domain) (s : DomainStepped) → LoadsOnce d s → LoadsOnce d (step.after_write wrote s)
@@ -81,8 +73,7 @@ FewMore s now = loads_of now ≤ loads_of s + 1
 -- what was tried completed at most one
 abbrev TriedOnce : DomainPart → Tried → Type 0
 TriedOnce p (Over now) = length now.domain.loads ≤ length p.domain.loads + 1
-TriedOnce p Wants = Unit {0}
-TriedOnce p Wrong = Unit {0}
+TriedOnce p _ = Unit {0}
 
 once_if : (p : DomainPart) (a b : Bool) (d : Domain) (plain : ℕ → ℕ → List ℕ) → length d.loads ≤ length p.domain.loads + 1 →
     TriedOnce p (cond a (cond b Wants Wrong) (cond b (Over (record { domain = d; plain = plain })) Wrong))
@@ -101,31 +92,22 @@ once_tried slot answers p =
 few_answered : (slot : ℕ) (answers : List Answer) (a : Answer) (t : Tried) (s : model.DomainAlone) → TriedOnce s.part t → FewMore s (answered_by slot answers a t s)
 unfolding answered_by
 few_answered slot answers a (Over p) s once = once
-few_answered slot answers a Wants s once = no_load (loads_of s)
-few_answered slot answers a Wrong s once = no_load (loads_of s)
+few_answered slot answers a _ s once = no_load (loads_of s)
 
 few_made : (t : Tried) (s : model.DomainAlone) → TriedOnce s.part t → FewMore s (made_by t s)
 unfolding made_by
 few_made (Over p) s once = once
-few_made Wants s once = no_load (loads_of s)
-few_made Wrong s once = no_load (loads_of s)
+few_made _ s once = no_load (loads_of s)
 
 few_answer : (q : model.DomainPlace) (a : Answer) (s : model.DomainAlone) → FewMore s (take_answer q a s)
 unfolding take_answer
 few_answer (model.Running slot answers) a s = few_answered slot answers a _ s (once_tried slot _ s.part)
-few_answer model.Between a s = no_load (loads_of s)
-few_answer (model.Other hart) a s = no_load (loads_of s)
-few_answer model.Done a s = no_load (loads_of s)
-few_answer model.Stopped a s = no_load (loads_of s)
+few_answer _ a s = no_load (loads_of s)
 
 few_timer : (q : model.DomainPlace) (s : model.DomainAlone) → FewMore s (take_timer q s)
 unfolding take_timer
 few_timer (model.Running slot []) s = no_load (loads_of s)
-few_timer (model.Running slot (a ∷ answers)) s = no_load (loads_of s)
-few_timer model.Between s = no_load (loads_of s)
-few_timer (model.Other hart) s = no_load (loads_of s)
-few_timer model.Done s = no_load (loads_of s)
-few_timer model.Stopped s = no_load (loads_of s)
+few_timer _ s = no_load (loads_of s)
 
 few_either : (b : Bool) (s x y : model.DomainAlone) → FewMore s x → FewMore s y → FewMore s (cond b x y)
 few_either true s x y p q = p
@@ -138,10 +120,7 @@ few_resumed r s = few_either (is_granted r.answer) s _ _ (no_load (loads_of s)) 
 few_resume : (d : ℕ) (q : model.DomainPlace) (ctx reply : ℕ) (s : model.DomainAlone) → FewMore s (take_resume d q ctx reply s)
 unfolding take_resume
 few_resume d (model.Other hart) ctx reply s = few_either _ s _ _ (few_resumed _ s) (no_load (loads_of s))
-few_resume d model.Between ctx reply s = no_load (loads_of s)
-few_resume d (model.Running slot answers) ctx reply s = no_load (loads_of s)
-few_resume d model.Done ctx reply s = no_load (loads_of s)
-few_resume d model.Stopped ctx reply s = no_load (loads_of s)
+few_resume d _ ctx reply s = no_load (loads_of s)
 
 -- the end of the domain keeps its loads
 few_gone : (d : ℕ) (s : model.DomainAlone) → FewMore s (domain_gone d s)
@@ -164,10 +143,7 @@ few_over d false model.Done s = no_load (loads_of s)
 few_ended : (q : model.DomainPlace) (s : model.DomainAlone) → FewMore s (domain_step_ended q s)
 unfolding domain_step_ended
 few_ended (model.Running slot answers) s = few_made _ s (once_tried slot answers s.part)
-few_ended model.Between s = no_load (loads_of s)
-few_ended (model.Other hart) s = no_load (loads_of s)
-few_ended model.Done s = no_load (loads_of s)
-few_ended model.Stopped s = no_load (loads_of s)
+few_ended _ s = no_load (loads_of s)
 
 few_begun : (schedule : List ℕ) (number : ℕ) (s now : model.DomainAlone) → FewMore s now → FewMore s (domain_step_begun schedule number now)
 unfolding domain_step_begun
@@ -188,10 +164,6 @@ few_takes : (d : ℕ) (schedule : List ℕ) (i : Item) (s : model.DomainAlone) �
 unfolding domain_takes
 few_takes d schedule (item.Step number) s = few_step schedule number s.place s
 few_takes d schedule (item.Close steps) s = few_ended s.place s
-few_takes d schedule (item.Ok domain) s = few_either _ s _ s (few_answer s.place _ s) (no_load (loads_of s))
-few_takes d schedule (item.Absent domain cause) s = few_either _ s _ s (few_answer s.place _ s) (no_load (loads_of s))
-few_takes d schedule (item.Word domain value) s = few_either _ s _ s (few_answer s.place _ s) (no_load (loads_of s))
-few_takes d schedule (item.Stopped domain) s = few_either _ s _ s (few_answer s.place _ s) (no_load (loads_of s))
 few_takes d schedule (item.Timer domain) s = few_either _ s _ s (few_timer s.place s) (no_load (loads_of s))
 few_takes d schedule (item.Resume domain ctx reply) s = few_either _ s _ s (few_resume d s.place ctx reply s) (no_load (loads_of s))
 few_takes d schedule (item.Ended domain) s = few_either _ s _ s (few_over d _ s.place s) (no_load (loads_of s))
@@ -199,6 +171,7 @@ few_takes d schedule (item.Cipher frame bytes) s = no_load (loads_of s)
 few_takes d schedule (item.Put address width value) s = no_load (loads_of s)
 few_takes d schedule (item.Leave shown) s = no_load (loads_of s)
 few_takes d schedule item.End s = no_load (loads_of s)
+few_takes d schedule _ s = few_either _ s _ s (few_answer s.place _ s) (no_load (loads_of s))
 
 pub few_taken : (d : ℕ) (schedule : List ℕ) (s : model.DomainAlone) (i : Item) → length (take_domain_item d schedule s i).part.domain.loads ≤ length s.part.domain.loads + 1
 unfolding take_domain_item

@@ -59,9 +59,7 @@ slots_fork_cleared : (domain : ℕ) (c : Context) (slot new : ℕ) (r : Resource
     length (forks.fork_cleared domain c slot new r contexts a w).answer.spaces.contexts ≡ length contexts
 unfolding forks.fork_cleared forks.forked
 slots_fork_cleared domain c slot new r contexts told.Ok w = length-set contexts slot _
-slots_fork_cleared domain c slot new r contexts (told.Absent cause) w = refl
-slots_fork_cleared domain c slot new r contexts (told.Word value) w = refl
-slots_fork_cleared domain c slot new r contexts told.Stopped w = refl
+slots_fork_cleared domain c slot new r contexts _ w = refl
 
 slots_fork_if : (fits : Result (Unit {0}) MapFault) (domain : ℕ) (c : Context) (r : Resources) (contexts : List (Option Context)) (w : World) →
     length (forks.fork_if fits domain c r contexts w).answer.spaces.contexts ≡ length contexts
@@ -85,9 +83,7 @@ slots_end_cleared : (domain slot space : ℕ) (r : Resources) (contexts : List (
     length (forks.end_cleared domain slot space r contexts a w).answer.spaces.contexts ≡ length contexts
 unfolding forks.end_cleared
 slots_end_cleared domain slot space r contexts told.Ok w = length-set contexts slot None
-slots_end_cleared domain slot space r contexts (told.Absent cause) w = refl
-slots_end_cleared domain slot space r contexts (told.Word value) w = refl
-slots_end_cleared domain slot space r contexts told.Stopped w = refl
+slots_end_cleared domain slot space r contexts _ w = refl
 
 slots_end_if : (others : Bool) (domain slot space : ℕ) (r : Resources) (contexts : List (Option Context)) (w : World) →
     length (forks.end_if others domain slot space r contexts w).answer.spaces.contexts ≡ length contexts
@@ -103,40 +99,31 @@ slots_end domain slot space r contexts w = slots_end_if _ domain slot space r co
 slots_end_told : (slot : ℕ) (c : Context) (d : Control) (ending : Ended) (now : Control) → SameSlots d now →
     SameSlots d (calling.end_told slot c d ending now).control
 unfolding calling.end_told
-slots_end_told slot c d ends.Kept now same = same
-slots_end_told slot c d (ends.SpaceGone space) now same = same
 slots_end_told slot c d ends.Stopped now same = refl
+slots_end_told slot c d _ now same = same
 
 slots_hypercall : (call : Hypercall) (slot : ℕ) (c : Context) (d : Control) (w : World) → SameSlots d (calling.hypercall call slot c d w).answer.control
 unfolding calling.hypercall calling.new_call calling.map_call calling.unmap_call calling.file_call calling.thread_call calling.fork_call calling.exit_call calling.kernel_call
-slots_hypercall calling.New slot c d w = length-set d.contexts slot _
 slots_hypercall calling.Map slot c d w = slots_remapped slot c _ _
 slots_hypercall calling.Unmap slot c d w = slots_remapped slot c _ _
-slots_hypercall calling.File slot c d w = length-set d.contexts slot _
 slots_hypercall calling.Thread slot c d w =
     either_control _ d (calling.thread_at slot c (first_free d.contexts) d) _ (slots_thread_at slot c _ d) (set_slot slot _ d)
 slots_hypercall calling.ForkSpace slot c d w = slots_fork_told slot c d _ _ (slots_fork d.number c d.resources d.contexts w)
 slots_hypercall calling.Exit slot c d w = slots_end_told slot c d _ _ (slots_end d.number slot c.space d.resources d.contexts w)
 slots_hypercall calling.Call slot c d w = slots_call_begun slot _ _ d
 slots_hypercall calling.Unknown slot c d w = set_slot slot _ d
+slots_hypercall _ slot c d w = length-set d.contexts slot _
 
 slots_ended : (slot : ℕ) (d : Domain) (c : Context) (e : Ran) (w : World) → SameSlots d.control (step.instruction_ended slot d c e w).answer.domain.control
 unfolding step.instruction_ended
-slots_ended slot d c ran.Stay w = set_slot slot _ d.control
-slots_ended slot d c (ran.Loaded address value) w = set_slot slot _ d.control
-slots_ended slot d c (ran.Trap cause address) w = set_slot slot _ d.control
 slots_ended slot d c ran.Ecall w = slots_hypercall _ slot c d.control w
 slots_ended slot d c ran.Stopped w = refl
+slots_ended slot d c _ w = set_slot slot _ d.control
 
 slots_copy : (slot : ℕ) (d : Domain) (c : Context) (e : Copied) → SameSlots d.control (step.copy_ended slot d c e).domain.control
 unfolding step.copy_ended
-slots_copy slot d c copied.Going = set_slot slot _ d.control
-slots_copy slot d c copied.CallReady = set_slot slot _ d.control
-slots_copy slot d c copied.Done = set_slot slot _ d.control
-slots_copy slot d c (copied.Absent cause address) = set_slot slot _ d.control
 slots_copy slot d c copied.Stopped = refl
-slots_copy slot d c copied.Refused = set_slot slot _ d.control
-slots_copy slot d c (copied.Loaded address byte) = set_slot slot _ d.control
+slots_copy slot d c _ = set_slot slot _ d.control
 
 -- a write after a step
 slots_written : (wrote : Option WordPlace) (d : Control) (s : DomainStepped) → SameSlots d s.domain.control → SameSlots d (step.after_write wrote s).domain.control

@@ -67,8 +67,7 @@ unfolding made_by
 over_made mid machine answers s (Over p) tried fit unfit steps domain side at =
     stands_at machine s p model.Between fit unfit steps (part_of_same mid machine p domain side tried)
     (sym (ap (λ (q : DomainPlace). place_told (hart_at (schedule_in machine) machine.steps) q) at))
-over_made mid machine answers s Wants tried fit unfit steps domain side at = absurd tried
-over_made mid machine answers s Wrong tried fit unfit steps domain side at = absurd tried
+over_made mid machine answers s _ tried fit unfit steps domain side at = absurd tried
 
 pub other_made : (mid machine : DomainAlone) (given : Handing) (answers : List Answer) (s : model.DomainAlone) (t : Tried) (n : ℕ) → IsTried mid given answers s t → given ≢ handing.Over →
     machine.unfit ≡ Some (record { step = n }) → n ≡ s.steps → StandsForState machine (made_by t s)
@@ -93,8 +92,7 @@ unfolding answered_by
 over_answered mid machine slot so_far a answers s (Over p) tried fit unfit steps domain side at =
     stands_at machine s p (cond (is_stopped a) model.Stopped model.Done) fit unfit steps (part_of_same mid machine p domain side tried)
     (place_behind (is_stopped a) _ ∙ sym (ap (λ (q : DomainPlace). place_told (hart_at (schedule_in machine) machine.steps) q) at))
-over_answered mid machine slot so_far a answers s Wants tried fit unfit steps domain side at = absurd tried
-over_answered mid machine slot so_far a answers s Wrong tried fit unfit steps domain side at = absurd tried
+over_answered mid machine slot so_far a answers s _ tried fit unfit steps domain side at = absurd tried
 
 -- fewer than two answers are one
 one_of : (first : Answer) (second : Option Answer) → length (answers_in (Some first) second) < 2 → answers_in (Some first) second ≡ one_answer (Some first)
@@ -116,9 +114,8 @@ wants_answered mid machine slot so_far a first second s Wrong are tried fit unfi
 pub wrong_answered : (mid machine : DomainAlone) (slot : ℕ) (so_far : List Answer) (a : Answer) (answers : List Answer) (s : model.DomainAlone) (t : Tried) (n : ℕ) → IsTried mid handing.Wrong answers s t →
     machine.unfit ≡ Some (record { step = n }) → n ≡ s.steps → StandsForState machine (answered_by slot so_far a t s)
 unfolding answered_by
-wrong_answered mid machine slot so_far a answers s (Over p) n tried is steps = absurd tried
-wrong_answered mid machine slot so_far a answers s Wants n tried is steps = absurd tried
 wrong_answered mid machine slot so_far a answers s Wrong n tried is steps = stands_unfit machine s n is steps
+wrong_answered mid machine slot so_far a answers s _ n tried is steps = absurd tried
 
 -- The same for answers, and for a hart, that are equal.
 
@@ -204,11 +201,8 @@ stopped_step old machine schedule number s stands is unfit =
 step_at : (machine : DomainAlone) (schedule : List ℕ) (number hart : ℕ) (s : model.DomainAlone) (q : DomainPlace) → (q ≡ place.Stopped → ⊥) →
     StandsForState machine (then_begun schedule number (domain_step_ended (place_told hart q) s)) → StandsForState machine (take_domain_step schedule number (place_told hart q) s)
 unfolding take_domain_step
-step_at machine schedule number hart s place.Between never there = there
-step_at machine schedule number hart s place.Other never there = there
-step_at machine schedule number hart s (place.Running slot answer) never there = there
-step_at machine schedule number hart s place.Done never there = there
 step_at machine schedule number hart s place.Stopped never there = absurd (never refl)
+step_at machine schedule number hart s _ never there = there
 
 pub next_step : (old machine : DomainAlone) (schedule : List ℕ) (number : ℕ) (s : model.DomainAlone) → StandsWhileFit old s → (old.place ≡ place.Stopped → ⊥) →
     StandsForState machine (then_begun schedule number (domain_step_ended s.place s)) → StandsForState machine (take_domain_step schedule number s.place s)
@@ -250,11 +244,8 @@ answer_running old machine s slot answer a stands is there = placed old machine 
 
 answer_at : (q : DomainPlace) (hart : ℕ) (a : Answer) (s : model.DomainAlone) → ((slot : ℕ) (answer : Option Answer) → q ≡ place.Running slot answer → ⊥) → take_answer (place_told hart q) a s ≡ domain_unfit s
 unfolding take_answer
-answer_at place.Between hart a s never = refl
-answer_at place.Other hart a s never = refl
 answer_at (place.Running slot answer) hart a s never = absurd (never slot answer refl)
-answer_at place.Done hart a s never = refl
-answer_at place.Stopped hart a s never = refl
+answer_at _ hart a s never = refl
 
 pub answer_elsewhere : (old machine : DomainAlone) (s : model.DomainAlone) (a : Answer) → StandsWhileFit old s → ((slot : ℕ) (answer : Option Answer) → old.place ≡ place.Running slot answer → ⊥) →
     machine.unfit ≡ Some (record { step = old.steps }) → StandsForState machine (take_answer s.place a s)
@@ -278,11 +269,8 @@ timer_answered old machine s slot (Some a) stands is never unfit =
 
 timer_at : (q : DomainPlace) (hart : ℕ) (s : model.DomainAlone) → ((slot : ℕ) (answer : Option Answer) → q ≡ place.Running slot answer → ⊥) → take_timer (place_told hart q) s ≡ domain_unfit s
 unfolding take_timer
-timer_at place.Between hart s never = refl
-timer_at place.Other hart s never = refl
 timer_at (place.Running slot answer) hart s never = absurd (never slot answer refl)
-timer_at place.Done hart s never = refl
-timer_at place.Stopped hart s never = refl
+timer_at _ hart s never = refl
 
 pub timer_elsewhere : (old machine : DomainAlone) (s : model.DomainAlone) → StandsWhileFit old s → ((slot : ℕ) (answer : Option Answer) → old.place ≡ place.Running slot answer → ⊥) →
     machine.unfit ≡ Some (record { step = old.steps }) → StandsForState machine (take_timer s.place s)
@@ -333,11 +321,8 @@ resume_foreign old machine s d ctx reply stands is other unfit =
 
 resume_at : (q : DomainPlace) (hart d ctx reply : ℕ) (s : model.DomainAlone) → (q ≡ place.Other → ⊥) → take_resume d (place_told hart q) ctx reply s ≡ domain_unfit s
 unfolding take_resume
-resume_at place.Between hart d ctx reply s never = refl
 resume_at place.Other hart d ctx reply s never = absurd (never refl)
-resume_at (place.Running slot answer) hart d ctx reply s never = refl
-resume_at place.Done hart d ctx reply s never = refl
-resume_at place.Stopped hart d ctx reply s never = refl
+resume_at _ hart d ctx reply s never = refl
 
 pub resume_elsewhere : (old machine : DomainAlone) (s : model.DomainAlone) (d ctx reply : ℕ) → StandsWhileFit old s → (old.place ≡ place.Other → ⊥) →
     machine.unfit ≡ Some (record { step = old.steps }) → StandsForState machine (take_resume d s.place ctx reply s)
@@ -433,12 +418,8 @@ pub ignored : (machine : DomainAlone) (d : ℕ) (schedule : List ℕ) (i : Item)
     ((n : ℕ) → i ≡ item.Ok n → ⊥) → ((n k : ℕ) → i ≡ item.Absent n k → ⊥) → ((n k : ℕ) → i ≡ item.Word n k → ⊥) → ((n : ℕ) → i ≡ item.Timer n → ⊥) →
     ((n c r : ℕ) → i ≡ item.Resume n c r → ⊥) → ((n : ℕ) → i ≡ item.Stopped n → ⊥) → ((n : ℕ) → i ≡ item.Ended n → ⊥) → StandsForState machine s → StandsForState machine (domain_takes d schedule i s)
 unfolding domain_takes
-ignored machine d schedule (item.Cipher frame bytes) s step close ok absent word timer resume stop over stands = stands
-ignored machine d schedule (item.Put address width value) s step close ok absent word timer resume stop over stands = stands
-ignored machine d schedule (item.Leave shown) s step close ok absent word timer resume stop over stands = stands
 ignored machine d schedule (item.Step n) s step close ok absent word timer resume stop over stands = absurd (step n refl)
 ignored machine d schedule (item.Close n) s step close ok absent word timer resume stop over stands = absurd (close n refl)
-ignored machine d schedule item.End s step close ok absent word timer resume stop over stands = stands
 ignored machine d schedule (item.Ok n) s step close ok absent word timer resume stop over stands = absurd (ok n refl)
 ignored machine d schedule (item.Absent n k) s step close ok absent word timer resume stop over stands = absurd (absent n k refl)
 ignored machine d schedule (item.Word n k) s step close ok absent word timer resume stop over stands = absurd (word n k refl)
@@ -446,6 +427,7 @@ ignored machine d schedule (item.Timer n) s step close ok absent word timer resu
 ignored machine d schedule (item.Resume n c r) s step close ok absent word timer resume stop over stands = absurd (resume n c r refl)
 ignored machine d schedule (item.Stopped n) s step close ok absent word timer resume stop over stands = absurd (stop n refl)
 ignored machine d schedule (item.Ended n) s step close ok absent word timer resume stop over stands = absurd (over n refl)
+ignored machine d schedule _ s step close ok absent word timer resume stop over stands = stands
 
 -- The answer of a call.
 

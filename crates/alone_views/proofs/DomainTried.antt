@@ -4,7 +4,7 @@ use Rattle.std.specs.Prelude.{option_map, is_some}
 use Rattle.std.proofs.lemmas.Bool.{false≢true}
 use Rattle.cloak_base.specs.declared.names.HartId.{HartId}
 use Rattle.cloak_model.specs.declared.answer.Answer.{Answer}
-use Rattle.cloak_model.specs.World.{World, Flat, Cloaked, Alone, Handed, is_clashed}
+use Rattle.cloak_model.specs.World.{World, Alone, Handed, is_clashed}
 use Rattle.cloak_model.specs.AskPages.{HasPages}
 use Rattle.cloak_model.specs.Contexts.{Context, context_at}
 use Rattle.cloak_model.specs.Resources.{Resources}
@@ -33,9 +33,8 @@ pub pages_alone : (slot : ℕ) (d : program.Control) (h : Handed) → HasPagesOf
 pages_alone slot d h = pages_for d.number d.resources (context_at d.contexts slot) h
 
 unclashed : (h : Handed) (d : program.Domain) (a : DomainStepped) (w : World) → Steps h d (record { answer = a; world = w }) → is_clashed w ≡ false
-unclashed h d a (Flat ram) o = absurd o
-unclashed h d a (Cloaked c) o = absurd o
 unclashed h d a (Alone now) o = refl
+unclashed h d a _ o = absurd o
 
 pub step_unclashed : (h : Handed) (slot : ℕ) (d : program.Domain) → h.unfit ≡ false → is_clashed (domain_step slot d (Alone h)).world ≡ false
 step_unclashed h slot d fit = unclashed h d (domain_step slot d (Alone h)).answer (domain_step slot d (Alone h)).world (asks_step h slot d fit)
@@ -86,13 +85,12 @@ tried_by : (machine : DomainAlone) (answers : List Answer) (s : model.DomainAlon
     Steps h s.part.domain (record { answer = a; world = w }) → given ≡ handing_of machine.side.unfit (answers_of machine.side) →
     IsTried machine given answers s (tried a.domain (handed_of w))
 unfolding tried
-tried_by machine answers s h a (Flat ram) given plain handed eight slots domain side o is = absurd side
-tried_by machine answers s h a (Cloaked c) given plain handed eight slots domain side o is = absurd side
 tried_by machine answers s h a (Alone now) given plain handed eight slots domain side o is =
     let same : given ≡ handing_of now.unfit now.answers =
     is ∙ (ap (λ (b : Bool). handing_of b (answers_of machine.side)) side.unfit ∙ ap (λ (l : List Answer). handing_of now.unfit l) side.answers) in
     subst (λ (x : Handing). IsTried machine x answers s (tried a.domain now)) (sym same)
     (tried_now machine answers s h now a now.unfit now.answers refl refl plain handed eight slots domain side.pages o)
+tried_by machine answers s h a _ given plain handed eight slots domain side o is = absurd side
 
 -- a program with its pages and these answers
 abbrev pub handed_to : model.DomainAlone → List Answer → Handed

@@ -5,7 +5,7 @@ use Rattle.cloak_model.specs.Exchange.{Piece, Emits, shown_each}
 use Rattle.cloak_model.specs.KernelAlone as model
 use Rattle.cloak_model.specs.KernelAlone.{plain_step, kernel_step_ended, console_byte}
 use Rattle.cloak_model.specs.declared.outcome.Kernel.{Kernel}
-use Rattle.cloak_model.specs.declared.outcome.Kernel.TheVariants.{Stay, Trapped, Put, Halt, Resume}
+use Rattle.cloak_model.specs.declared.outcome.Kernel.TheVariants.{Put}
 use Rattle.kernel_report.specs.declared.console.Console.{Console}
 use Rattle.alone_views.specs.KernelConsole.{ConsoleCounts}
 use Rattle.alone_views.specs.KernelPlaces.{stood_place}
@@ -67,10 +67,7 @@ gains_then {E} gave e e' mid new turns s t next gains becomes =
 
 one_byte : (k : Kernel) → length (console_byte k) ≤ 1
 one_byte (Put b) = omega arith
-one_byte Stay = omega arith
-one_byte Trapped = omega arith
-one_byte (Halt value) = omega arith
-one_byte (Resume ctx answer) = omega arith
+one_byte _ = omega arith
 
 -- the byte of a plain step
 pub gains_byte : {E : Type 0} (gave : E → E → List Piece → Type 0) (e e' : E) (old mid new : KernelAlone)

@@ -9,7 +9,7 @@ use Rattle.cloak_base.proofs.Pages.{told, same_numbers, same_page_tells, is_of_t
 use Rattle.cloak_model.specs.declared.answer.Answer.{Answer}
 use Rattle.cloak_model.specs.Memory.{with_value_in}
 use Rattle.cloak_model.specs.Asking.{Follows, FollowsWhere, FollowsFrom}
-use Rattle.cloak_model.specs.World.{Flat, Cloaked, Alone, Handed, HasPage, plain_of}
+use Rattle.cloak_model.specs.World.{Alone, Handed, HasPage, plain_of}
 use Rattle.cloak_model.specs.AskPages.{next_answer, is_for_access, is_for_value, is_for_clearing, of_width, ask_reach, ask_write, ask_get, ask_put, ask_clear, ask_copy, ask_forget}
 use Rattle.alone_views.specs.DomainPages.{HasPlain}
 use Rattle.alone_views.specs.Side.{IsOwnPage, StandsForHanded, IsAloneNow, IsAlone, answers_in, answers_of}
@@ -36,31 +36,27 @@ takes_noted side noted side' given is_fit pages first second unfit takes h stand
 pub reach_follows : (side side' : HandedSide) (given : Answer) (q : PageId) (va : ℕ) (kind : Kind) → Takes side side' given is_for_access →
     FollowsWhere (HasPage va q) IsAlone side side' given (ask_reach q va kind)
 unfolding ask_reach
-reach_follows side side' given q va kind takes first (Flat ram) has stands unclashed = absurd stands
-reach_follows side side' given q va kind takes first (Cloaked c) has stands unclashed = absurd stands
 reach_follows side side' given q va kind takes first (Alone h) has stands unclashed = takes h stands
+reach_follows side side' given q va kind takes first _ has stands unclashed = absurd stands
 
 pub put_follows : (side side' : HandedSide) (given : Answer) (va width value : ℕ) → Takes side side' given is_for_access →
     Follows IsAlone side side' given (ask_put va width value)
 unfolding ask_put
-put_follows side side' given va width value takes first (Flat ram) stands unclashed = absurd stands
-put_follows side side' given va width value takes first (Cloaked c) stands unclashed = absurd stands
 put_follows side side' given va width value takes first (Alone h) stands unclashed = takes h stands
+put_follows side side' given va width value takes first _ stands unclashed = absurd stands
 
 pub clear_follows : (side side' : HandedSide) (given : Answer) (domain : ℕ) (marked : List Bool) → Takes side side' given is_for_clearing →
     Follows IsAlone side side' given (ask_clear domain marked)
 unfolding ask_clear
-clear_follows side side' given domain marked takes first (Flat ram) stands unclashed = absurd stands
-clear_follows side side' given domain marked takes first (Cloaked c) stands unclashed = absurd stands
 clear_follows side side' given domain marked takes first (Alone h) stands unclashed = takes h stands
+clear_follows side side' given domain marked takes first _ stands unclashed = absurd stands
 
 pub get_follows : (side side' : HandedSide) (taken given : Answer) (va width : ℕ) → given ≡ of_width width taken → Takes side side' taken is_for_value →
     Follows IsAlone side side' given (ask_get va width)
 unfolding ask_get
-get_follows side side' taken given va width cut takes first (Flat ram) stands unclashed = absurd stands
-get_follows side side' taken given va width cut takes first (Cloaked c) stands unclashed = absurd stands
 get_follows side side' taken given va width cut takes first (Alone h) stands unclashed =
     let told = takes h stands in record { answer = cut ∙ ap (λ (a : Answer). of_width width a) told.answer; stands = told.stands }
+get_follows side side' taken given va width cut takes first _ stands unclashed = absurd stands
 
 -- different pages stand at different places
 apart : (domain : ℕ) (p q : PageId) → IsOwnPage domain p → IsOwnPage domain q → place p ≡ place q → p ≡ q
@@ -94,8 +90,6 @@ pub write_follows : (side side' : HandedSide) (q : PageId) (at width value : ℕ
     → side'.pages ≡ slice_set side.pages (place q) (with_value_in (slice_index_or side.pages (place q) []) at width value) →
     Follows IsAlone side side' tt (ask_write q at width value)
 unfolding ask_write
-write_follows side side' q at width value kept all hq now first (Flat ram) stands unclashed = absurd stands
-write_follows side side' q at width value kept all hq now first (Cloaked c) stands unclashed = absurd stands
 write_follows side side' q at width value kept all hq now first (Alone h) stands unclashed = record {
   answer = refl;
   stands = record {
@@ -109,6 +103,7 @@ write_follows side side' q at width value kept all hq now first (Alone h) stands
     unfit = kept.unfit ∙ stands.unfit;
   };
 }
+write_follows side side' q at width value kept all hq now first _ stands unclashed = absurd stands
 
 -- what stands in the pages of one resource and in those of the others, by the number of the resource
 by_resource : (domain r : ℕ) (p : PageId) (was now : PageId → List ℕ) (bytes : List ℕ) → p.domain ≡ domain → p.page < 1024 → place p < 16384 →
@@ -132,8 +127,6 @@ pub copy_follows : (side side' : HandedSide) (domain from to : ℕ) → domain �
     → ((k : ℕ) → to * 1024 + 1024 ≤ k → slice_index_or side'.pages k [] ≡ slice_index_or side.pages k [])
     → Follows IsAlone side side' tt (ask_copy domain from to)
 unfolding ask_copy
-copy_follows side side' domain from to own low_from low_to kept inside below above first (Flat ram) stands unclashed = absurd stands
-copy_follows side side' domain from to own low_from low_to kept inside below above first (Cloaked c) stands unclashed = absurd stands
 copy_follows side side' domain from to own low_from low_to kept inside below above first (Alone h) stands unclashed = record {
   answer = refl;
   stands = record {
@@ -150,6 +143,7 @@ copy_follows side side' domain from to own low_from low_to kept inside below abo
     unfit = kept.unfit ∙ stands.unfit;
   };
 }
+copy_follows side side' domain from to own low_from low_to kept inside below above first _ stands unclashed = absurd stands
 
 pub forget_follows : (side side' : HandedSide) (domain resource : ℕ) → domain ≡ side.domain → ChangesPages side side'
     → ((k : ℕ) → resource * 1024 ≤ k → k < resource * 1024 + 1024 → slice_index_or side'.pages k [] ≡ zero_page)
@@ -157,8 +151,6 @@ pub forget_follows : (side side' : HandedSide) (domain resource : ℕ) → domai
     → ((k : ℕ) → resource * 1024 + 1024 ≤ k → slice_index_or side'.pages k [] ≡ slice_index_or side.pages k [])
     → Follows IsAlone side side' tt (ask_forget domain resource)
 unfolding ask_forget
-forget_follows side side' domain resource own kept inside below above first (Flat ram) stands unclashed = absurd stands
-forget_follows side side' domain resource own kept inside below above first (Cloaked c) stands unclashed = absurd stands
 forget_follows side side' domain resource own kept inside below above first (Alone h) stands unclashed = record {
   answer = refl;
   stands = record {
@@ -172,3 +164,4 @@ forget_follows side side' domain resource own kept inside below above first (Alo
     unfit = kept.unfit ∙ stands.unfit;
   };
 }
+forget_follows side side' domain resource own kept inside below above first _ stands unclashed = absurd stands

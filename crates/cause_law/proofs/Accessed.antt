@@ -28,19 +28,21 @@ use Rattle.cloak_model.specs.declared.outcome.Effect.TheVariants as does
 use Rattle.cloak_model.specs.declared.resource.MapFault.{MapFault}
 use Rattle.cloak_model.specs.Asking.{Told, answered}
 use Rattle.cloak_model.specs.AskPages.{ask_reach, ask_read, ask_get}
-use Rattle.cloak_model.specs.Calls.{Copy, buffer, area, call_length, byte_address, is_cloaked, in_put, in_reached, in_placed, in_step, copy_in_step, out_reached, out_got, out_placed, out_step, copy_out_step}
+use Rattle.cloak_model.specs.Calls.{Copy, buffer, area, call_length, byte_address, is_cloaked, copy_in_step, copy_out_step}
+use Rattle.cloak_model.proofs.CallParts.{in_put, in_reached, in_placed, in_step, out_reached, out_got, out_placed, out_step}
 use Rattle.cloak_model.specs.Contexts.{Context}
 use Rattle.cloak_model.specs.DomainState.{Control, Domain}
 use Rattle.cloak_model.specs.DomainStep.{DomainStepped, instruction_ended, copy_ended, after_write, phase_step}
 use Rattle.cloak_model.specs.Effect.{effect}
 use Rattle.cloak_model.specs.Fork.{fork_cleared, fork_if, fork, end_cleared, end_if, end_context}
-use Rattle.cloak_model.specs.Hypercalls.{Hypercall, New, Map, Unmap, File, Thread, ForkSpace, Exit, Call, Unknown, fork_call, exit_call, hypercall, hypercall_of}
-use Rattle.cloak_model.specs.InsideStep.{AfterInstruction, loaded_inside, load_reached, load_got, load_inside, store_reached, store_put, store_inside, conditional_inside, atomic_granted, atomic_reached, atomic_placed, traps, atomic_inside, system_inside, done_inside, decoded_inside, executed_inside, fetched_inside, fetch, instruction_inside}
+use Rattle.cloak_model.specs.Hypercalls.{Hypercall, ForkSpace, Exit, fork_call, exit_call, hypercall, hypercall_of}
+use Rattle.cloak_model.specs.InsideStep.{AfterInstruction, load_inside, store_inside, atomic_granted, atomic_placed, traps, atomic_inside, system_inside, done_inside, decoded_inside, fetch, instruction_inside}
+use Rattle.cloak_model.proofs.InsideParts.{loaded_inside, load_reached, load_got, store_reached, store_put, conditional_inside, atomic_reached, executed_inside, fetched_inside}
 use Rattle.cloak_model.specs.Joint.{pages_for}
 use Rattle.cloak_model.specs.KernelStep.{atomic_kind, misaligned}
 use Rattle.cloak_model.specs.Memory.{value_in}
 use Rattle.cloak_model.specs.Resources.{Resources, page_at}
-use Rattle.cloak_model.specs.World.{World, Cloak, Flat, Cloaked, Alone, regime_of, plain_of}
+use Rattle.cloak_model.specs.World.{World, Cloak, Cloaked, regime_of, plain_of}
 use Rattle.domain_isolation.proofs.Answers.{question_answered}
 use Rattle.script_fold.proofs.Scripts.{Question, Reach, Get}
 use Rattle.cause_law.specs.Presented.{Executes, AsksAt, Fetches, LoadsAt, StoresAt, AtomicAt, CopiesFrom, CopiesTo}
@@ -86,10 +88,9 @@ met_in d c begun q va kind k lies regime asks t (inr met) = inr (
 asks_goes : (d : Domain) (c : Context) (begun w : World) (q : PageId) (va : ℕ) (kind : Kind) →
     pages_for d (Some c) va ≡ Some q → regime_of w ≡ regime_of begun → AsksAt d c begun va kind w → Calm w →
     let t = ask_reach q va kind w in Goes d c begun t.answer t.world
-asks_goes d c begun (Flat ram) q va kind lies regime asks calm = absurd calm
 asks_goes d c begun (Cloaked k) q va kind lies regime asks calm =
     met_in d c begun q va kind k lies regime asks _ (asked_meets q va kind k calm)
-asks_goes d c begun (Alone h) q va kind lies regime asks calm = absurd calm
+asks_goes d c begun _ q va kind lies regime asks calm = absurd calm
 
 reach_regime : (q : PageId) (va : ℕ) (kind : Kind) (w : World) → Calm w → regime_of (ask_reach q va kind w).world ≡ regime_of w
 reach_regime q va kind w calm =
@@ -106,7 +107,7 @@ get_regime va width w calm =
 load_goes : (d : Domain) (c : Context) (begun : World) (q : PageId) (rd va width : ℕ) (is_signed : Bool) (a : Answer)
     (w : World) → Goes d c begun a w →
     EndsCalmOrMet IsStoppedRun d c begun (load_reached c q rd va width is_signed a w)
-unfolding load_reached loaded_inside ask_read
+unfolding ask_read
 load_goes d c begun q rd va width is_signed a w (inl calm) = inl (calm_by a)
   where
     calm_by : (a : Answer) → Calm (load_reached c q rd va width is_signed a w).world
@@ -121,7 +122,6 @@ load_goes d c begun q rd va width is_signed (told.Word value) w (inr met) = let 
 
 store_goes : (d : Domain) (c : Context) (begun : World) (q : PageId) (va width value : ℕ) (a : Answer) (w : World) →
     Goes d c begun a w → EndsCalmOrMet IsStoppedRun d c begun (store_reached c q va width value a w)
-unfolding store_reached
 store_goes d c begun q va width value a w (inl calm) = inl (calm_by a)
   where
     calm_by : (a : Answer) → Calm (store_reached c q va width value a w).world
@@ -136,18 +136,12 @@ store_goes d c begun q va width value (told.Word other) w (inr met) = let is = m
 
 calms_load_got : (c : Context) (rd va width : ℕ) (is_signed : Bool) (a : Answer) (w : World) →
     Calms w (load_got c rd va width is_signed a w).world
-unfolding load_got
 calms_load_got c rd va width is_signed told.Ok w = Calms-refl w
-calms_load_got c rd va width is_signed (told.Absent cause) w = Calms-refl w
-calms_load_got c rd va width is_signed (told.Word value) w = Calms-refl w
-calms_load_got c rd va width is_signed told.Stopped w = Calms-refl w
+calms_load_got c rd va width is_signed _ w = Calms-refl w
 
 calms_store_put : (c : Context) (va : ℕ) (a : Answer) (w : World) → Calms w (store_put c va a w).world
-unfolding store_put
 calms_store_put c va told.Ok w = Calms-refl w
-calms_store_put c va (told.Absent cause) w = Calms-refl w
-calms_store_put c va (told.Word value) w = Calms-refl w
-calms_store_put c va told.Stopped w = Calms-refl w
+calms_store_put c va _ w = Calms-refl w
 
 load_meets : (d : Domain) (c : Context) (begun : World) (rd va width : ℕ) (is_signed : Bool) (o : Option PageId)
     (w : World) → pages_for d (Some c) va ≡ o → regime_of w ≡ regime_of begun → AsksAt d c begun va Load w → Calm w →
@@ -180,22 +174,17 @@ done_meets : (d : Domain) (c : Context) (begun : World) (word : ℕ) (i : Instr)
     Calm w →
     EndsCalmOrMet IsStoppedRun d c begun (done_inside d.control.number d.control.resources c i e w)
 unfolding done_inside
-done_meets d c begun word i (does.Write rd value) w runs found is regime calm = inl calm
-done_meets d c begun word i (does.Jump rd link target) w runs found is regime calm = inl calm
-done_meets d c begun word i (does.Go target) w runs found is regime calm = inl calm
 done_meets d c begun word i (does.Load rd va width is_signed) w runs found is regime calm =
     load_meets d c begun rd va width is_signed _ w refl regime (LoadsAt word i runs found rd width is_signed is refl) calm
 done_meets d c begun word i (does.Store va width value) w runs found is regime calm =
     store_meets d c begun va width value _ w refl regime (StoresAt word i runs found width value is refl) calm
 done_meets d c begun word i does.System w runs found is regime calm = inl ((calms_system c i w).by calm)
-done_meets d c begun word i does.Nothing w runs found is regime calm = inl calm
-done_meets d c begun word i (does.Raise cause value) w runs found is regime calm = inl calm
+done_meets d c begun word i _ w runs found is regime calm = inl calm
 
 -- Atomic instructions.
 
 calms_conditional : (reserved : Bool) (c : Context) (rd : ℕ) (q : PageId) (va operand : ℕ) (w : World) →
     Calms w (conditional_inside reserved c rd q va operand w).world
-unfolding conditional_inside
 calms_conditional true c rd q va operand w = calms_writes q (va % 4096) 4 operand w
 calms_conditional false c rd q va operand w = Calms-refl w
 
@@ -209,7 +198,6 @@ calms_granted c rd op q va operand w = calms_writes q (va % 4096) 4 _ w
 atomic_goes : (d : Domain) (c : Context) (begun : World) (rd : ℕ) (op : AtomicOp) (q : PageId) (va operand : ℕ)
     (a : Answer) (w : World) → Goes d c begun a w →
     EndsCalmOrMet IsStoppedRun d c begun (atomic_reached c rd op q va operand a w)
-unfolding atomic_reached
 atomic_goes d c begun rd op q va operand a w (inl calm) = inl (calm_by a)
   where
     calm_by : (a : Answer) → Calm (atomic_reached c rd op q va operand a w).world
@@ -265,7 +253,7 @@ fetched_goes : (d : Domain) (c : Context) (begun : World) (q : PageId) (a : Answ
     pages_for d (Some c) c.pc ≡ Some q → ask_reach q c.pc Fetch begun ≡ record { answer = a; world = w } →
     regime_of w ≡ regime_of begun → Goes d c begun a w →
     EndsCalmOrMet IsStoppedRun d c begun (fetched_inside d.control.number d.control.resources c q a w)
-unfolding fetched_inside executed_inside ask_read
+unfolding ask_read
 fetched_goes d c begun q told.Ok w plain lies granted regime (inl calm) =
     decoded_meets d c begun (value_in (plain_of w q) (c.pc % 4096) 4) _ w
     (record { plain = plain; page = q; lies = lies; granted = granted; has = refl }) refl regime calm
@@ -292,9 +280,7 @@ calms_fork_cleared : (domain : ℕ) (c : Context) (slot new : ℕ) (r : Resource
     (a : Answer) (w : World) → Calms w (fork_cleared domain c slot new r contexts a w).world
 unfolding fork_cleared
 calms_fork_cleared domain c slot new r contexts told.Ok w = calms_copies domain _ w
-calms_fork_cleared domain c slot new r contexts (told.Absent cause) w = Calms-refl w
-calms_fork_cleared domain c slot new r contexts (told.Word value) w = Calms-refl w
-calms_fork_cleared domain c slot new r contexts told.Stopped w = Calms-refl w
+calms_fork_cleared domain c slot new r contexts _ w = Calms-refl w
 
 calms_fork : (fits : Result (Unit {0}) MapFault) (domain : ℕ) (c : Context) (r : Resources)
     (contexts : List (Option Context)) (w : World) → Calms w (fork_if fits domain c r contexts w).world
@@ -307,9 +293,7 @@ calms_end_cleared : (domain slot space : ℕ) (r : Resources) (contexts : List (
     Calms w (end_cleared domain slot space r contexts a w).world
 unfolding end_cleared
 calms_end_cleared domain slot space r contexts told.Ok w = calms_forgets domain _ w
-calms_end_cleared domain slot space r contexts (told.Absent cause) w = Calms-refl w
-calms_end_cleared domain slot space r contexts (told.Word value) w = Calms-refl w
-calms_end_cleared domain slot space r contexts told.Stopped w = Calms-refl w
+calms_end_cleared domain slot space r contexts _ w = Calms-refl w
 
 calms_end : (others : Bool) (domain slot space : ℕ) (r : Resources) (contexts : List (Option Context)) (w : World) →
     Calms w (end_if others domain slot space r contexts w).world
@@ -321,15 +305,9 @@ calms_end false domain slot space r contexts w =
 calms_hypercall : (call : Hypercall) (slot : ℕ) (c : Context) (d : Control) (w : World) →
     Calms w (hypercall call slot c d w).world
 unfolding hypercall fork_call fork exit_call end_context
-calms_hypercall New slot c d w = Calms-refl w
-calms_hypercall Map slot c d w = Calms-refl w
-calms_hypercall Unmap slot c d w = Calms-refl w
-calms_hypercall File slot c d w = Calms-refl w
-calms_hypercall Thread slot c d w = Calms-refl w
 calms_hypercall ForkSpace slot c d w = calms_fork _ d.number c d.resources d.contexts w
 calms_hypercall Exit slot c d w = calms_end _ d.number slot c.space d.resources d.contexts w
-calms_hypercall Call slot c d w = Calms-refl w
-calms_hypercall Unknown slot c d w = Calms-refl w
+calms_hypercall _ slot c d w = Calms-refl w
 
 ran_meets : (slot : ℕ) (d : Domain) (c made : Context) (begun : World) (e : Ran) (w : World) →
     Calm w ⊎ ((e ≡ ran.Stopped) × MetIn d c begun w) →
@@ -350,15 +328,12 @@ ran_meets slot d c made begun ran.Ecall w (inr met) = let is = met.0 in absurd c
 -- Copies.
 
 calms_in_put : (c : Context) (done byte : ℕ) (a : Answer) (w : World) → Calms w (in_put c done byte a w).world
-unfolding in_put
 calms_in_put c done byte told.Ok w = Calms-refl w
-calms_in_put c done byte (told.Absent cause) w = Calms-refl w
-calms_in_put c done byte (told.Word value) w = Calms-refl w
-calms_in_put c done byte told.Stopped w = Calms-refl w
+calms_in_put c done byte _ w = Calms-refl w
 
 in_goes : (d : Domain) (c : Context) (begun : World) (q : PageId) (done : ℕ) (a : Answer) (w : World) →
     Goes d c begun a w → EndsCalmOrMet IsStoppedCopy d c begun (in_reached c q done a w)
-unfolding in_reached ask_read
+unfolding ask_read
 in_goes d c begun q done told.Ok w (inl calm) =
     inl ((Calms-trans _ _ _ (calms_asks_put (byte_address (area c) done) 1 _ w) (calms_in_put c done _ _ _)).by calm)
 in_goes d c begun q done (told.Absent cause) w (inl calm) = inl calm
@@ -374,7 +349,6 @@ in_meets : (d : Domain) (c : Context) (begun : World) (done : ℕ) (o : Option P
     pages_for d (Some c) (byte_address (buffer c) done) ≡ o →
     is_cloaked d.control.resources c (byte_address (area c) done) ≡ cloaked → Calm begun →
     EndsCalmOrMet IsStoppedCopy d c begun (in_placed c done o cloaked begun)
-unfolding in_placed
 in_meets d c begun done None cloaked phase more lies is calm = inl calm
 in_meets d c begun done (Some q) true phase more lies is calm = inl calm
 in_meets d c begun done (Some q) false phase more lies is calm =
@@ -384,13 +358,11 @@ in_meets d c begun done (Some q) false phase more lies is calm =
 in_step_meets : (d : Domain) (c : Context) (begun : World) (done : ℕ) (all : Bool) → c.phase ≡ CopyIn done →
     nat_le (call_length c) done ≡ all → Calm begun →
     EndsCalmOrMet IsStoppedCopy d c begun (in_step all d.control.number d.control.resources c done begun)
-unfolding in_step
 in_step_meets d c begun done true phase more calm = inl calm
 in_step_meets d c begun done false phase more calm = in_meets d c begun done _ _ phase more refl refl calm
 
 out_goes : (d : Domain) (c : Context) (begun : World) (q : PageId) (done total byte : ℕ) (a : Answer) (w : World) →
     Goes d c begun a w → EndsCalmOrMet IsStoppedCopy d c begun (out_reached c q done total byte a w)
-unfolding out_reached
 out_goes d c begun q done total byte told.Ok w (inl calm) =
     inl ((calms_writes q (byte_address (buffer c) done % 4096) 1 byte w).by calm)
 out_goes d c begun q done total byte (told.Absent cause) w (inl calm) = inl calm
@@ -408,20 +380,16 @@ got_goes : (d : Domain) (c : Context) (begun : World) (q : PageId) (done total :
     ask_get (byte_address (area c) done) 1 begun ≡ record { answer = a; world = w } →
     regime_of w ≡ regime_of begun → Calm w →
     EndsCalmOrMet IsStoppedCopy d c begun (out_got c q done total a w)
-unfolding out_got
 got_goes d c begun q done total (told.Word byte) w phase more lies is got regime calm =
     out_goes d c begun q done total byte _ _ (asks_goes d c begun w q (byte_address (buffer c) done) Store lies regime
     (CopiesTo done total byte phase (leb-false total done more) refl is got refl) calm)
-got_goes d c begun q done total (told.Absent cause) w phase more lies is got regime calm = inl calm
-got_goes d c begun q done total told.Ok w phase more lies is got regime calm = inl calm
-got_goes d c begun q done total told.Stopped w phase more lies is got regime calm = inl calm
+got_goes d c begun q done total _ w phase more lies is got regime calm = inl calm
 
 out_meets : (d : Domain) (c : Context) (begun : World) (done total : ℕ) (o : Option PageId) (cloaked : Bool) →
     c.phase ≡ CopyOut done total → nat_le total done ≡ false →
     pages_for d (Some c) (byte_address (buffer c) done) ≡ o →
     is_cloaked d.control.resources c (byte_address (area c) done) ≡ cloaked → Calm begun →
     EndsCalmOrMet IsStoppedCopy d c begun (out_placed c done total o cloaked begun)
-unfolding out_placed
 out_meets d c begun done total None cloaked phase more lies is calm = inl calm
 out_meets d c begun done total (Some q) true phase more lies is calm = inl calm
 out_meets d c begun done total (Some q) false phase more lies is calm =
@@ -432,7 +400,6 @@ out_meets d c begun done total (Some q) false phase more lies is calm =
 out_step_meets : (d : Domain) (c : Context) (begun : World) (done total : ℕ) (all : Bool) →
     c.phase ≡ CopyOut done total → nat_le total done ≡ all → Calm begun →
     EndsCalmOrMet IsStoppedCopy d c begun (out_step all d.control.number d.control.resources c done total begun)
-unfolding out_step
 out_step_meets d c begun done total true phase more calm = inl calm
 out_step_meets d c begun done total false phase more calm = out_meets d c begun done total _ _ phase more refl refl calm
 

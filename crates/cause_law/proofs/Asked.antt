@@ -44,14 +44,12 @@ pub record HasMet (q : PageId) (va : ℕ) (kind : Kind) (asked c : Cloak) : Type
   pub there : frame_of walked.pa ≡ frame
 
 abbrev pub Calm : World → Type 0
-Calm (Flat seen) = ⊥
 Calm (Cloaked c) = IsCalm c
-Calm (Alone h) = ⊥
+Calm _ = ⊥
 
 abbrev pub Met : PageId → ℕ → Kind → Cloak → World → Type 0
-Met q va kind asked (Flat seen) = ⊥
 Met q va kind asked (Cloaked c) = HasMet q va kind asked c
-Met q va kind asked (Alone h) = ⊥
+Met q va kind asked _ = ⊥
 
 pub record Calms (w v : World) : Type 0 where
   pub by : Calm w → Calm v
@@ -251,6 +249,5 @@ pub calms_end : (d : ℕ) (w : World) → Calms w (ask_end d w).world
 calms_end d w = keeps_end Calms calm_replies.opens.settles calms_forget d w
 
 pub is_cloaked_calm : (w : World) → Calm w → is_cloaked w ≡ true
-is_cloaked_calm (Flat seen) calm = absurd calm
 is_cloaked_calm (Cloaked c) calm = refl
-is_cloaked_calm (Alone h) calm = absurd calm
+is_cloaked_calm _ calm = absurd calm

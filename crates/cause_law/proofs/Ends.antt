@@ -17,7 +17,7 @@ use Rattle.cloak_model.specs.Hart.{Hart}
 use Rattle.cloak_model.specs.Joint.{Turn, hart_in, memory_of, outside_ended, after_outside, outside_step, domain_ended, after_domain_step, interrupt_ended, after_interrupt, by_interrupt, by_running, inside_step, turn_of, domain_met, end_domain, refuses, ends_once, ends_resumed, ends_asked, answers_violation}
 use Rattle.cloak_model.specs.KernelStep.{ticked}
 use Rattle.cloak_model.specs.Parts.{Joint}
-use Rattle.cloak_model.specs.World.{World, Flat, Cloaked, Alone}
+use Rattle.cloak_model.specs.World.{World, Cloaked}
 use Rattle.domain_isolation.proofs.InOrder.{same_some}
 use Rattle.cause_law.specs.Causes.{EndsBy, CountsRefused}
 use Rattle.cause_law.proofs.Asked.{Calm, calms_end}
@@ -34,31 +34,22 @@ pub record LeavesList (j j' : Joint) : Type 0 where
 outside_leaves : (j : Joint) (number : ℕ) (items : List Item) (e : Kernel) →
     LeavesList j (outside_ended j number items e).joint
 unfolding outside_ended
-outside_leaves j number items kernel.Stay = record { listed = refl; refused = refl }
-outside_leaves j number items kernel.Trapped = record { listed = refl; refused = refl }
-outside_leaves j number items (kernel.Put b) = record { listed = refl; refused = refl }
-outside_leaves j number items (kernel.Halt value) = record { listed = refl; refused = refl }
 outside_leaves j number items (kernel.Resume ctx reply) =
     let leaves = resume_leaves j number (satp_of (hart_in j number).csrs) ctx reply in
     record { listed = leaves.ended; refused = leaves.refused }
+outside_leaves j number items _ = record { listed = refl; refused = refl }
 
 domain_leaves : (j : Joint) (number : ℕ) (h : Hart) (d : ℕ) (w : World) (g : Went) →
     LeavesList j (domain_ended j number h d w g).joint
 unfolding domain_ended
 domain_leaves j number h d w went.Stay = record { listed = refl; refused = refl }
-domain_leaves j number h d w went.Stopped = record { listed = refl; refused = refl }
-domain_leaves j number h d w (went.Remapped space) = record { listed = refl; refused = refl }
-domain_leaves j number h d w (went.Leave s) = record { listed = refl; refused = refl }
-domain_leaves j number h d w (went.SpaceGone space s) = record { listed = refl; refused = refl }
+domain_leaves j number h d w _ = record { listed = refl; refused = refl }
 
 interrupt_leaves : (j : Joint) (number : ℕ) (h : Hart) (items : List Item) (g : Went) →
     LeavesList j (interrupt_ended j number h items g).joint
 unfolding interrupt_ended
 interrupt_leaves j number h items went.Stay = record { listed = refl; refused = refl }
-interrupt_leaves j number h items went.Stopped = record { listed = refl; refused = refl }
-interrupt_leaves j number h items (went.Remapped space) = record { listed = refl; refused = refl }
-interrupt_leaves j number h items (went.Leave s) = record { listed = refl; refused = refl }
-interrupt_leaves j number h items (went.SpaceGone space s) = record { listed = refl; refused = refl }
+interrupt_leaves j number h items _ = record { listed = refl; refused = refl }
 
 due_leaves : (due : Bool) (j : Joint) (number : ℕ) (h : Hart) (d slot : ℕ) (was : Domain) →
     LeavesList j (by_interrupt due j number h d slot was).joint
@@ -90,9 +81,8 @@ turn_leaves j number h (Some ctx) = inside_leaves j number (ticked h) ctx _
 -- The end leaves a memory that is kept.
 
 memory_kept : (w : World) (m : CloakedMemory) → Calm w → IsKept (memory_of w m)
-memory_kept (Flat seen) m calm = absurd calm
 memory_kept (Cloaked c) m calm = calm.kept
-memory_kept (Alone h) m calm = absurd calm
+memory_kept _ m calm = absurd calm
 
 -- What is kept from step to step: a place for each of four domains in the list, which has exactly those that have
 -- ended; a memory in which no page is owed twice; and no context of a domain that has ended.

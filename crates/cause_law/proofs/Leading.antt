@@ -20,9 +20,8 @@ use Rattle.cause_law.proofs.Settled.{settles}
 
 -- a joint machine's memory of which this holds
 abbrev pub OfMemory : (CloakedMemory → Type 0) → World → Type 0
-OfMemory P (Flat seen) = ⊥
 OfMemory P (Cloaked c) = P c.memory
-OfMemory P (Alone h) = ⊥
+OfMemory P _ = ⊥
 
 -- A word of RAM, which the kernel sees.
 record Sees (m : CloakedMemory) (pa : ℕ) (word : Option ℕ) : Type 0 where
@@ -97,7 +96,6 @@ second_walks : (satp : ℕ) (a : Access) (at0 : ℕ) (word : Option ℕ) (c : Cl
     has_paging satp ≡ true → Sees c.memory (first_entry satp a.va) word →
     first_word a (first_entry satp a.va) word ≡ GoesOn at0 → OfMemory (Shows c at0 second) v →
     OfMemory (Walks satp a (second_word a (first_entry satp a.va) at0 second)) v
-second_walks satp a at0 word c second (Flat seen) has sees is shows = absurd shows
 second_walks satp a at0 word c second (Cloaked d) has sees is shows =
     λ m' more.
     let at1 = first_entry satp a.va in
@@ -105,7 +103,7 @@ second_walks satp a at0 word c second (Cloaked d) has sees is shows =
     (sees_still c.memory m' at1 word sees (Extends-trans c.memory d.memory m' shows.more more))
     ∙ (ap (walk_after m'.ram a at1) is
     ∙ ap (second_word a at1 at0) (sees_still d.memory m' at0 second shows.sees more))
-second_walks satp a at0 word c second (Alone h) has sees is shows = absurd shows
+second_walks satp a at0 word c second _ has sees is shows = absurd shows
 
 after_walks : (satp : ℕ) (a : Access) (word : Option ℕ) (first : FirstWord) (c : Cloak) → IsKept c.memory →
     has_paging satp ≡ true → Sees c.memory (first_entry satp a.va) word →
@@ -124,9 +122,8 @@ first_walks : (satp : ℕ) (a : Access) (c : Cloak) (word : Option ℕ) (v : Wor
     OfMemory (Shows c (first_entry satp a.va) word) v →
     let t = ask_after a (first_entry satp a.va) (first_word a (first_entry satp a.va) word) v in
     OfMemory (Walks satp a t.answer) t.world
-first_walks satp a c word (Flat seen) has shows = absurd shows
 first_walks satp a c word (Cloaked d) has shows = after_walks satp a word _ d shows.kept has shows.sees refl
-first_walks satp a c word (Alone h) has shows = absurd shows
+first_walks satp a c word _ has shows = absurd shows
 
 walks_by : (b : Bool) (satp : ℕ) (a : Access) (c : Cloak) → IsKept c.memory → has_paging satp ≡ b →
     let t = cond b (ask_first a (first_entry satp a.va) (Cloaked c))

@@ -31,7 +31,7 @@ use Rattle.cloak_model.specs.DomainState.{Control, Domain, started_control, star
 use Rattle.cloak_model.specs.DomainStep.{DomainStepped, instruction_ended, copy_ended, after_write, phase_step, step_if, domain_step, interrupt_if, interrupt, answer_taken, resume_told, resume_slot}
 use Rattle.cloak_model.specs.Ending.{ended_domain}
 use Rattle.cloak_model.specs.Hart.{Hart}
-use Rattle.cloak_model.specs.Hypercalls.{Stepped, remapped, new_call, map_call, unmap_call, file_call, thread_at, thread_call, fork_told, fork_call, end_told, exit_call, call_begun, kernel_call, Hypercall, New, Map, Unmap, File, Thread, ForkSpace, Exit, Call, Unknown, hypercall}
+use Rattle.cloak_model.specs.Hypercalls.{Stepped, remapped, new_call, map_call, unmap_call, file_call, thread_at, thread_call, fork_told, fork_call, end_told, exit_call, call_begun, kernel_call, Hypercall, Map, Unmap, Thread, ForkSpace, Exit, Call, hypercall}
 use Rattle.cloak_model.specs.Joint.{outside_ended, after_outside, outside_step, domain_ended, after_domain_step, interrupt_ended, after_interrupt, by_interrupt, by_running, inside_step, turn_of}
 use Rattle.cloak_model.specs.KernelStep.{ticked}
 use Rattle.cloak_model.specs.Opening.{started_domains}
@@ -153,16 +153,14 @@ over_thread slot c d = either d _ _ _ (over_thread_at slot c _ d) refl
 over_fork : (slot : ℕ) (c : Context) (d d' : Control) (made : Result (Option CtxId) MapFault) → d'.ended ≡ d.ended →
     (fork_told slot c d made d').control.ended ≡ d.ended
 unfolding fork_told
-over_fork slot c d d' (Err f) same = refl
-over_fork slot c d d' (Ok None) same = refl
 over_fork slot c d d' (Ok (Some ctx)) same = same
+over_fork slot c d d' _ same = refl
 
 over_end : (slot : ℕ) (c : Context) (d d' : Control) (ending : Ended) → d'.ended ≡ d.ended →
     (end_told slot c d ending d').control.ended ≡ d.ended
 unfolding end_told
-over_end slot c d d' ends.Kept same = same
-over_end slot c d d' (ends.SpaceGone space) same = same
 over_end slot c d d' ends.Stopped same = refl
+over_end slot c d d' _ same = same
 
 over_begun : (slot : ℕ) (c : Context) (made : Result Begun MapFault) (d : Control) →
     (call_begun slot c made d).control.ended ≡ d.ended
@@ -174,35 +172,25 @@ over_begun slot c (Ok begun.Leave) d = refl
 over_hypercall : (h : Hypercall) (slot : ℕ) (c : Context) (d : Control) (w : World) →
     (hypercall h slot c d w).answer.control.ended ≡ d.ended
 unfolding hypercall new_call map_call unmap_call file_call fork_call exit_call kernel_call
-over_hypercall New slot c d w = refl
 over_hypercall Map slot c d w = over_remapped slot c _ _
 over_hypercall Unmap slot c d w = over_remapped slot c _ _
-over_hypercall File slot c d w = refl
 over_hypercall Thread slot c d w = over_thread slot c d
 over_hypercall ForkSpace slot c d w = over_fork slot c d _ _ refl
 over_hypercall Exit slot c d w = over_end slot c d _ _ refl
 over_hypercall Call slot c d w = over_begun slot _ _ d
-over_hypercall Unknown slot c d w = refl
+over_hypercall _ slot c d w = refl
 
 over_instruction : (slot : ℕ) (d : Domain) (c : Context) (e : Ran) (w : World) →
     (instruction_ended slot d c e w).answer.domain.control.ended ≡ d.control.ended
 unfolding instruction_ended
-over_instruction slot d c ran.Stay w = refl
-over_instruction slot d c (ran.Loaded address value) w = refl
-over_instruction slot d c (ran.Trap cause address) w = refl
 over_instruction slot d c ran.Ecall w = over_hypercall _ slot c d.control w
-over_instruction slot d c ran.Stopped w = refl
+over_instruction slot d c _ w = refl
 
 over_copy : (slot : ℕ) (d : Domain) (c : Context) (e : Copied) →
     (copy_ended slot d c e).domain.control.ended ≡ d.control.ended
 unfolding copy_ended
 over_copy slot d c copied.Going = refl
-over_copy slot d c copied.CallReady = refl
-over_copy slot d c copied.Done = refl
-over_copy slot d c (copied.Absent cause address) = refl
-over_copy slot d c copied.Stopped = refl
-over_copy slot d c copied.Refused = refl
-over_copy slot d c (copied.Loaded address byte) = refl
+over_copy slot d c _ = refl
 
 over_written : (wrote : Option WordPlace) (s : DomainStepped) →
     (after_write wrote s).domain.control.ended ≡ s.domain.control.ended
@@ -297,11 +285,8 @@ domain_moves j hart satp ctx reply (Some was) there =
 outside_moves : (j : Joint) (number : ℕ) (items : List Item) (e : Kernel) →
     Moves j.domains (outside_ended j number items e).joint.domains
 unfolding outside_ended resume
-outside_moves j number items kernel.Stay = Stays refl
-outside_moves j number items kernel.Trapped = Stays refl
-outside_moves j number items (kernel.Put b) = Stays refl
-outside_moves j number items (kernel.Halt value) = Stays refl
 outside_moves j number items (kernel.Resume ctx reply) = domain_moves j number _ ctx reply _ refl
+outside_moves j number items _ = Stays refl
 
 -- A hart inside.
 
@@ -310,19 +295,13 @@ domain_same : (j : Joint) (number : ℕ) (h : Hart) (d : ℕ) (w : World) (g : W
     (domain_ended j number h d w g).joint.domains ≡ j.domains
 unfolding domain_ended
 domain_same j number h d w went.Stay = refl
-domain_same j number h d w went.Stopped = refl
-domain_same j number h d w (went.Remapped space) = refl
-domain_same j number h d w (went.Leave s) = refl
-domain_same j number h d w (went.SpaceGone space s) = refl
+domain_same j number h d w _ = refl
 
 interrupt_same : (j : Joint) (number : ℕ) (h : Hart) (items : List Item) (g : Went) →
     (interrupt_ended j number h items g).joint.domains ≡ j.domains
 unfolding interrupt_ended
 interrupt_same j number h items went.Stay = refl
-interrupt_same j number h items went.Stopped = refl
-interrupt_same j number h items (went.Remapped space) = refl
-interrupt_same j number h items (went.Leave s) = refl
-interrupt_same j number h items (went.SpaceGone space s) = refl
+interrupt_same j number h items _ = refl
 
 due_moves : (due : Bool) (j : Joint) (number : ℕ) (h : Hart) (d slot : ℕ) (was : Domain) (c : Context) →
     slice_get j.domains d ≡ Some was → context_at was.control.contexts slot ≡ Some c →

@@ -22,14 +22,16 @@ use Rattle.cloak_model.specs.declared.outcome.Effect.{Effect}
 use Rattle.cloak_model.specs.declared.outcome.Effect.TheVariants as does
 use Rattle.cloak_model.specs.Asking.{Told, answered}
 use Rattle.cloak_model.specs.AskPages.{ask_reach, ask_read, ask_get}
-use Rattle.cloak_model.specs.Calls.{Copy, buffer, area, call_length, byte_address, is_cloaked, in_reached, in_placed, in_step, copy_in_step, out_reached, out_got, out_placed, out_step, copy_out_step}
+use Rattle.cloak_model.specs.Calls.{Copy, buffer, area, call_length, byte_address, is_cloaked, copy_in_step, copy_out_step}
+use Rattle.cloak_model.proofs.CallParts.{in_reached, in_placed, in_step, out_reached, out_got, out_placed, out_step}
 use Rattle.cloak_model.specs.Contexts.{Context, context_at, domain_of, slot_of}
 use Rattle.cloak_model.specs.DomainAlone.{runs_on}
 use Rattle.cloak_model.specs.DomainState.{Domain}
 use Rattle.cloak_model.specs.DomainStep.{DomainStepped, within, instruction_ended, copy_ended, after_write, phase_step, step_if, domain_step}
 use Rattle.cloak_model.specs.Effect.{effect}
 use Rattle.cloak_model.specs.Hypercalls.{stopped}
-use Rattle.cloak_model.specs.InsideStep.{AfterInstruction, load_reached, load_inside, store_reached, store_inside, atomic_reached, atomic_placed, traps, atomic_inside, done_inside, decoded_inside, executed_inside, fetched_inside, fetch, instruction_inside}
+use Rattle.cloak_model.specs.InsideStep.{AfterInstruction, load_inside, store_inside, atomic_placed, traps, atomic_inside, done_inside, decoded_inside, fetch, instruction_inside}
+use Rattle.cloak_model.proofs.InsideParts.{load_reached, store_reached, atomic_reached, executed_inside, fetched_inside}
 use Rattle.cloak_model.specs.Joint.{Moment, Turn, next_hart, cloak_of, domain_ended, after_domain_step, pages_for, by_interrupt, by_running, inside_step, turn_of, step_before_end}
 use Rattle.cloak_model.specs.KernelStep.{atomic_kind, misaligned, ticked}
 use Rattle.cloak_model.specs.World.{World, Cloaked}
@@ -68,7 +70,7 @@ plain_step slot d c w there plain =
 fetch_stops : (slot : ℕ) (d : Domain) (c : Context) (q : PageId) (w : World) (t : Told Answer) →
     context_at d.control.contexts slot ≡ Some c → c.phase ≡ Plain → pages_for d (Some c) c.pc ≡ Some q →
     ask_reach q c.pc Fetch w ≡ t → t.answer ≡ told.Stopped → domain_step slot d w ≡ halted d t.world
-unfolding fetch fetched_inside instruction_ended
+unfolding fetch instruction_ended
 fetch_stops slot d c q w t there plain lies same stops =
     let n = d.control.number in
     let r = d.control.resources in
@@ -82,7 +84,7 @@ word_step : (slot : ℕ) (d : Domain) (c : Context) (w v : World) (word : ℕ) �
     context_at d.control.contexts slot ≡ Some c → Executes d c w word v →
     domain_step slot d w
     ≡ ended slot d (decoded_inside d.control.number d.control.resources c word (instruction word) v)
-unfolding fetch fetched_inside executed_inside ask_read
+unfolding fetch ask_read
 word_step slot d c w v word there runs =
     let n = d.control.number in
     let r = d.control.resources in
@@ -105,7 +107,7 @@ load_stops : (slot : ℕ) (d : Domain) (c : Context) (q : PageId) (w v : World) 
     Executes d c w word v → instruction word ≡ Some i → effect i c.regs c.pc ≡ does.Load rd va width is_signed →
     pages_for d (Some c) va ≡ Some q → ask_reach q va Load v ≡ t → t.answer ≡ told.Stopped →
     domain_step slot d w ≡ halted d t.world
-unfolding done_inside load_inside load_reached instruction_ended
+unfolding done_inside load_inside instruction_ended
 load_stops slot d c q w v word i rd va width is_signed t there runs found loads lies same stops =
     let n = d.control.number in
     let r = d.control.resources in
@@ -120,7 +122,7 @@ store_stops : (slot : ℕ) (d : Domain) (c : Context) (q : PageId) (w v : World)
     Executes d c w word v → instruction word ≡ Some i → effect i c.regs c.pc ≡ does.Store va width value →
     pages_for d (Some c) va ≡ Some q → ask_reach q va Store v ≡ t → t.answer ≡ told.Stopped →
     domain_step slot d w ≡ halted d t.world
-unfolding done_inside store_inside store_reached instruction_ended
+unfolding done_inside store_inside instruction_ended
 store_stops slot d c q w v word i va width value t there runs found stores lies same stops =
     let n = d.control.number in
     let r = d.control.resources in
@@ -167,7 +169,7 @@ atomic_stops : (slot : ℕ) (d : Domain) (c : Context) (q : PageId) (w v : World
     pages_for d (Some c) (register c.regs a.rs1) ≡ Some q →
     ask_reach q (register c.regs a.rs1) (atomic_kind a.op) v ≡ t → t.answer ≡ told.Stopped →
     domain_step slot d w ≡ halted d t.world
-unfolding atomic_placed atomic_reached instruction_ended
+unfolding atomic_placed instruction_ended
 atomic_stops slot d c q w v word a t there runs found aligned lies same stops =
     let va = register c.regs a.rs1 in
     let operand = register c.regs a.rs2 in
@@ -184,7 +186,7 @@ in_stops : (slot : ℕ) (d : Domain) (c : Context) (q : PageId) (w : World) (don
     is_cloaked d.control.resources c (byte_address (area c) done) ≡ false →
     ask_reach q (byte_address (buffer c) done) Load w ≡ t → t.answer ≡ told.Stopped →
     domain_step slot d w ≡ halted d t.world
-unfolding domain_step step_if phase_step copy_in_step in_step in_placed in_reached copy_ended
+unfolding domain_step step_if phase_step copy_in_step copy_ended
 in_stops slot d c q w done t there phase more lies clear same stops =
     let n = d.control.number in
     let r = d.control.resources in
@@ -205,7 +207,7 @@ out_stops : (slot : ℕ) (d : Domain) (c : Context) (q : PageId) (w v : World) (
     ask_get (byte_address (area c) done) 1 w ≡ record { answer = told.Word byte; world = v } →
     ask_reach q (byte_address (buffer c) done) Store v ≡ t → t.answer ≡ told.Stopped →
     domain_step slot d w ≡ halted d t.world
-unfolding domain_step step_if phase_step copy_out_step out_step out_placed out_got out_reached copy_ended
+unfolding domain_step step_if phase_step copy_out_step copy_ended
 out_stops slot d c q w v done total byte t there phase more lies clear got same stops =
     let n = d.control.number in
     let r = d.control.resources in

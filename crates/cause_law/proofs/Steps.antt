@@ -80,12 +80,11 @@ unmarked_kept number m kept = record { places = kept.places; once = kept.once }
 ended_calm : (m : Moment) (j : Joint) (number : ℕ) (h : Hart) (e : ℕ) (c : Cloak) (g : Went) → IsKept j.memory →
     IsCalm c → Meets m (domain_ended j number h e (Cloaked c) g)
 unfolding domain_ended
-ended_calm m j number h e c went.Stay kept calm = quiet_meets m _ kept refl
 ended_calm m j number h e c went.Stopped kept calm = quiet_meets m _ kept calm.none
-ended_calm m j number h e c (went.Remapped space) kept calm = quiet_meets m _ kept refl
 ended_calm m j number h e c (went.Leave s) kept calm = quiet_meets m _ (unmarked_kept number j.memory kept) refl
 ended_calm m j number h e c (went.SpaceGone space s) kept calm =
     quiet_meets m _ (record { places = kept.places; once = kept.once }) refl
+ended_calm m j number h e c _ kept calm = quiet_meets m _ kept refl
 
 -- the page is of the program whose context made the step
 pub own_at : (d : Domain) (c : Context) (va : ℕ) (q : PageId) → pages_for d (Some c) va ≡ Some q →
@@ -144,11 +143,8 @@ told_meets m s j number h e (Alone x) g new owner (inr met) = absurd met.1.met
 interrupt_meets : (m : Moment) (j : Joint) (number : ℕ) (h : Hart) (items : List Item) (g : Went) → IsKept j.memory →
     Meets m (interrupt_ended j number h items g)
 unfolding interrupt_ended
-interrupt_meets m j number h items went.Stay kept = quiet_meets m _ kept refl
-interrupt_meets m j number h items went.Stopped kept = quiet_meets m _ kept refl
-interrupt_meets m j number h items (went.Remapped space) kept = quiet_meets m _ kept refl
 interrupt_meets m j number h items (went.Leave s) kept = quiet_meets m _ (unmarked_kept number j.memory kept) refl
-interrupt_meets m j number h items (went.SpaceGone space s) kept = quiet_meets m _ kept refl
+interrupt_meets m j number h items _ kept = quiet_meets m _ kept refl
 
 -- What is known of a step of a hart that runs a context of this program.
 record Running (m : Moment) (ctx : ℕ) (was : Domain) : Type 0 where

@@ -31,7 +31,7 @@ use Rattle.cloak_model.specs.Joint.{Moment, Turn, next_hart, hart_in, memory_of,
 use Rattle.cloak_model.specs.KernelStep.{ticked}
 use Rattle.cloak_model.specs.Parts.{Joint}
 use Rattle.cloak_model.specs.Resuming.{by_root, by_context, by_domain, resume}
-use Rattle.cloak_model.specs.World.{World, Flat, Cloaked, Alone, items_of, violation_of, is_missed, cipher_items}
+use Rattle.cloak_model.specs.World.{World, Cloaked, items_of, violation_of, is_missed, cipher_items}
 use Rattle.kernel_isolation.proofs.Numbers.{number_at}
 use Rattle.kernel_isolation.proofs.Turns.{IsSteady}
 use Rattle.domain_isolation.proofs.Answers.{IsServing}
@@ -124,13 +124,10 @@ ciphers_tell d (c ∷ ciphers) = ciphers_tell d ciphers
 ended_tells : (d : ℕ) (j : Joint) (number : ℕ) (ciphers : List (ℕ × List ℕ)) (e : Kernel) →
     Tells d None (outside_ended j number (cipher_items ciphers) e)
 unfolding outside_ended
-ended_tells d j number ciphers kernel.Stay = tells_none d _ _ (ciphers_tell d ciphers)
-ended_tells d j number ciphers kernel.Trapped = tells_none d _ _ (ciphers_tell d ciphers)
-ended_tells d j number ciphers (kernel.Put b) = tells_none d _ _ (ciphers_tell d ciphers)
-ended_tells d j number ciphers (kernel.Halt value) = tells_none d _ _ (ciphers_tell d ciphers)
 ended_tells d j number ciphers (kernel.Resume ctx reply) =
     tells_none d _ _ (ap (list_any is_stop) (after_ciphers d ciphers _)
     ∙ resume_tells d j number (satp_of (hart_in j number).csrs) ctx reply)
+ended_tells d j number ciphers _ = tells_none d _ _ (ciphers_tell d ciphers)
 
 outside_tells : (d : ℕ) (m : Moment) → (hart_of_step m).inside ≡ None → Tells d None (step_before_end m)
 unfolding settled_step made_after
@@ -147,18 +144,14 @@ left_half d items s = filter-append (is_inward d) items (item.Leave s ∷ []) �
 domain_half : (d : ℕ) (j : Joint) (number : ℕ) (h : Hart) (e : ℕ) (v : World) (g : Went) →
     inward_half d (domain_ended j number h e v g).items ≡ inward_half d (items_of v)
 unfolding domain_ended
-domain_half d j number h e v went.Stay = refl
-domain_half d j number h e v went.Stopped = refl
-domain_half d j number h e v (went.Remapped space) = refl
 domain_half d j number h e v (went.Leave s) = left_half d (items_of v) s
 domain_half d j number h e v (went.SpaceGone space s) = left_half d (items_of v) s
+domain_half d j number h e v _ = refl
 
 -- what is told of a stop is an answer that stops
 stop_answer : (a : Answer) (e : ℕ) → is_stop (answer_item e a) ≡ is_stopped a
 stop_answer told.Ok e = refl
-stop_answer (told.Absent cause) e = refl
-stop_answer (told.Word value) e = refl
-stop_answer told.Stopped e = refl
+stop_answer _ e = refl
 
 either_stops : (b : Bool) (i : Item) (items : List Item) (s later : Bool) → is_stop i ≡ s →
     (list_any is_stop items ≡ true → later ≡ true) → list_any is_stop (cond b (i ∷ items) items) ≡ true →
@@ -182,9 +175,8 @@ halted_by true some is = inl refl
 halted_by false some is = inr is
 
 missed_there : (v : World) (m : CloakedMemory) → is_missed v ≡ true → (memory_of v m).ledger.missed ≡ true
-missed_there (Flat seen) m is = absurd (false≢true is)
 missed_there (Cloaked c) m is = is
-missed_there (Alone h) m is = absurd (false≢true is)
+missed_there _ m is = absurd (false≢true is)
 
 domain_stops : (d : ℕ) (j : Joint) (number : ℕ) (h : Hart) (ctx : ℕ) (v : World) (g : Went) (was new : Domain) →
     g ≡ went.Stopped → is_halted v ≡ true → domain_of ctx ≡ d → slice_get j.domains (domain_of ctx) ≡ Some was →
@@ -211,9 +203,7 @@ domain_stops d j number h ctx v (went.SpaceGone space s) was new is halted own t
 -- answers are told to their own domain
 inward_answer : (d e : ℕ) (a : Answer) → is_inward d (answer_item e a) ≡ (e == d)
 inward_answer d e told.Ok = refl
-inward_answer d e (told.Absent cause) = refl
-inward_answer d e (told.Word value) = refl
-inward_answer d e told.Stopped = refl
+inward_answer d e _ = refl
 
 none_told : (d e : ℕ) (answers : List Answer) → (e == d) ≡ false → inward_half d (answer_items e answers) ≡ []
 none_told d e [] other = refl
@@ -257,13 +247,11 @@ played_tells d j number h ctx slot was w serving none owner there =
 interrupt_tells : (d : ℕ) (inside : Option ℕ) (j : Joint) (number : ℕ) (h : Hart) (e : ℕ) (g : Went) →
     Tells d inside (interrupt_ended j number h (item.Timer e ∷ []) g)
 unfolding interrupt_ended
-interrupt_tells d inside j number h e went.Stay = tells_none d inside _ (none_if _ (item.Timer e) refl)
-interrupt_tells d inside j number h e went.Stopped = tells_none d inside _ (none_if _ (item.Timer e) refl)
-interrupt_tells d inside j number h e (went.Remapped space) = tells_none d inside _ (none_if _ (item.Timer e) refl)
 interrupt_tells d inside j number h e (went.Leave s) =
     tells_none d inside _ (ap (list_any is_stop) (left_half d (item.Timer e ∷ []) s) ∙ none_if _ (item.Timer e) refl)
 interrupt_tells d inside j number h e (went.SpaceGone space s) =
     tells_none d inside _ (none_if _ (item.Timer e) refl)
+interrupt_tells d inside j number h e _ = tells_none d inside _ (none_if _ (item.Timer e) refl)
 
 interrupted_tells : (d : ℕ) (due : Bool) (j : Joint) (number : ℕ) (h : Hart) (ctx : ℕ) (was : Domain) →
     was.control.number ≡ domain_of ctx → slice_get j.domains (domain_of ctx) ≡ Some was →

@@ -12,7 +12,7 @@ use Rattle.cloak_model.specs.declared.inside.Went.{Went}
 use Rattle.cloak_model.specs.declared.inside.Went.TheVariants as went
 use Rattle.cloak_model.specs.declared.item.Item.{Item}
 use Rattle.cloak_model.specs.declared.outcome.Kernel.{Kernel}
-use Rattle.cloak_model.specs.declared.outcome.Kernel.TheVariants.{Stay, Put, Halt, Resume, Trapped}
+use Rattle.cloak_model.specs.declared.outcome.Kernel.TheVariants.{Stay, Resume}
 use Rattle.cloak_model.specs.Ahead.{settle_while, settle_found, settle_touched, settled_step, made_after, is_owed}
 use Rattle.cloak_model.specs.AskPages.{settled_if_marked, ask_forget}
 use Rattle.cloak_model.specs.Asking.{Told}
@@ -34,7 +34,7 @@ use Rattle.cloak_model.specs.Parts.{Joint}
 use Rattle.cloak_model.specs.Resuming.{by_root, by_context, by_domain, resume}
 use Rattle.cloak_model.specs.Run.{Run, run_from, run_of, turns_from, first_moment, joint_after, closing, settled_below}
 use Rattle.cloak_model.specs.StoredFiles.{PageContent, FileContents}
-use Rattle.cloak_model.specs.World.{World, Cloak, Flat, Cloaked, Alone, ram_of, settled}
+use Rattle.cloak_model.specs.World.{World, Cloak, Cloaked, ram_of, settled}
 use Rattle.domain_isolation.proofs.Steady.{settle_plain}
 use Rattle.kernel_isolation.proofs.FilesAdded.{IsGiven}
 use Rattle.kernel_isolation.proofs.Isolated.{of_opened}
@@ -86,11 +86,8 @@ resume_tidy j hart satp ctx reply tidy = domain_tidy j hart satp ctx reply _ tid
 ended_tidy : (j : Joint) (number : ℕ) (items : List Item) (e : Kernel) → JointTidy j →
     JointTidy (outside_ended j number items e).joint
 unfolding outside_ended
-ended_tidy j number items Stay tidy = tidy
-ended_tidy j number items Trapped tidy = tidy
-ended_tidy j number items (Put b) tidy = tidy
-ended_tidy j number items (Halt value) tidy = tidy
 ended_tidy j number items (Resume ctx reply) tidy = resume_tidy j number _ ctx reply tidy
+ended_tidy j number items _ tidy = tidy
 
 found_tidy : (o : Option ℕ) (next : CloakedMemory → AfterSettling) (m : CloakedMemory) → IsTidy m →
     ((x : CloakedMemory) → IsTidy x → IsTidy (next x).memory) → IsTidy (settle_found o next m).memory
@@ -122,15 +119,11 @@ went_tidy : (j : Joint) (number : ℕ) (h : Hart) (d : ℕ) (w : World) (how : W
     JointTidy (domain_ended j number h d w how).joint
 unfolding domain_ended
 went_tidy j number h d w went.Stay tidy = tidy
-went_tidy j number h d w went.Stopped tidy = tidy
-went_tidy j number h d w (went.Remapped space) tidy = tidy
-went_tidy j number h d w (went.Leave s) tidy = tidy
-went_tidy j number h d w (went.SpaceGone space s) tidy = tidy
+went_tidy j number h d w _ tidy = tidy
 
 memory_tidy : (w : World) (m : CloakedMemory) → KnowsIn w → IsTidy m → IsTidy (memory_of w m)
-memory_tidy (Flat seen) m here tidy = tidy
 memory_tidy (Cloaked c) m here tidy = here.1
-memory_tidy (Alone h) m here tidy = tidy
+memory_tidy _ m here tidy = tidy
 
 stepped_tidy : (j : Joint) (number : ℕ) (h : Hart) (d : ℕ) (told : Told DomainStepped) → JointTidy j →
     KnowsIn told.world → JointTidy (after_domain_step j number h d told).joint
@@ -142,10 +135,7 @@ interrupted_tidy : (j : Joint) (number : ℕ) (h : Hart) (items : List Item) (ho
     JointTidy (interrupt_ended j number h items how).joint
 unfolding interrupt_ended
 interrupted_tidy j number h items went.Stay tidy = tidy
-interrupted_tidy j number h items went.Stopped tidy = tidy
-interrupted_tidy j number h items (went.Remapped space) tidy = tidy
-interrupted_tidy j number h items (went.Leave s) tidy = tidy
-interrupted_tidy j number h items (went.SpaceGone space s) tidy = tidy
+interrupted_tidy j number h items _ tidy = tidy
 
 left_tidy : (j : Joint) (number : ℕ) (h : Hart) (d : ℕ) (was : Domain) (step : Stepped) → JointTidy j →
     JointTidy (after_interrupt j number h d was step).joint
@@ -182,14 +172,12 @@ turn_tidy j number h (Some ctx) places tidy = inside_tidy j number (ticked h) ct
 -- The end of a domain.
 
 abbrev TidyIn : World → Type 0
-TidyIn (Flat seen) = Unit {0}
 TidyIn (Cloaked c) = IsTidy c.memory
-TidyIn (Alone h) = Unit {0}
+TidyIn _ = Unit {0}
 
 settled_world : (f : ℕ) (w : World) → TidyIn w → TidyIn (settled f w)
-settled_world f (Flat seen) tidy = tt
 settled_world f (Cloaked c) tidy = settle_tidy f c.memory tidy
-settled_world f (Alone h) tidy = tt
+settled_world f _ tidy = tt
 
 either_world : (b : Bool) (w v : World) → TidyIn w → TidyIn v → TidyIn (cond b v w)
 either_world true w v here there = there
@@ -207,9 +195,8 @@ settled_for_world d f (suc n) w tidy =
 
 forget_world : (d resource : ℕ) (w : World) → TidyIn w → TidyIn (ask_forget d resource w).world
 unfolding ask_forget
-forget_world d resource (Flat seen) tidy = tt
 forget_world d resource (Cloaked c) tidy = drop_tidy d resource c.memory tidy
-forget_world d resource (Alone h) tidy = tt
+forget_world d resource _ tidy = tt
 
 forgets_world : (d : ℕ) (numbers : List ℕ) (w : World) → TidyIn w → TidyIn (ask_forgets d numbers w).world
 unfolding ask_forgets
@@ -223,9 +210,8 @@ end_world d w tidy =
     (settled_for_world d 0 (length (ram_of w)) w tidy)
 
 after_end : (w : World) (m : CloakedMemory) → TidyIn w → IsTidy m → IsTidy (memory_of w m)
-after_end (Flat seen) m here tidy = tidy
 after_end (Cloaked c) m here tidy = here
-after_end (Alone h) m here tidy = tidy
+after_end _ m here tidy = tidy
 
 end_tidy : (d : ℕ) (was : Domain) (v : Violation) (t : Turn) → slice_get t.joint.domains d ≡ Some was →
     JointTidy t.joint → JointTidy (end_domain d was v t).joint

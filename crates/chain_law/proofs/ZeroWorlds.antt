@@ -36,9 +36,8 @@ Stay (Alone h) (Alone h') = Unit {0}
 Stay _ _ = ⊥
 
 stay_same : (w : World) → Stay w w
-stay_same (Flat seen) = tt
 stay_same (Cloaked c) = fresh_same c.memory
-stay_same (Alone h) = tt
+stay_same _ = tt
 
 stay_then : (u v w : World) → Stay u v → Stay v w → Stay u w
 stay_then (Flat a) (Flat b) (Flat c) p q = tt
@@ -58,12 +57,10 @@ stay_then (Alone a) (Alone b) (Cloaked c) p q = absurd q
 stay_then (Alone a) (Alone b) (Alone c) p q = tt
 
 stay_settled : (f : ℕ) (w : World) → Stay w (settled f w)
-stay_settled f (Flat seen) = tt
 stay_settled f (Cloaked c) = settle_fresh f c.memory
-stay_settled f (Alone h) = tt
+stay_settled f _ = tt
 
 stay_stored : (pa width value : ℕ) (w : World) → Stay w (stored_at pa width value w)
-stay_stored pa width value (Flat seen) = tt
 stay_stored pa width value (Cloaked c) = record {
   frames = length-set c.memory.ram (frame_of pa) _;
   places = refl;
@@ -71,17 +68,15 @@ stay_stored pa width value (Cloaked c) = record {
   drawn = λ drawn. drawn;
   fresh = λ drawn q fresh. fresh;
 }
-stay_stored pa width value (Alone h) = tt
+stay_stored pa width value _ = tt
 
 stay_noted : (events : List Event) (w : World) → Stay w (noted events w)
-stay_noted events (Flat seen) = tt
 stay_noted events (Cloaked c) = fresh_same c.memory
-stay_noted events (Alone h) = tt
+stay_noted events _ = tt
 
 stay_written : (i : Item) (w : World) → Stay w (written i w)
-stay_written i (Flat seen) = tt
 stay_written i (Cloaked c) = fresh_same c.memory
-stay_written i (Alone h) = tt
+stay_written i _ = tt
 
 stay_plain : (domain : ℕ) (plain : PageId → List ℕ) (w : World) → Stay w (with_plain domain plain w)
 stay_plain domain plain (Flat seen) = tt
@@ -118,9 +113,8 @@ abbrev pub Knows : CloakedMemory → Type 0
 Knows m = HasPlaces m × IsTidy m
 
 abbrev pub KnowsIn : World → Type 0
-KnowsIn (Flat seen) = Unit {0}
 KnowsIn (Cloaked c) = Knows c.memory
-KnowsIn (Alone h) = Unit {0}
+KnowsIn _ = Unit {0}
 
 pub record Learns (w v : World) : Type 0 where
   pub by : KnowsIn w → KnowsIn v
@@ -157,18 +151,16 @@ learns_stay (Alone a) (Alone b) stay plain = record { by = λ knows. tt }
 plain_reach : (q : PageId) (va : ℕ) (kind : Kind) (w : World) → is_cloaked w ≡ true →
     plain_of (ask_reach q va kind w).world ≡ plain_of w
 unfolding ask_reach
-plain_reach q va kind (Flat seen) is = absurd (false≢true is)
 plain_reach q va kind (Cloaked c) is = (replied_reach q va kind (Cloaked c) refl).plain
-plain_reach q va kind (Alone h) is = absurd (false≢true is)
+plain_reach q va kind _ is = absurd (false≢true is)
 
 pub reach_learns : (q : PageId) (va : ℕ) (kind : Kind) (w : World) → Learns w (ask_reach q va kind w).world
 reach_learns q va kind w = learns_stay w _ (keeps_reach Stay kept q va kind w) (plain_reach q va kind w)
 
 plain_get : (va width : ℕ) (w : World) → is_cloaked w ≡ true → plain_of (ask_get va width w).world ≡ plain_of w
 unfolding ask_get
-plain_get va width (Flat seen) is = absurd (false≢true is)
 plain_get va width (Cloaked c) is = (replied_get va width (Cloaked c) refl).plain
-plain_get va width (Alone h) is = absurd (false≢true is)
+plain_get va width _ is = absurd (false≢true is)
 
 pub get_learns : (va width : ℕ) (w : World) → Learns w (ask_get va width w).world
 get_learns va width w = learns_stay w _ (keeps_get Stay (replies_of Stay kept) va width w) (plain_get va width w)
@@ -176,9 +168,8 @@ get_learns va width w = learns_stay w _ (keeps_get Stay (replies_of Stay kept) v
 plain_put : (va width value : ℕ) (w : World) → is_cloaked w ≡ true →
     plain_of (ask_put va width value w).world ≡ plain_of w
 unfolding ask_put
-plain_put va width value (Flat seen) is = absurd (false≢true is)
 plain_put va width value (Cloaked c) is = (replied_put va width value (Cloaked c) refl).plain
-plain_put va width value (Alone h) is = absurd (false≢true is)
+plain_put va width value _ is = absurd (false≢true is)
 
 pub put_learns : (va width value : ℕ) (w : World) → Learns w (ask_put va width value w).world
 put_learns va width value w = learns_stay w _ (keeps_put Stay kept va width value w) (plain_put va width value w)
@@ -190,9 +181,8 @@ read_learns q at width w = learns_same w
 plain_clear : (domain : ℕ) (marked : List Bool) (w : World) → is_cloaked w ≡ true →
     plain_of (ask_clear domain marked w).world ≡ plain_of w
 unfolding ask_clear
-plain_clear domain marked (Flat seen) is = absurd (false≢true is)
 plain_clear domain marked (Cloaked c) is = (replied_clear domain marked 0 (length c.memory.ram) (Cloaked c) refl).plain
-plain_clear domain marked (Alone h) is = absurd (false≢true is)
+plain_clear domain marked _ is = absurd (false≢true is)
 
 pub clear_learns : (domain : ℕ) (marked : List Bool) (w : World) → Learns w (ask_clear domain marked w).world
 clear_learns domain marked w =
@@ -201,14 +191,12 @@ clear_learns domain marked w =
 -- A page that was reached is at hand.
 
 abbrev pub AtHandIn : PageId → World → Type 0
-AtHandIn q (Flat seen) = Unit {0}
 AtHandIn q (Cloaked c) = IsAtHand q c.memory
-AtHandIn q (Alone h) = Unit {0}
+AtHandIn q _ = Unit {0}
 
 abbrev PlacesIn : World → Type 0
-PlacesIn (Flat seen) = Unit {0}
 PlacesIn (Cloaked c) = HasPlaces c.memory
-PlacesIn (Alone h) = Unit {0}
+PlacesIn _ = Unit {0}
 
 stay_places : (w v : World) → Stay w v → PlacesIn w → PlacesIn v
 stay_places (Flat a) (Flat b) stay places = tt
@@ -229,14 +217,12 @@ abbrev HandIfOk : PageId → Told Answer → Type 0
 HandIfOk q t = t.answer ≡ told.Ok → AtHandIn q t.world
 
 hand_written : (q : PageId) (i : Item) (w : World) → AtHandIn q w → AtHandIn q (written i w)
-hand_written q i (Flat seen) hand = tt
 hand_written q i (Cloaked c) hand = hand
-hand_written q i (Alone h) hand = tt
+hand_written q i _ hand = tt
 
 hand_noted : (q : PageId) (events : List Event) (w : World) → AtHandIn q w → AtHandIn q (noted events w)
-hand_noted q events (Flat seen) hand = tt
 hand_noted q events (Cloaked c) hand = hand
-hand_noted q events (Alone h) hand = tt
+hand_noted q events _ hand = tt
 
 hand_replies : (q : PageId) (a : Answer) (w : World) → (a ≡ told.Ok → AtHandIn q w) → HandIfOk q (replies a w)
 unfolding replies
@@ -257,11 +243,10 @@ hand_offered q va kind g Mismatch (Alone h) hand = hand_replies q told.Stopped _
 hand_offer : (q : PageId) (va : ℕ) (kind : Kind) (g : ℕ) (w : World) → PlacesIn w → g < length (ram_of w) →
     HandIfOk q (ask_offer q va kind g w)
 unfolding ask_offer
-hand_offer q va kind g (Flat seen) places low is = absurd (stopped_ok is)
 hand_offer q va kind g (Cloaked c) places low is =
     let o = offer_offered q g (is_store kind) c.memory in
     hand_offered q va kind g _ _ (λ ready. o.ready (subst (λ (k : ℕ). g < k) (sym places) low) ready) is
-hand_offer q va kind g (Alone h) places low is = absurd (stopped_ok is)
+hand_offer q va kind g _ places low is = absurd (stopped_ok is)
 
 hand_reached : (q : PageId) (va : ℕ) (kind : Kind) (to : Result ℕ ℕ) (w : World) → PlacesIn w →
     ((pa : ℕ) → to ≡ Ok pa → is_in_ram (ram_of w) pa ≡ true) → HandIfOk q (reached q va kind to w)
@@ -314,7 +299,6 @@ other_page p q bytes zeros was other is = elim (same_page_tells p q) [
 pub write_learns : (q : PageId) (at width value : ℕ) (w : World) → (KnowsIn w → AtHandIn q w) →
     Learns w (ask_write q at width value w).world
 unfolding ask_write
-write_learns q at width value (Flat seen) hand = record { by = λ knows. tt }
 write_learns q at width value (Cloaked c) hand = record {
   by = λ knows. (
     knows.0,
@@ -326,7 +310,7 @@ write_learns q at width value (Cloaked c) hand = record {
     ),
   );
 }
-write_learns q at width value (Alone h) hand = record { by = λ knows. tt }
+write_learns q at width value _ hand = record { by = λ knows. tt }
 
 -- no frame is owed a page of this resource
 abbrev pub NoneOwedOf : ℕ → ℕ → CloakedMemory → Type 0
@@ -334,9 +318,8 @@ NoneOwedOf domain resource m =
     (q : PageId) → q.domain ≡ domain → q.resource ≡ resource → (f : ℕ) → owed_in m f ≢ Some q
 
 abbrev pub NoneOwedIn : ℕ → ℕ → World → Type 0
-NoneOwedIn domain resource (Flat seen) = Unit {0}
 NoneOwedIn domain resource (Cloaked c) = NoneOwedOf domain resource c.memory
-NoneOwedIn domain resource (Alone h) = Unit {0}
+NoneOwedIn domain resource _ = Unit {0}
 
 both_copied : (b : Bool) (x y o p : Option (List ℕ)) → is_some x ≡ is_some y → is_some o ≡ is_some p →
     is_some (cond b x o) ≡ is_some (cond b y p)
@@ -370,17 +353,15 @@ copy_knows domain from to m none knows = (
 pub copy_learns : (domain from to : ℕ) (w : World) → NoneOwedIn domain from w →
     Learns w (ask_copy domain from to w).world
 unfolding ask_copy
-copy_learns domain from to (Flat seen) none = record { by = λ knows. tt }
 copy_learns domain from to (Cloaked c) none = record { by = copy_knows domain from to c.memory none }
-copy_learns domain from to (Alone h) none = record { by = λ knows. tt }
+copy_learns domain from to _ none = record { by = λ knows. tt }
 
 -- what frames are owed stays
 pub copy_owes : (domain from to : ℕ) (w : World) (resource : ℕ) → NoneOwedIn domain resource w →
     NoneOwedIn domain resource (ask_copy domain from to w).world
 unfolding ask_copy copy_pages
-copy_owes domain from to (Flat seen) resource none = tt
 copy_owes domain from to (Cloaked c) resource none = none
-copy_owes domain from to (Alone h) resource none = tt
+copy_owes domain from to _ resource none = tt
 
 pub drop_tidy : (domain resource : ℕ) (m : CloakedMemory) → IsTidy m → IsTidy (drop_pages domain resource m)
 unfolding drop_pages
@@ -397,9 +378,8 @@ drop_knows domain resource m knows = (knows.0, drop_tidy domain resource m knows
 
 pub forget_learns : (domain resource : ℕ) (w : World) → Learns w (ask_forget domain resource w).world
 unfolding ask_forget
-forget_learns domain resource (Flat seen) = record { by = λ knows. tt }
 forget_learns domain resource (Cloaked c) = record { by = drop_knows domain resource c.memory }
-forget_learns domain resource (Alone h) = record { by = λ knows. tt }
+forget_learns domain resource _ = record { by = λ knows. tt }
 
 -- Once the marked resources are cleared, no frame is owed a page of them.
 
@@ -409,14 +389,13 @@ ClearBelow n domain marked w =
 
 pub settled_below : (domain : ℕ) (marked : List Bool) (f : ℕ) (w : World) → ClearBelow f domain marked w →
     ClearBelow (f + 1) domain marked (settled f w)
-settled_below domain marked f (Flat seen) clear g low = refl
 settled_below domain marked f (Cloaked c) clear g low =
     let s = settle_cleans f c.memory in
     elim (decided g f) [
       | inl same ↦ ap (is_marked domain marked) (ap (owed_in (settle f c.memory).memory) same ∙ s.here)
       | inr other ↦ ap (is_marked domain marked) (s.others g other) ∙ clear g (omega (arith, low, other))
     ]
-settled_below domain marked f (Alone h) clear g low = refl
+settled_below domain marked f _ clear g low = refl
 
 pub if_below : (b : Bool) (domain : ℕ) (marked : List Bool) (f : ℕ) (w : World) →
     is_marked domain marked (slice_index_or (owed_of w) f None) ≡ b → ClearBelow f domain marked w →
@@ -435,8 +414,7 @@ marked_below domain marked f w clear = if_below _ domain marked f w refl clear
 pub written_below : (n domain : ℕ) (marked : List Bool) (i : Item) (w : World) → ClearBelow n domain marked w →
     ClearBelow n domain marked (written i w)
 written_below n domain marked i (Flat seen) clear = clear
-written_below n domain marked i (Cloaked c) clear = clear
-written_below n domain marked i (Alone h) clear = clear
+written_below n domain marked i _ clear = clear
 
 pub below_drawn : (missed : Bool) (n domain : ℕ) (marked : List Bool) (v : World) (t : Told Answer) →
     (t.answer ≡ told.Ok → ClearBelow n domain marked t.world) →
@@ -483,15 +461,13 @@ cleared_memory domain marked n c clear low resource is q own of f owed = elim (c
 
 cleared_world : (domain : ℕ) (marked : List Bool) (c : Cloak) (v : World) → Stay (Cloaked c) v → HasPlaces c.memory →
     ClearBelow (0 + length c.memory.ram) domain marked v → MarkedClear domain marked v
-cleared_world domain marked c (Flat seen) stay places clear = absurd stay
 cleared_world domain marked c (Cloaked e) stay places clear =
     cleared_memory domain marked (0 + length c.memory.ram) e clear (omega (arith, stay.places, places))
-cleared_world domain marked c (Alone h) stay places clear = absurd stay
+cleared_world domain marked c _ stay places clear = absurd stay
 
 none_alone : (domain resource : ℕ) (h : Handed) (v : World) → Stay (Alone h) v → NoneOwedIn domain resource v
-none_alone domain resource h (Flat seen) stay = tt
 none_alone domain resource h (Cloaked c) stay = absurd stay
-none_alone domain resource h (Alone h') stay = tt
+none_alone domain resource h _ stay = tt
 
 pub clear_clears : (domain : ℕ) (marked : List Bool) (w : World) → KnowsIn w →
     (ask_clear domain marked w).answer ≡ told.Ok → MarkedClear domain marked (ask_clear domain marked w).world

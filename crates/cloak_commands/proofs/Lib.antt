@@ -1,3 +1,4 @@
 pub mod Asked
 pub mod ProgramFacts
 pub mod Complete
+pub mod BundleFirst

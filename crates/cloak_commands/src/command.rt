@@ -2,6 +2,7 @@
 ghost use Rattle.std.specs.Prelude.{◌<◌, ◌-◌, ◌^◌, map, string_bytes};
 ghost use Rattle.command_words.specs.Command as spec;
 ghost use Rattle.cloak_commands.specs.Answering.{Answers, KeepsOthers};
+ghost use Rattle.cloak_commands.specs.BundleFirst.{JudgesBundleFirst};
 ghost use Rattle.command_parts.specs.Outside.{outside};
 ghost use Rattle.completeness.specs.Complete.{IsComplete};
 
@@ -69,6 +70,8 @@ pub fn cloak<S: Shelf, O: Sink>(
     ensures kept { KeepsOthers (spec.words_of (map string_bytes words.now.items)) result
         (S.held shelf.old) (S.held shelf.new) }
     ensures complete { IsComplete (spec.words_of (map string_bytes words.now.items)) result
+        (outside S.Shelf O.Sink shelf.old out.old) (outside S.Shelf O.Sink shelf.new out.new) }
+    ensures bundle_first { JudgesBundleFirst (spec.words_of (map string_bytes words.now.items)) result
         (outside S.Shelf O.Sink shelf.old out.old) (outside S.Shelf O.Sink shelf.new out.new) }
 {
     carry_out(alloc, words, shelf, out)

@@ -4,16 +4,15 @@ use Rattle.std.proofs.lemmas.List.{ext_get_or}
 use Rattle.cloak_base.specs.declared.names.PageId.{PageId}
 use Rattle.cloak_model.specs.Cloaking.{CloakedMemory}
 use Rattle.cloak_pager.specs.declared.frame_right.FrameRight.{FrameRight}
-use Rattle.cloak_pager.specs.declared.frame_right.FrameRight.TheVariants.{Outside, Clean, Changed, Spent}
+use Rattle.cloak_pager.specs.declared.frame_right.FrameRight.TheVariants.{Outside, Spent}
 use Rattle.cloak_pager.specs.State.{PagerState, page_of, right_at, bytes_in, held_in}
 use Rattle.cloak_pager.specs.Relation.{StandsForMemory, FrameStands}
 
 seen_outside : (p : PagerState) (wiped : PageId → Bool) (m : CloakedMemory) (f : ℕ) (h : FrameRight) → page_of h ≡ None →
     FrameStands p wiped m f h → bytes_in p f ≡ slice_index_or m.ram f []
 seen_outside p wiped m f (Outside r) none stands = stands
-seen_outside p wiped m f (Clean r) none stands = cc none
-seen_outside p wiped m f (Changed r) none stands = cc none
 seen_outside p wiped m f Spent none stands = absurd stands
+seen_outside p wiped m f _ none stands = cc none
 
 pub frames_seen : (p : PagerState) (wiped : PageId → Bool) (m : CloakedMemory) → StandsForMemory p wiped m →
     ((k : ℕ) → held_in p k ≡ None) → p.frames ≡ m.ram

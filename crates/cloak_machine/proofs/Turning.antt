@@ -17,7 +17,7 @@ use Rattle.cloak_model.specs.declared.inside.Went.{Went}
 use Rattle.cloak_model.specs.declared.inside.Went.TheVariants as went
 use Rattle.cloak_model.specs.declared.item.Item.{Item}
 use Rattle.cloak_model.specs.declared.outcome.Kernel.{Kernel}
-use Rattle.cloak_model.specs.declared.outcome.Kernel.TheVariants.{Stay, Trapped, Put, Halt, Resume}
+use Rattle.cloak_model.specs.declared.outcome.Kernel.TheVariants.{Stay, Put, Resume}
 use Rattle.cloak_model.specs.Asking.{Told}
 use Rattle.cloak_model.specs.Ahead.{settled_step}
 use Rattle.cloak_model.specs.Contexts.{Context, Admitted, domain_of, slot_of}
@@ -120,13 +120,11 @@ resumes j hart satp ctx reply = resumes_domain j hart satp ctx reply _ refl
 
 goes_ended : (j : Joint) (number : ℕ) (items : List Item) (k : Kernel) → Goes j (outside_ended j number items k)
 unfolding outside_ended
-goes_ended j number items Stay = record { console = sym (append-nil j.console); loads = load_none j.domains }
-goes_ended j number items Trapped = record { console = sym (append-nil j.console); loads = load_none j.domains }
 goes_ended j number items (Put b) = record { console = refl; loads = load_none j.domains }
-goes_ended j number items (Halt value) = record { console = sym (append-nil j.console); loads = load_none j.domains }
 goes_ended j number items (Resume ctx answer) =
     let r = resumes j number (satp_of (hart_in j number).csrs) ctx answer in
     record { console = r.console ∙ sym (append-nil j.console); loads = r.loads }
+goes_ended j number items _ = record { console = sym (append-nil j.console); loads = load_none j.domains }
 
 goes_outside : (j : Joint) (number : ℕ) (told : Told SteppedKernel) → Goes j (after_outside j number told)
 unfolding after_outside
@@ -148,21 +146,13 @@ one_load d address value = let e = length-append d.loads ((address, value) ∷ [
 loads_instruction : (slot : ℕ) (d : Domain) (c : Context) (r : Ran) (w : World) →
     LoadsOnce d (instruction_ended slot d c r w).answer
 unfolding instruction_ended
-loads_instruction slot d c ran.Stay w = same_loads (length d.loads)
 loads_instruction slot d c (ran.Loaded address value) w = one_load d address value
-loads_instruction slot d c (ran.Trap cause address) w = same_loads (length d.loads)
-loads_instruction slot d c ran.Ecall w = same_loads (length d.loads)
-loads_instruction slot d c ran.Stopped w = same_loads (length d.loads)
+loads_instruction slot d c _ w = same_loads (length d.loads)
 
 loads_copy : (slot : ℕ) (d : Domain) (c : Context) (r : Copied) → LoadsOnce d (copy_ended slot d c r)
 unfolding copy_ended
-loads_copy slot d c copied.Going = same_loads (length d.loads)
-loads_copy slot d c copied.CallReady = same_loads (length d.loads)
-loads_copy slot d c copied.Done = same_loads (length d.loads)
-loads_copy slot d c (copied.Absent cause address) = same_loads (length d.loads)
-loads_copy slot d c copied.Stopped = same_loads (length d.loads)
-loads_copy slot d c copied.Refused = same_loads (length d.loads)
 loads_copy slot d c (copied.Loaded address byte) = one_load d address byte
+loads_copy slot d c _ = same_loads (length d.loads)
 
 -- a write after a step
 loads_written : (wrote : Option WordPlace) (d : Domain) (s : DomainStepped) → LoadsOnce d s →
@@ -194,13 +184,7 @@ goes_domain : (j j' : Joint) (number : ℕ) (h : Hart) (d : ℕ) (w : World) (ho
 unfolding domain_ended
 goes_domain j j' number h d w went.Stay console loads =
     record { console = console ∙ sym (append-nil j.console); loads = loads }
-goes_domain j j' number h d w went.Stopped console loads =
-    record { console = console ∙ sym (append-nil j.console); loads = loads }
-goes_domain j j' number h d w (went.Remapped space) console loads =
-    record { console = console ∙ sym (append-nil j.console); loads = loads }
-goes_domain j j' number h d w (went.Leave s) console loads =
-    record { console = console ∙ sym (append-nil j.console); loads = loads }
-goes_domain j j' number h d w (went.SpaceGone space s) console loads =
+goes_domain j j' number h d w _ console loads =
     record { console = console ∙ sym (append-nil j.console); loads = loads }
 
 goes_domain_step : (j : Joint) (number : ℕ) (h : Hart) (d : ℕ) (was : Domain) (told : Told DomainStepped) →
@@ -215,13 +199,7 @@ goes_interrupt : (j j' : Joint) (number : ℕ) (h : Hart) (items : List Item) (h
 unfolding interrupt_ended
 goes_interrupt j j' number h items went.Stay console loads =
     record { console = console ∙ sym (append-nil j.console); loads = loads }
-goes_interrupt j j' number h items went.Stopped console loads =
-    record { console = console ∙ sym (append-nil j.console); loads = loads }
-goes_interrupt j j' number h items (went.Remapped space) console loads =
-    record { console = console ∙ sym (append-nil j.console); loads = loads }
-goes_interrupt j j' number h items (went.Leave s) console loads =
-    record { console = console ∙ sym (append-nil j.console); loads = loads }
-goes_interrupt j j' number h items (went.SpaceGone space s) console loads =
+goes_interrupt j j' number h items _ console loads =
     record { console = console ∙ sym (append-nil j.console); loads = loads }
 
 goes_by_interrupt : (due : Bool) (j : Joint) (number : ℕ) (h : Hart) (d slot : ℕ) (was : Domain) →

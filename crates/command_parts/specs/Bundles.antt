@@ -13,6 +13,10 @@ pub record IsInFile (told : Option (List ℕ)) (bundle : Bundle) : Type 0 where
   pub is : IfSome told (λ bytes. IsBundle bytes bundle)
   pub in_grammar : IsInGrammar bundle
 
+-- a file is a bundle, if its bytes are told
+abbrev pub IsSomeBundle : Option (List ℕ) → Type 0
+IsSomeBundle told = (bundle : Bundle) × IsInFile told bundle
+
 -- A file was read, or why it was not: also that it is no bundle, if that was seen. What became of the count of reading
 -- faults.
 abbrev pub ReadsJudging : {A : Type 0} → Option (List ℕ) → ℕ → ℕ → Result A Refusal → Type 0

@@ -14,3 +14,8 @@ ReadsFile before now (Err _) = ⊥
 -- if bytes are told, they are a front of these
 abbrev pub TellsFront : Option (List ℕ) → List ℕ → Type 0
 TellsFront told bytes = (n : ℕ) × (n ≤ length bytes) × Tells told (take n bytes)
+
+-- If a call that reads this file failed, it is the one of which reading failed last, if that is told.
+abbrev pub TellsUnread : Option (List ℕ) → List ℕ → Refusal → Type 0
+TellsUnread told name ReadFault = Tells told name
+TellsUnread told name _ = Unit {0}

@@ -6,6 +6,7 @@ pub mod Refusing
 pub mod Bundles
 pub mod Streams
 pub mod Storing
+pub mod Order
 pub mod Freezing
 pub mod Thawing
 pub mod NoRun

@@ -1,7 +1,7 @@
 -- Why a command does nothing but show one line: each reason with its cause.
 use Rattle.std.specs.Prelude.{ℕ, ◌≡◌, ◌≤◌, ◌⊎◌, List, length, Option, Some, None, IfSome, Err}
 use Rattle.cloak_base.specs.Random.{Random}
-use Rattle.io_traits.specs.Told.{Grows, GrowsByFront, SameFiles}
+use Rattle.io_traits.specs.Told.{Grows, GrowsByFront, SameFiles, Tells}
 use Rattle.cloak_model.specs.declared.fault.BundleFault.{BundleFault}
 use Rattle.cloak_model.specs.declared.image.Bundle.{Bundle}
 use Rattle.cloak_model.specs.BundleFault.{bundle_fault}
@@ -16,6 +16,7 @@ use Rattle.command_parts.specs.declared.refusal.Refusal.TheVariants as refusal
 use Rattle.command_parts.specs.declared.status.Status.{Status}
 use Rattle.command_parts.specs.declared.status.Status.TheVariants as status
 use Rattle.command_parts.specs.Bundles.{IsInFile}
+use Rattle.command_parts.specs.Order.{IsNextToRead}
 use Rattle.command_parts.specs.Outside.{FilesOutside, Outside, Raised}
 use Rattle.command_parts.specs.Refusal.{status_of_refusal, refusal_line}
 use Rattle.command_parts.specs.Freezing.{IsFreezeLack}
@@ -66,10 +67,14 @@ pub record IsBadBundle {S : Type 0} (asked : spec.Asked) (fault : BundleFault) (
   pub first_fault : IfSome (before.held bundle_name) (λ bytes. bundle_fault bytes ≡ Some fault)
   pub reading : after.reading ≡ before.reading
 
--- A call that reads a file failed, before anything was written.
+-- A call that reads a file failed, before anything was written. If it is told of which file reading failed last, that is
+-- this one, and those that are read before it were read, and are what they must be.
 pub record IsReadFault {S : Type 0} (asked : spec.Asked) (before after : FilesOutside S) : Type 0 where
   pub bundle_name : List ℕ
   pub asks : AsksFile asked bundle_name
+  pub name : List ℕ
+  pub unread : Tells after.unread name
+  pub next : IsNextToRead asked before.held name
   pub reading : Raised before.reading after.reading
 
 -- A growth was refused before anything was written. (What refused it, no clause can name.)

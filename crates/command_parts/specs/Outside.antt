@@ -4,11 +4,13 @@ use Rattle.io_traits.specs.declared.shelf.Shelf as shelves
 use Rattle.io_traits.specs.declared.sink.Sink as sinks
 use Rattle.io_traits.specs.Told.{Rose, SameFiles}
 
--- a shelf, the bytes of its files by their names as far as it tells them, and how often reading and writing them failed
+-- a shelf, the bytes of its files by their names as far as it tells them, how often reading and writing them failed, and
+-- the name of the file of which reading failed last, if it tells it
 pub record FilesOutside (S : Type 0) : Type 0 where
   pub shelf : S
   pub held : List ℕ → Option (List ℕ)
   pub reading : ℕ
+  pub unread : Option (List ℕ)
   pub writing : ℕ
 
 -- an output, its bytes as far as it tells them, and how often it failed
@@ -28,6 +30,7 @@ files shelf s = record {
   shelf = s;
   held = shelf.held s;
   reading = shelf.reading_faults s;
+  unread = shelf.unread s;
   writing = shelf.writing_faults s;
 }
 

@@ -1,6 +1,7 @@
 //! The bundle that a file is.
-ghost use Rattle.std.specs.Prelude.{◌≡◌, IfOk, IfSome};
+ghost use Rattle.std.specs.Prelude.{◌≡◌, IfErr, IfOk, IfSome};
 ghost use Rattle.io_traits.specs.Told.{SameFiles};
+ghost use Rattle.command_parts.specs.Files.{TellsUnread};
 ghost use Rattle.command_parts.specs.Bundles.{ReadsBundle, ReadsBundleBytes, ReadsJudging};
 
 use crate::files::read_front;
@@ -19,6 +20,7 @@ fn read_whole<S: Shelf>(alloc: Global, shelf: &mut S, name: &str) -> Result<Vec<
     ensures judged { ReadsJudging (S.held shelf.old name.now)
         (S.reading_faults shelf.old) (S.reading_faults shelf.new) result }
     ensures files { SameFiles (S.held shelf.old) (S.held shelf.new) }
+    ensures unread { IfErr result (TellsUnread (S.unread shelf.new) name.now) }
     ensures writing { S.writing_faults shelf.new ≡ S.writing_faults shelf.old }
     ensures settled { S.is_settled shelf.new }
 {
@@ -35,6 +37,7 @@ pub fn read_bundle<S: Shelf>(alloc: Global, shelf: &mut S, name: &str) -> Result
     ensures bundle { ReadsBundle (S.held shelf.old name.now)
         (S.reading_faults shelf.old) (S.reading_faults shelf.new) result }
     ensures files { SameFiles (S.held shelf.old) (S.held shelf.new) }
+    ensures unread { IfErr result (TellsUnread (S.unread shelf.new) name.now) }
     ensures writing { S.writing_faults shelf.new ≡ S.writing_faults shelf.old }
     ensures settled { S.is_settled shelf.new }
 {
@@ -56,6 +59,7 @@ pub fn read_bundle_with_bytes<S: Shelf>(
     ensures bundle { ReadsBundleBytes (S.held shelf.old name.now)
         (S.reading_faults shelf.old) (S.reading_faults shelf.new) result }
     ensures files { SameFiles (S.held shelf.old) (S.held shelf.new) }
+    ensures unread { IfErr result (TellsUnread (S.unread shelf.new) name.now) }
     ensures writing { S.writing_faults shelf.new ≡ S.writing_faults shelf.old }
     ensures settled { S.is_settled shelf.new }
 {

@@ -1,7 +1,7 @@
 //! The bytes of files.
 ghost use Rattle.std.specs.Prelude.{◌≡◌, ◌≤◌, ℕ, min, List, [], length, take, vec_capacity, IfOk, IfErr, IfSome};
 ghost use Rattle.io_traits.specs.Told.{SameFiles};
-ghost use Rattle.command_parts.specs.Files.{ReadsFile};
+ghost use Rattle.command_parts.specs.Files.{ReadsFile, TellsUnread};
 
 use crate::refusal::Refusal;
 use io_traits::Shelf;
@@ -13,6 +13,7 @@ fn file_size<S: Shelf>(shelf: &mut S, name: &str) -> Result<u64, Refusal>
     ensures size { IfOk result (λ n. IfSome (S.held shelf.old name.now) (λ bytes. n ≡ length bytes)) }
     ensures files { SameFiles (S.held shelf.old) (S.held shelf.new) }
     ensures reading { ReadsFile (S.reading_faults shelf.old) (S.reading_faults shelf.new) result }
+    ensures unread { IfErr result (TellsUnread (S.unread shelf.new) name.now) }
     ensures writing { S.writing_faults shelf.new ≡ S.writing_faults shelf.old }
     ensures settled { S.is_settled shelf.new }
 {
@@ -60,6 +61,7 @@ fn read_into<S: Shelf>(
     ensures fits { IfOk result (λ v. length v.items ≤ count) }
     ensures files { SameFiles (S.held shelf.old) (S.held shelf.new) }
     ensures reading { ReadsFile (S.reading_faults shelf.old) (S.reading_faults shelf.new) result }
+    ensures unread { IfErr result (TellsUnread (S.unread shelf.new) name.now) }
     ensures writing { S.writing_faults shelf.new ≡ S.writing_faults shelf.old }
     ensures settled { S.is_settled shelf.new }
 {
@@ -92,6 +94,7 @@ pub fn read_front<S: Shelf>(
     ensures fits { IfOk result (λ v. length v.items ≤ limit) }
     ensures files { SameFiles (S.held shelf.old) (S.held shelf.new) }
     ensures reading { ReadsFile (S.reading_faults shelf.old) (S.reading_faults shelf.new) result }
+    ensures unread { IfErr result (TellsUnread (S.unread shelf.new) name.now) }
     ensures writing { S.writing_faults shelf.new ≡ S.writing_faults shelf.old }
     ensures settled { S.is_settled shelf.new }
 {

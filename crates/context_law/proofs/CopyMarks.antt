@@ -11,7 +11,8 @@ use Rattle.cloak_model.specs.declared.item.Item.{Item}
 use Rattle.cloak_model.specs.declared.item.Item.TheVariants as item
 use Rattle.cloak_model.specs.Asking.{Told}
 use Rattle.cloak_model.specs.AskPages.{answer_item, ask_read}
-use Rattle.cloak_model.specs.Calls.{Copy, copy, buffer, area, byte_address, in_put, in_reached, in_placed, in_step, copy_in_step, out_reached, out_got, out_placed, out_step, copy_out_step}
+use Rattle.cloak_model.specs.Calls.{Copy, copy, buffer, area, byte_address, copy_in_step, copy_out_step}
+use Rattle.cloak_model.proofs.CallParts.{in_put, in_reached, in_placed, in_step, out_reached, out_got, out_placed, out_step}
 use Rattle.cloak_model.specs.Contexts.{Context}
 use Rattle.cloak_model.specs.DomainState.{Control}
 use Rattle.cloak_model.specs.Halves.{inward_half}
@@ -53,16 +54,13 @@ module _ (d : Control) (plain : PageId → List ℕ) (c : Context) where
   in_put_deed : (q : PageId) (done byte : ℕ) (a : Answer) (w : World) →
       Heard d.number plain (item.Ok d.number ∷ answer_item d.number a ∷ []) w →
       CopyDeed d.number c (if_granted (Loads q (byte_address (buffer c) done) 1 ∷ [])) (in_put c done byte a w)
-  unfolding in_put
   in_put_deed q done byte told.Ok w heard = still d.number plain c _ _ _ _ w heard refl (λ word. refl)
-  in_put_deed q done byte (told.Absent cause) w heard = still d.number plain c _ _ _ _ w heard refl (λ word. refl)
-  in_put_deed q done byte (told.Word value) w heard = still d.number plain c _ _ _ _ w heard refl (λ word. refl)
-  in_put_deed q done byte told.Stopped w heard = still d.number plain c _ _ _ _ w heard refl (λ word. refl)
+  in_put_deed q done byte _ w heard = still d.number plain c _ _ _ _ w heard refl (λ word. refl)
 
   in_reached_deed : (q : PageId) (done : ℕ) (a : Answer) (w : World) →
       Heard d.number plain (answer_item d.number a ∷ []) w →
       CopyDeed d.number c (if_granted (Loads q (byte_address (buffer c) done) 1 ∷ [])) (in_reached c q done a w)
-  unfolding in_reached ask_read
+  unfolding ask_read
   in_reached_deed q done told.Ok w heard =
       let byte : ℕ = value_in (plain_of w q) (byte_address (buffer c) done % 4096) 1 in
       let question = Put (byte_address (area c) done) 1 byte (byte_aligned (byte_address (area c) done)) in
@@ -76,7 +74,6 @@ module _ (d : Control) (plain : PageId → List ℕ) (c : Context) where
       Heard d.number plain [] w →
       CopyDeed d.number c (if_granted (load_at (byte_address (buffer c) done) 1 place))
       (in_placed c done place cloaked w)
-  unfolding in_placed
   in_placed_deed done None cloaked w own heard = still d.number plain c _ _ _ _ w heard refl (λ word. refl)
   in_placed_deed done (Some q) true w own heard = still d.number plain c _ _ _ _ w heard refl (λ word. refl)
   in_placed_deed done (Some q) false w own heard =
@@ -89,7 +86,6 @@ module _ (d : Control) (plain : PageId → List ℕ) (c : Context) where
       (if_granted (load_at (byte_address (buffer c) done) 1
       (page_at d.number d.resources c.space (byte_address (buffer c) done))))
       (in_step all d.number d.resources c done w)
-  unfolding in_step
   in_step_deed true done w heard = still d.number plain c _ _ _ _ w heard refl (λ word. refl)
   in_step_deed false done w heard =
       in_placed_deed done _ _ w (own_page d.number d.resources c.space (byte_address (buffer c) done)) heard
@@ -107,7 +103,6 @@ module _ (d : Control) (plain : PageId → List ℕ) (c : Context) where
   out_reached_deed : (q : PageId) (done total byte : ℕ) (a : Answer) (w : World) →
       Heard d.number plain (item.Word d.number byte ∷ answer_item d.number a ∷ []) w →
       CopyDeed d.number c (byte_moves (byte_address (buffer c) done) (Some q)) (out_reached c q done total byte a w)
-  unfolding out_reached
   out_reached_deed q done total byte told.Ok w heard =
       let va = byte_address (buffer c) done in
       record {
@@ -126,19 +121,15 @@ module _ (d : Control) (plain : PageId → List ℕ) (c : Context) where
   out_got_deed : (q : PageId) → q.domain ≡ d.number → (done total : ℕ) (a : Answer) (w : World) →
       Heard d.number plain (answer_item d.number a ∷ []) w →
       CopyDeed d.number c (byte_moves (byte_address (buffer c) done) (Some q)) (out_got c q done total a w)
-  unfolding out_got
-  out_got_deed q own done total told.Ok w heard = still d.number plain c _ _ _ _ w heard refl (λ word. refl)
-  out_got_deed q own done total (told.Absent cause) w heard = still d.number plain c _ _ _ _ w heard refl (λ word. refl)
   out_got_deed q own done total (told.Word byte) w heard =
       let question = Reach q own (byte_address (buffer c) done) Store in
       out_reached_deed q done total byte (asked question w).answer (asked question w).world
       (heard_asked d.number plain (item.Word d.number byte ∷ []) question w heard)
-  out_got_deed q own done total told.Stopped w heard = still d.number plain c _ _ _ _ w heard refl (λ word. refl)
+  out_got_deed q own done total _ w heard = still d.number plain c _ _ _ _ w heard refl (λ word. refl)
 
   out_placed_deed : (done total : ℕ) (place : Option PageId) (cloaked : Bool) (w : World) → IsOwn d.number place →
       Heard d.number plain [] w →
       CopyDeed d.number c (byte_moves (byte_address (buffer c) done) place) (out_placed c done total place cloaked w)
-  unfolding out_placed
   out_placed_deed done total None cloaked w own heard = still d.number plain c _ _ _ _ w heard refl (λ word. refl)
   out_placed_deed done total (Some q) true w own heard = still d.number plain c _ _ _ _ w heard refl (λ word. refl)
   out_placed_deed done total (Some q) false w own heard =
@@ -150,7 +141,6 @@ module _ (d : Control) (plain : PageId → List ℕ) (c : Context) where
       CopyDeed d.number c
       (byte_moves (byte_address (buffer c) done) (page_at d.number d.resources c.space (byte_address (buffer c) done)))
       (out_step all d.number d.resources c done total w)
-  unfolding out_step
   out_step_deed true done total w heard = still d.number plain c _ _ _ _ w heard refl (λ word. refl)
   out_step_deed false done total w heard =
       out_placed_deed done total _ _ w (own_page d.number d.resources c.space (byte_address (buffer c) done)) heard

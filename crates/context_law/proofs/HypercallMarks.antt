@@ -12,13 +12,14 @@ use Rattle.cloak_model.specs.declared.inside.Begun.TheVariants as begun
 use Rattle.cloak_model.specs.declared.inside.Ended.{Ended}
 use Rattle.cloak_model.specs.declared.inside.Ended.TheVariants as ends
 use Rattle.cloak_model.specs.declared.resource.MapFault.{MapFault}
-use Rattle.cloak_model.specs.Calls.{call_number, takes_bytes, is_good, is_in_bounds, BeginsCall, waiting, copy_begin, call_begin, begin_call}
+use Rattle.cloak_model.specs.Calls.{call_number, takes_bytes, is_good, BeginsCall, waiting, begin_call}
+use Rattle.cloak_model.proofs.CallParts.{copy_begin, call_begin}
 use Rattle.cloak_model.specs.Contexts.{Context, set_word, in_phase, moved_on, has_buffer, suspended, new_context, context_number}
 use Rattle.cloak_model.specs.DomainState.{Control}
 use Rattle.cloak_model.specs.Files.{file_resource}
 use Rattle.cloak_model.specs.declared.resource.Owner.TheVariants.{Space}
 use Rattle.cloak_model.specs.Fork.{fork_fits, forked, child, fork_cleared, fork_if, fork, end_cleared, end_if, end_context}
-use Rattle.cloak_model.specs.Hypercalls.{Stepped, with_slot, with_answer, answers_word, number_word, number_told, remapped, new_call, map_call, unmap_call, file_call, thread_at, thread_call, with_spaces, fork_told, fork_call, end_told, exit_call, call_begun, kernel_call, Hypercall, New, Map, Unmap, File as FileCall, Thread, ForkSpace, Exit, Call, Unknown, hypercall}
+use Rattle.cloak_model.specs.Hypercalls.{Stepped, with_slot, with_answer, answers_word, number_word, number_told, remapped, new_call, map_call, unmap_call, file_call, thread_at, thread_call, with_spaces, fork_told, fork_call, end_told, exit_call, call_begun, kernel_call, Hypercall, New, File as FileCall, Thread, ForkSpace, Exit, Call, Unknown, hypercall}
 use Rattle.cloak_model.specs.Resources.{Resources, Mapped, first_free, new_resource}
 use Rattle.cloak_model.specs.World.{World}
 use Rattle.context_law.proofs.Marks.{NoMore, OneMore, set_one, set_none, then_one, none_one}
@@ -73,9 +74,7 @@ module _ (slot : ℕ) (c : Context) where
       NoMore contexts (fork_cleared domain c free new r contexts a w).answer.spaces.contexts
   unfolding fork_cleared
   fork_cleared_none domain free new r contexts told.Ok w = forked_none free new r contexts
-  fork_cleared_none domain free new r contexts (told.Absent cause) w = same_none contexts
-  fork_cleared_none domain free new r contexts (told.Word value) w = same_none contexts
-  fork_cleared_none domain free new r contexts told.Stopped w = same_none contexts
+  fork_cleared_none domain free new r contexts _ w = same_none contexts
 
   fork_if_none : (fits : Result (Unit {0}) MapFault) (domain : ℕ) (r : Resources) (contexts : List (Option Context))
       (w : World) → NoMore contexts (fork_if fits domain c r contexts w).answer.spaces.contexts
@@ -107,9 +106,7 @@ module _ (slot : ℕ) (c : Context) where
       NoMore contexts (end_cleared domain slot space r contexts a w).answer.spaces.contexts
   unfolding end_cleared
   end_cleared_none domain space r contexts told.Ok w = set_none contexts slot None refl
-  end_cleared_none domain space r contexts (told.Absent cause) w = same_none contexts
-  end_cleared_none domain space r contexts (told.Word value) w = same_none contexts
-  end_cleared_none domain space r contexts told.Stopped w = same_none contexts
+  end_cleared_none domain space r contexts _ w = same_none contexts
 
   end_if_none : (others : Bool) (domain space : ℕ) (r : Resources) (contexts : List (Option Context)) (w : World) →
       NoMore contexts (end_if others domain slot space r contexts w).answer.spaces.contexts
@@ -125,9 +122,8 @@ module _ (slot : ℕ) (c : Context) where
   end_told_one : (d d' : Control) (e : Ended) → NoMore d.contexts d'.contexts →
       StepsOne slot c d.contexts (end_told slot c d e d')
   unfolding end_told
-  end_told_one d d' ends.Kept none = none_one slot c.mark d.contexts d'.contexts none
-  end_told_one d d' (ends.SpaceGone space) none = none_one slot c.mark d.contexts d'.contexts none
   end_told_one d d' ends.Stopped none = none_one slot c.mark d.contexts d.contexts (same_none d.contexts)
+  end_told_one d d' _ none = none_one slot c.mark d.contexts d'.contexts none
 
   exit_one : (d : Control) (w : World) → StepsOne slot c d.contexts (exit_call slot c d w).answer
   unfolding exit_call
@@ -145,14 +141,12 @@ begin_either true c = refl
 begin_either false c = refl
 
 copy_begin_mark : (t : Bool) (c : Context) → (copy_begin t c).context.mark ≡ c.mark
-unfolding copy_begin
 copy_begin_mark false c = refl
 copy_begin_mark true c = begin_either (takes_bytes (call_number c)) c
 
 call_begin_mark : (t : Bool) (r : Resources) (c : Context) → (call_begin t r c).context.mark ≡ c.mark
-unfolding call_begin
 call_begin_mark false r c = refl
-call_begin_mark true r c = copy_begin_mark (is_good (is_in_bounds c) r c) c
+call_begin_mark true r c = copy_begin_mark (is_good r c) c
 
 begin_mark : (r : Resources) (c : Context) → (begin_call r c).context.mark ≡ c.mark
 unfolding begin_call
@@ -180,8 +174,6 @@ pub hypercall_one : (h : Hypercall) (slot : ℕ) (c : Context) (d : Control) (w 
     StepsOne slot c d.contexts (hypercall h slot c d w).answer
 unfolding hypercall new_call map_call unmap_call file_call
 hypercall_one New slot c d w = number_one slot c (new_resource (Space c.space) (register c.regs 10) d.resources) d
-hypercall_one Map slot c d w = remapped_one slot c _ _
-hypercall_one Unmap slot c d w = remapped_one slot c _ _
 hypercall_one FileCall slot c d w =
     number_one slot c (file_resource (register c.regs 10) (register c.regs 11) d.resources) d
 hypercall_one Thread slot c d w = thread_one slot c d
@@ -189,3 +181,4 @@ hypercall_one ForkSpace slot c d w = fork_call_one slot c d w
 hypercall_one Exit slot c d w = exit_one slot c d w
 hypercall_one Call slot c d w = call_one slot c d
 hypercall_one Unknown slot c d w = word_one slot c _ d
+hypercall_one _ slot c d w = remapped_one slot c _ _

@@ -29,6 +29,7 @@ use Rattle.cloak_model.specs.DomainState.{Control}
 use Rattle.cloak_model.specs.Effect.{effect}
 use Rattle.cloak_model.specs.Halves.{inward_half}
 use Rattle.cloak_model.specs.InsideStep as inside
+use Rattle.cloak_model.proofs.InsideParts as inside_parts
 use Rattle.cloak_model.specs.InsideStep.{AfterInstruction, made}
 use Rattle.cloak_model.specs.KernelStep.{atomic_kind, misaligned}
 use Rattle.cloak_model.specs.Memory.{value_in, with_value_in}
@@ -97,27 +98,18 @@ written_told n plain answers q at width value w heard =
 module _ (n : ℕ) (plain : PageId → List ℕ) (c : Context) (reached : Option Reached) where
   load_reached_deed : (q : PageId) (rd va width : ℕ) (signed : Bool) (a : Answer) (w : World) →
       Heard n plain (second_answer n a) w →
-      DoneByInstruction n c (if_granted (Loads q va width ∷ [])) reached (inside.load_reached c q rd va width signed a w)
-  unfolding inside.load_reached inside.loaded_inside ask_read
+      DoneByInstruction n c (if_granted (Loads q va width ∷ [])) reached (inside_parts.load_reached c q rd va width signed a w)
+  unfolding ask_read
   load_reached_deed q rd va width signed told.Ok w heard =
       still n plain c _ _ _ reached _ w heard refl (λ word. refl) (λ is. cc)
-  load_reached_deed q rd va width signed (told.Absent cause) w heard =
-      still n plain c _ _ _ reached _ w heard refl (λ word. refl) (λ is. cc)
-  load_reached_deed q rd va width signed (told.Word value) w heard =
-      still n plain c _ _ _ reached _ w heard refl (λ word. refl) (λ is. cc)
-  load_reached_deed q rd va width signed told.Stopped w heard =
+  load_reached_deed q rd va width signed _ w heard =
       still n plain c _ _ _ reached _ w heard refl (λ word. refl) (λ is. cc)
 
   load_got_deed : (rd va width : ℕ) (signed : Bool) (a : Answer) (w : World) → Heard n plain (second_answer n a) w →
-      DoneByInstruction n c (if_granted []) reached (inside.load_got c rd va width signed a w)
-  unfolding inside.load_got
+      DoneByInstruction n c (if_granted []) reached (inside_parts.load_got c rd va width signed a w)
   load_got_deed rd va width signed told.Ok w heard =
       still n plain c _ _ _ reached _ w heard refl (λ word. refl) (λ is. cc)
-  load_got_deed rd va width signed (told.Absent cause) w heard =
-      still n plain c _ _ _ reached _ w heard refl (λ word. refl) (λ is. cc)
-  load_got_deed rd va width signed (told.Word value) w heard =
-      still n plain c _ _ _ reached _ w heard refl (λ word. refl) (λ is. cc)
-  load_got_deed rd va width signed told.Stopped w heard =
+  load_got_deed rd va width signed _ w heard =
       still n plain c _ _ _ reached _ w heard refl (λ word. refl) (λ is. cc)
 
   load_deed : (rd va width : ℕ) (signed : Bool) (place : Option PageId) (w : World) → IsOwn n place →
@@ -136,8 +128,7 @@ module _ (n : ℕ) (plain : PageId → List ℕ) (c : Context) (reached : Option
   store_reached_deed : (q : PageId) (va width value : ℕ) (a : Answer) (w : World) → IsOnWord va width →
       Heard n plain (second_answer n a) w →
       DoneByInstruction n c (if_granted (Stores q (va % 4096) width value ∷ [])) reached
-      (inside.store_reached c q va width value a w)
-  unfolding inside.store_reached
+      (inside_parts.store_reached c q va width value a w)
   store_reached_deed q va width value told.Ok w on heard = record {
     answers = second_answer n told.Ok;
     told = written_told n plain _ q (va % 4096) width value w heard;
@@ -154,13 +145,10 @@ module _ (n : ℕ) (plain : PageId → List ℕ) (c : Context) (reached : Option
       still n plain c _ _ _ reached _ w heard refl (λ word. refl) (λ is. cc)
 
   store_put_deed : (va : ℕ) (a : Answer) (w : World) → Heard n plain (second_answer n a) w →
-      DoneByInstruction n c (if_granted []) reached (inside.store_put c va a w)
-  unfolding inside.store_put
-  store_put_deed va told.Ok w heard = still n plain c _ _ _ reached _ w heard refl (λ word. refl) (λ is. cc)
+      DoneByInstruction n c (if_granted []) reached (inside_parts.store_put c va a w)
   store_put_deed va (told.Absent cause) w heard =
       still n plain c _ _ _ reached _ w heard refl (λ word. refl) (λ is. cc)
-  store_put_deed va (told.Word value) w heard = still n plain c _ _ _ reached _ w heard refl (λ word. refl) (λ is. cc)
-  store_put_deed va told.Stopped w heard = still n plain c _ _ _ reached _ w heard refl (λ word. refl) (λ is. cc)
+  store_put_deed va _ w heard = still n plain c _ _ _ reached _ w heard refl (λ word. refl) (λ is. cc)
 
   store_deed : (va width value : ℕ) (place : Option PageId) (w : World) → IsAligned va width → IsOwn n place →
       Heard n plain (item.Ok n ∷ []) w →
@@ -197,12 +185,6 @@ module _ (d : Control) (plain : PageId → List ℕ) (c : Context) (reached : Op
   done_deed : (i : Instr) (e : Effect) (w : World) → StoresAligned e → Heard d.number plain (item.Ok d.number ∷ []) w →
       DoneByInstruction d.number c (effect_moves d c i e) reached (inside.done_inside d.number d.resources c i e w)
   unfolding inside.done_inside effect_moves
-  done_deed i (does.Write rd value) w on heard =
-      still d.number plain c _ _ _ reached _ w heard refl (λ word. refl) (λ is. cc)
-  done_deed i (does.Jump rd link target) w on heard =
-      still d.number plain c _ _ _ reached _ w heard refl (λ word. refl) (λ is. cc)
-  done_deed i (does.Go target) w on heard =
-      still d.number plain c _ _ _ reached _ w heard refl (λ word. refl) (λ is. cc)
   done_deed i (does.Load rd va width signed) w on heard =
       load_deed d.number plain c reached rd va width signed (page_at d.number d.resources c.space va) w
       (own_page d.number d.resources c.space va) heard
@@ -210,9 +192,7 @@ module _ (d : Control) (plain : PageId → List ℕ) (c : Context) (reached : Op
       store_deed d.number plain c reached va width value (page_at d.number d.resources c.space va) w
       on (own_page d.number d.resources c.space va) heard
   done_deed i does.System w on heard = system_deed i w heard
-  done_deed i does.Nothing w on heard =
-      still d.number plain c _ _ _ reached _ w heard refl (λ word. refl) (λ is. cc)
-  done_deed i (does.Raise cause value) w on heard =
+  done_deed i _ w on heard =
       still d.number plain c _ _ _ reached _ w heard refl (λ word. refl) (λ is. cc)
 
 -- Atomic instructions.
@@ -227,8 +207,7 @@ module _ (n : ℕ) (plain : PageId → List ℕ) (c : Context) where
   conditional_deed : (reserved : Bool) (reached : Option Reached) (rd : ℕ) (q : PageId) (va operand : ℕ) (w : World) →
       va % 4 ≡ 0 → Heard n plain (second_answer n told.Ok) w →
       DoneByInstruction n c (if_granted (cond reserved (Stores q (va % 4096) 4 operand ∷ []) [])) reached
-      (inside.conditional_inside reserved c rd q va operand w)
-  unfolding inside.conditional_inside
+      (inside_parts.conditional_inside reserved c rd q va operand w)
   conditional_deed true reached rd q va operand w even heard = record {
     answers = second_answer n told.Ok;
     told = written_told n plain _ q (va % 4096) 4 operand w heard;
@@ -273,14 +252,9 @@ module _ (n : ℕ) (plain : PageId → List ℕ) (c : Context) where
   atomic_reached_deed : (rd : ℕ) (op : AtomicOp) (q : PageId) (va operand : ℕ) (a : Answer) (w : World) → va % 4 ≡ 0 →
       Heard n plain (second_answer n a) w →
       DoneByInstruction n c (if_granted (atomic_at c op va operand (Some q))) (placed_reached c op va (Some q))
-      (inside.atomic_reached c rd op q va operand a w)
-  unfolding inside.atomic_reached
+      (inside_parts.atomic_reached c rd op q va operand a w)
   atomic_reached_deed rd op q va operand told.Ok w even heard = granted_deed rd op q va operand w even heard
-  atomic_reached_deed rd op q va operand (told.Absent cause) w even heard =
-      still n plain c _ _ _ _ _ w heard refl (λ word. refl) (λ is. cc)
-  atomic_reached_deed rd op q va operand (told.Word value) w even heard =
-      still n plain c _ _ _ _ _ w heard refl (λ word. refl) (λ is. cc)
-  atomic_reached_deed rd op q va operand told.Stopped w even heard =
+  atomic_reached_deed rd op q va operand _ w even heard =
       still n plain c _ _ _ _ _ w heard refl (λ word. refl) (λ is. cc)
 
   placed_deed : (rd : ℕ) (op : AtomicOp) (va operand : ℕ) (place : Option PageId) (w : World) → va % 4 ≡ 0 →
@@ -330,22 +304,21 @@ module _ (d : Control) (plain : PageId → List ℕ) (c : Context) where
 
   executed_deed : (word : ℕ) (w : World) → Heard d.number plain (item.Ok d.number ∷ []) w →
       DoneByInstruction d.number c (word_moves d c word (instruction word)) (law.atomic_reached d c (atomic_instruction word))
-      (inside.executed_inside d.number d.resources c word w)
-  unfolding inside.executed_inside
+      (inside_parts.executed_inside d.number d.resources c word w)
   executed_deed word w heard = decoded_deed word (instruction word) w heard
 
   fetched_deed : (history : List Move) (q : PageId) (a : Answer) (w : World) → Agrees history plain →
       Heard d.number plain (first_answer d.number a) w →
       DoneByInstruction d.number c (fetched_moves history d c (Some q)) (law.fetched_reached history d c (Some q))
-      (inside.fetched_inside d.number d.resources c q a w)
-  unfolding inside.fetched_inside fetched_moves ask_read
+      (inside_parts.fetched_inside d.number d.resources c q a w)
+  unfolding fetched_moves ask_read
   fetched_deed history q told.Ok w agrees heard =
       let word : ℕ = value_in (plain_of w q) (c.pc % 4096) 4 in
       let same : word ≡ latest_value history q (c.pc % 4096) 4 =
       ap (λ (p : PageId → List ℕ). value_in (p q) (c.pc % 4096) 4) heard.pages
       ∙ read_value history q (plain q) (c.pc % 4096) 4 (agrees q) in
       subst (λ (x : ℕ). DoneByInstruction d.number c (word_moves d c x (instruction x))
-      (law.atomic_reached d c (atomic_instruction x)) (inside.executed_inside d.number d.resources c word w)) same
+      (law.atomic_reached d c (atomic_instruction x)) (inside_parts.executed_inside d.number d.resources c word w)) same
       (executed_deed word w heard)
   fetched_deed history q (told.Absent cause) w agrees heard =
       still d.number plain c _ _ _ _ _ w heard refl (λ word. refl) (λ is. cc)

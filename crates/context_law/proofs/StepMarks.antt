@@ -66,28 +66,21 @@ left_by (Some place) s k word is =
 ended_one : (slot : ℕ) (d : Domain) (k : Context) (e : Ran) (w : World) →
     OneMore slot k.mark d.control.contexts (instruction_ended slot d k e w).answer.domain.control.contexts
 unfolding instruction_ended
-ended_one slot d k ran.Stay w = set_one d.control.contexts slot (Some k)
-ended_one slot d k (ran.Loaded address value) w = set_one d.control.contexts slot (Some k)
 ended_one slot d k (ran.Trap cause address) w =
     none_one slot k.mark d.control.contexts _ (set_none d.control.contexts slot (Some (suspended k)) refl)
 ended_one slot d k ran.Ecall w = hypercall_one (hypercall_of k) slot k d.control w
 ended_one slot d k ran.Stopped w = same_one slot k.mark d.control.contexts
+ended_one slot d k _ w = set_one d.control.contexts slot (Some k)
 
 ended_world : (slot : ℕ) (d : Domain) (k : Context) (e : Ran) (w : World) → (e ≡ ran.Ecall → ⊥) →
     (instruction_ended slot d k e w).world ≡ w
 unfolding instruction_ended
-ended_world slot d k ran.Stay w other = refl
-ended_world slot d k (ran.Loaded address value) w other = refl
-ended_world slot d k (ran.Trap cause address) w other = refl
 ended_world slot d k ran.Ecall w other = absurd (other refl)
-ended_world slot d k ran.Stopped w other = refl
+ended_world slot d k _ w other = refl
 
 is_ecall : (e : Ran) → (e ≡ ran.Ecall) ⊎ (e ≡ ran.Ecall → ⊥)
-is_ecall ran.Stay = inr (λ is. cc)
-is_ecall (ran.Loaded address value) = inr (λ is. cc)
-is_ecall (ran.Trap cause address) = inr (λ is. cc)
 is_ecall ran.Ecall = inl refl
-is_ecall ran.Stopped = inr (λ is. cc)
+is_ecall _ = inr (λ is. cc)
 
 module _ (slot : ℕ) (d : Domain) (c : Context) (there : context_at d.control.contexts slot ≡ Some c) where
   -- the reservation of the context before
@@ -138,15 +131,12 @@ module _ (slot : ℕ) (d : Domain) (c : Context) (there : context_at d.control.c
   copied_one : (k : Context) (e : Copied) →
       OneMore slot k.mark d.control.contexts (copy_ended slot d k e).domain.control.contexts
   unfolding copy_ended
-  copied_one k copied.Going = set_one d.control.contexts slot (Some k)
   copied_one k copied.CallReady =
       none_one slot k.mark d.control.contexts _ (set_none d.control.contexts slot (Some (suspended k)) refl)
-  copied_one k copied.Done = set_one d.control.contexts slot (Some k)
   copied_one k (copied.Absent cause address) =
       none_one slot k.mark d.control.contexts _ (set_none d.control.contexts slot (Some (suspended k)) refl)
   copied_one k copied.Stopped = same_one slot k.mark d.control.contexts
-  copied_one k copied.Refused = set_one d.control.contexts slot (Some k)
-  copied_one k (copied.Loaded address byte) = set_one d.control.contexts slot (Some k)
+  copied_one k _ = set_one d.control.contexts slot (Some k)
 
   copied_marks : (moves : List Item → List Move) (reached : List Item → Option Reached) (t : Told Copy)
       (deed : CopyDeed d.control.number c moves t) (wrote : Option WordPlace) →
@@ -243,10 +233,8 @@ finish_mark answer c =
 
 answer_mark : (p : Phase) (answer : ℕ) (c : Context) → (answer_in p answer c).mark ≡ c.mark
 unfolding answer_in
-answer_mark Plain answer c = refl
-answer_mark (CopyIn done) answer c = refl
 answer_mark Waiting answer c = finish_mark answer c
-answer_mark (CopyOut done total) answer c = refl
+answer_mark _ answer c = refl
 
 taken_none : (slot answer : ℕ) (o : Option Context) (d : Control) → context_at d.contexts slot ≡ o →
     NoMore d.contexts (answer_taken slot answer o d).contexts

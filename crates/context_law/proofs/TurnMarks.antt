@@ -12,7 +12,7 @@ use Rattle.cloak_model.specs.declared.inside.Went.TheVariants as went
 use Rattle.cloak_model.specs.declared.item.Item.{Item}
 use Rattle.cloak_model.specs.declared.item.Item.TheVariants as item
 use Rattle.cloak_model.specs.declared.outcome.Kernel.{Kernel}
-use Rattle.cloak_model.specs.declared.outcome.Kernel.TheVariants.{Stay, Put, Halt, Resume, Trapped}
+use Rattle.cloak_model.specs.declared.outcome.Kernel.TheVariants.{Resume}
 use Rattle.cloak_model.specs.Asking.{Told}
 use Rattle.cloak_model.specs.Contexts.{Context, Admitted, context_at, domain_of, slot_of}
 use Rattle.cloak_model.specs.Csr.{interrupt_due}
@@ -111,11 +111,8 @@ resumed_none j hart satp ctx reply d k word is = domain_none j hart satp ctx rep
 outside_ended_none : (j : Joint) (number : ℕ) (items : List Item) (e : Kernel) →
     NoneNew j.domains (outside_ended j number items e).joint.domains
 unfolding outside_ended
-outside_ended_none j number items Stay d k word is = is
-outside_ended_none j number items Trapped d k word is = is
-outside_ended_none j number items (Put b) d k word is = is
-outside_ended_none j number items (Halt value) d k word is = is
 outside_ended_none j number items (Resume ctx reply) d k word is = resumed_none j number _ ctx reply d k word is
+outside_ended_none j number items _ d k word is = is
 
 outside_none : (j : Joint) (number : ℕ) (h : Hart) → NoneNew j.domains (outside_step j number h).joint.domains
 unfolding outside_step after_outside
@@ -212,21 +209,16 @@ record EndsSo (e : ℕ) (j : Joint) (items : List Item) (t : Turn) : Type 0 wher
 domain_ended_so : (e : ℕ) (j : Joint) (number : ℕ) (h : Hart) (d : ℕ) (w : World) (how : Went) →
     EndsSo e j (items_of w) (domain_ended j number h d w how)
 unfolding domain_ended
-domain_ended_so e j number h d w went.Stay = record { told = refl; domains = refl }
-domain_ended_so e j number h d w went.Stopped = record { told = refl; domains = refl }
-domain_ended_so e j number h d w (went.Remapped space) = record { told = refl; domains = refl }
 domain_ended_so e j number h d w (went.Leave s) = record { told = leave_told e (items_of w) s; domains = refl }
 domain_ended_so e j number h d w (went.SpaceGone space s) =
     record { told = leave_told e (items_of w) s; domains = refl }
+domain_ended_so e j number h d w _ = record { told = refl; domains = refl }
 
 interrupt_ended_so : (e : ℕ) (j : Joint) (number : ℕ) (h : Hart) (items : List Item) (how : Went) →
     EndsSo e j items (interrupt_ended j number h items how)
 unfolding interrupt_ended
-interrupt_ended_so e j number h items went.Stay = record { told = refl; domains = refl }
-interrupt_ended_so e j number h items went.Stopped = record { told = refl; domains = refl }
-interrupt_ended_so e j number h items (went.Remapped space) = record { told = refl; domains = refl }
 interrupt_ended_so e j number h items (went.Leave s) = record { told = leave_told e items s; domains = refl }
-interrupt_ended_so e j number h items (went.SpaceGone space s) = record { told = refl; domains = refl }
+interrupt_ended_so e j number h items _ = record { told = refl; domains = refl }
 
 -- if nothing or the timer is told of, nothing is done
 

@@ -148,9 +148,6 @@ ecall_keeps h disk s whole =
 carried_out_keeps : (h : Hart) (disk : List ℕ) (word : ℕ) (i : Instr) (e : Effect) (s : Seen) → AreWhole s.ram →
     Keeps (length disk) (carried_out h disk word i e (Flat s))
 unfolding carried_out
-carried_out_keeps h disk word i (does.Write rd value) s whole = refl
-carried_out_keeps h disk word i (does.Jump rd link target) s whole = refl
-carried_out_keeps h disk word i (does.Go target) s whole = refl
 carried_out_keeps h disk word i (does.Load rd va width is_signed) s whole =
     let told = ask_load (satp_of h.csrs) (access h Load va) width (Flat s) in
     or_trap_keeps (length disk) h disk va told.answer
@@ -163,8 +160,7 @@ carried_out_keeps h disk word i (does.Store va width value) s whole =
 carried_out_keeps h disk word i does.System s whole =
     keeps_asking (length disk) (is_ecall i) (ecall h disk) (ends disk (system h word i)) (Flat s)
     (ecall_keeps h disk s whole) refl
-carried_out_keeps h disk word i does.Nothing s whole = refl
-carried_out_keeps h disk word i (does.Raise cause value) s whole = refl
+carried_out_keeps h disk word i _ s whole = refl
 
 combine_keeps : (h : Hart) (disk : List ℕ) (rd : ℕ) (op : AtomicOp) (va operand : ℕ) (w : World) →
     Keeps (length disk) (then_ask (ask_combine (satp_of h.csrs) (access h Store va) op operand)

@@ -6,7 +6,7 @@ use Rattle.cloak_model.specs.declared.inside.Went.{Went}
 use Rattle.cloak_model.specs.declared.inside.Went.TheVariants as went
 use Rattle.cloak_model.specs.declared.item.Item.{Item}
 use Rattle.cloak_model.specs.declared.outcome.Kernel.{Kernel}
-use Rattle.cloak_model.specs.declared.outcome.Kernel.TheVariants.{Stay, Trapped, Put, Halt, Resume}
+use Rattle.cloak_model.specs.declared.outcome.Kernel.TheVariants.{Stay, Resume}
 use Rattle.cloak_model.specs.Ahead.{made_after, settle_touched, settled_step, with_shown}
 use Rattle.cloak_model.specs.Cloaking.{CloakedMemory, seen_in}
 use Rattle.cloak_model.specs.Contexts.{Admitted, context_at, domain_of, slot_of}
@@ -54,11 +54,8 @@ resume_leaves j hart satp ctx reply = domain_leaves j hart satp ctx reply _
 ended_leaves : (j : Joint) (number : ℕ) (items : List Item) (k : Kernel) →
     (outside_ended j number items k).joint.disk ≡ j.disk
 unfolding outside_ended
-ended_leaves j number items Stay = refl
-ended_leaves j number items Trapped = refl
-ended_leaves j number items (Put b) = refl
-ended_leaves j number items (Halt value) = refl
 ended_leaves j number items (Resume ctx answer) = resume_leaves j number _ ctx answer
+ended_leaves j number items _ = refl
 
 -- frames that were shown pages have their bytes
 shown_whole : (ciphers : List (ℕ × List ℕ)) (s : Seen) → ArePages ciphers → AreWhole s.ram →
@@ -94,19 +91,13 @@ interrupt_leaves : (j : Joint) (number : ℕ) (h : Hart) (items : List Item) (en
     (interrupt_ended j number h items ended).joint.disk ≡ j.disk
 unfolding interrupt_ended
 interrupt_leaves j number h items went.Stay = refl
-interrupt_leaves j number h items (went.Leave s) = refl
-interrupt_leaves j number h items went.Stopped = refl
-interrupt_leaves j number h items (went.SpaceGone space s) = refl
-interrupt_leaves j number h items (went.Remapped space) = refl
+interrupt_leaves j number h items _ = refl
 
 stepped_leaves : (j : Joint) (number : ℕ) (h : Hart) (d : ℕ) (w : World) (ended : Went) →
     (domain_ended j number h d w ended).joint.disk ≡ j.disk
 unfolding domain_ended
 stepped_leaves j number h d w went.Stay = refl
-stepped_leaves j number h d w (went.Leave s) = refl
-stepped_leaves j number h d w went.Stopped = refl
-stepped_leaves j number h d w (went.SpaceGone space s) = refl
-stepped_leaves j number h d w (went.Remapped space) = refl
+stepped_leaves j number h d w _ = refl
 
 due_leaves : (due : Bool) (j : Joint) (number : ℕ) (h : Hart) (d slot : ℕ) (was : Domain) →
     (by_interrupt due j number h d slot was).joint.disk ≡ j.disk

@@ -15,7 +15,7 @@ use Rattle.cloak_model.specs.Contexts.{domain_of, slot_of}
 use Rattle.cloak_model.specs.DomainState.{Domain}
 use Rattle.cloak_model.specs.DomainStep.{DomainStepped, interrupt, resume_slot}
 use Rattle.cloak_model.specs.DomainAlone as alone
-use Rattle.cloak_model.specs.DomainAlone.{DomainAlone, DomainPlace, Between, Other, Running, Done, Stopped, Over, Wants, Wrong, tried, try_with, handed_of, is_stopped, domain_taken, take_domain_item, domain_takes, take_domain_step, domain_step_ended, domain_step_begun, slot_on, place_for, take_answer, answered_by, made_by, take_timer, take_resume, resumed_by, is_granted, with_control}
+use Rattle.cloak_model.specs.DomainAlone.{DomainAlone, DomainPlace, Between, Other, Running, Done, Stopped, Over, Wants, tried, try_with, handed_of, is_stopped, domain_taken, take_domain_item, domain_takes, take_domain_step, domain_step_ended, domain_step_begun, slot_on, place_for, take_answer, answered_by, made_by, take_timer, take_resume, resumed_by, is_granted, with_control}
 use Rattle.script_fold.proofs.Scripts.{played}
 use Rattle.script_fold.proofs.StepScripts.{step_scripted}
 use Rattle.domain_isolation.proofs.Answers.{alone_with, IsServing}
@@ -60,16 +60,12 @@ same_number n x y = ap (λ (b : Bool). cond b x y) (eq-eqb n n refl)
 made_fits : (r : alone.Tried) (s : DomainAlone) → (made_by r s).unfit ≡ None → s.unfit ≡ None
 unfolding made_by
 made_fits (Over p) s fits = fits
-made_fits Wants s fits = absurd cc
-made_fits Wrong s fits = absurd cc
+made_fits _ s fits = absurd cc
 
 ended_fits : (place : DomainPlace) (s : DomainAlone) → (domain_step_ended place s).unfit ≡ None → s.unfit ≡ None
 unfolding domain_step_ended
 ended_fits (Running slot answers) s fits = made_fits (try_with slot answers s.part) s fits
-ended_fits Between s fits = fits
-ended_fits (Other hart) s fits = fits
-ended_fits Done s fits = fits
-ended_fits Stopped s fits = fits
+ended_fits _ s fits = fits
 
 step_again : (schedule : List ℕ) (k : ℕ) (place : DomainPlace) (s : DomainAlone) → s.place ≡ place →
     (domain_step_ended place s).place ≡ Between →
@@ -77,12 +73,11 @@ step_again : (schedule : List ℕ) (k : ℕ) (place : DomainPlace) (s : DomainAl
     (domain_step_ended place s)
 unfolding domain_step_ended take_domain_step
 step_again schedule k Between s is rests = ap (λ (place : DomainPlace). take_domain_step schedule k place s) (sym rests)
-step_again schedule k (Other hart) s is rests = refl
 step_again schedule k (Running slot answers) s is rests =
     ap (λ (place : DomainPlace). take_domain_step schedule k place (made_by (try_with slot answers s.part) s))
     (sym rests)
-step_again schedule k Done s is rests = refl
 step_again schedule k Stopped s is rests = absurd (let clash : Stopped ≡ Between = sym is ∙ rests in cc)
+step_again schedule k _ s is rests = refl
 
 -- a step is read from where the one before it has ended
 pub from_ended : (d : ℕ) (schedule : List ℕ) (k : ℕ) (items : List Item) (s : DomainAlone) (p : DomainPart)
@@ -193,9 +188,7 @@ answer_taken : (n : ℕ) (schedule : List ℕ) (p : DomainPart) (k slot : ℕ) (
     ≡ answered_by slot before a (try_with slot (before ++ a ∷ []) p) (alone_at p k (Running slot before))
 unfolding take_domain_item domain_takes take_answer
 answer_taken n schedule p k slot before told.Ok = same_number n _ _
-answer_taken n schedule p k slot before (told.Absent cause) = same_number n _ _
-answer_taken n schedule p k slot before (told.Word value) = same_number n _ _
-answer_taken n schedule p k slot before told.Stopped = same_number n _ _
+answer_taken n schedule p k slot before _ = same_number n _ _
 
 over_rests : (p : DomainPart) (k : ℕ) (stopped stops : Bool) → (stopped ≡ true → stops ≡ true) →
     RestsAt (ended (alone_at p k (if stopped then Stopped else Done))) p stops

@@ -63,9 +63,8 @@ offered_has q va kind g Mismatch (Alone h) = refl
 
 offer_has : (q : PageId) (va : ℕ) (kind : Kind) (g : ℕ) (w : World) → ForAccess (ask_offer q va kind g w).answer
 unfolding ask_offer
-offer_has q va kind g (Flat ram) = refl
 offer_has q va kind g (Cloaked c) = offered_has q va kind g _ _
-offer_has q va kind g (Alone h) = refl
+offer_has q va kind g _ = refl
 
 reached_has : (q : PageId) (va : ℕ) (kind : Kind) (to : Result ℕ ℕ) (w : World) →
     ForAccess (reached q va kind to w).answer
@@ -207,24 +206,19 @@ pub question_missing : {d : ℕ} (question : Question d) (plain : PageId → Lis
     IsStuck (asked question (alone_with d plain [])).world
 unfolding ask_reach ask_get ask_put ask_clear next_answer
 question_missing {d} (Reach q own va kind) plain = (domain_pages d plain, refl)
-question_missing {d} (Get va width) plain = (domain_pages d plain, refl)
-question_missing {d} (Put va width value at) plain = (domain_pages d plain, refl)
-question_missing {d} (Clear marked) plain = (domain_pages d plain, refl)
+question_missing {d} _ plain = (domain_pages d plain, refl)
 
 pub question_stuck : {d : ℕ} (question : Question d) (plain : ℕ → ℕ → List ℕ) →
     IsStuck (asked question (stuck_with plain)).world
 unfolding ask_reach ask_get ask_put ask_clear next_answer
 question_stuck (Reach q own va kind) plain = (plain, refl)
-question_stuck (Get va width) plain = (plain, refl)
-question_stuck (Put va width value at) plain = (plain, refl)
-question_stuck (Clear marked) plain = (plain, refl)
+question_stuck _ plain = (plain, refl)
 
 pub change_stuck : {d : ℕ} (change : Change d) (plain : ℕ → ℕ → List ℕ) →
     IsStuck (changed change (stuck_with plain)).world
 unfolding ask_write ask_copy ask_forget
 change_stuck (Write q own at width value) plain = (_, refl)
-change_stuck (Copy from to) plain = (_, refl)
-change_stuck (Forget resource) plain = (_, refl)
+change_stuck _ plain = (_, refl)
 
 -- A read, and a change, of the program's own pages.
 

@@ -41,17 +41,7 @@ parsed_one : (i : Item) (rest : Parsed) → IsOfStep i →
     parsed_before i rest ≡ record { front = i ∷ rest.front; steps = rest.steps }
 parsed_one (item.Step number) rest is = absurd cc
 parsed_one (item.Close steps) rest is = absurd cc
-parsed_one item.End rest is = refl
-parsed_one (item.Cipher frame bytes) rest is = refl
-parsed_one (item.Put address width value) rest is = refl
-parsed_one (item.Leave s) rest is = refl
-parsed_one (item.Ok domain) rest is = refl
-parsed_one (item.Absent domain cause) rest is = refl
-parsed_one (item.Word domain value) rest is = refl
-parsed_one (item.Timer domain) rest is = refl
-parsed_one (item.Resume domain ctx reply) rest is = refl
-parsed_one (item.Stopped domain) rest is = refl
-parsed_one (item.Ended domain) rest is = refl
+parsed_one _ rest is = refl
 
 parsed_step : (told items : List Item) → AllByRecursion IsOfStep told →
     parsed (told ++ items) ≡ record { front = told ++ (parsed items).front; steps = (parsed items).steps }

@@ -21,13 +21,7 @@ takes_others d schedule s (item.Leave x) is = refl
 takes_others d schedule s (item.Step number) is = absurd cc
 takes_others d schedule s (item.Close steps) is = absurd cc
 takes_others d schedule s item.End is = refl
-takes_others d schedule s (item.Ok domain) is = not_chosen _ _ _ is
-takes_others d schedule s (item.Absent domain cause) is = not_chosen _ _ _ is
-takes_others d schedule s (item.Word domain value) is = not_chosen _ _ _ is
-takes_others d schedule s (item.Stopped domain) is = not_chosen _ _ _ is
-takes_others d schedule s (item.Ended domain) is = not_chosen _ _ _ is
-takes_others d schedule s (item.Timer domain) is = not_chosen _ _ _ is
-takes_others d schedule s (item.Resume domain ctx reply) is = not_chosen _ _ _ is
+takes_others d schedule s _ is = not_chosen _ _ _ is
 
 item_ignored : (d : ℕ) (schedule : List ℕ) (s : DomainAlone) (i : Item) → is_inward d i ≡ false →
     take_domain_item d schedule s i ≡ s

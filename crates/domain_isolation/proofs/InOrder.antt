@@ -7,7 +7,7 @@ use Rattle.std.proofs.lemmas.List.{get_or-set_same, get_or-set_other, get_or_pas
 use Rattle.cloak_base.specs.declared.names.HartId.{HartId}
 use Rattle.cloak_model.specs.declared.context.ResumeFault.TheVariants.{Busy}
 use Rattle.cloak_model.specs.declared.context.Phase.{Phase}
-use Rattle.cloak_model.specs.declared.context.Phase.TheVariants.{Plain, CopyIn, Waiting, CopyOut}
+use Rattle.cloak_model.specs.declared.context.Phase.TheVariants.{Waiting}
 use Rattle.cloak_model.specs.Hart.{Hart, started}
 use Rattle.cloak_model.specs.Contexts.{Context, Resumed, context_at, domain_of, slot_of, resume_at, resume_if, with_context}
 use Rattle.cloak_model.specs.Calls.{finish_call}
@@ -324,10 +324,8 @@ finish_on answer c = either_on _ _ _ c.on refl refl
 
 answer_in_on : (p : Phase) (answer : ℕ) (c : Context) → (answer_in p answer c).on ≡ c.on
 unfolding answer_in
-answer_in_on Plain answer c = refl
-answer_in_on (CopyIn done) answer c = refl
 answer_in_on Waiting answer c = finish_on answer c
-answer_in_on (CopyOut done total) answer c = refl
+answer_in_on _ answer c = refl
 
 answer_taken_runs : (slot answer : ℕ) (o : Option Context) (d : Control) → context_at d.contexts slot ≡ o → (m s : ℕ) →
     runs_in m (answer_taken slot answer o d).contexts s ≡ runs_in m d.contexts s

@@ -21,7 +21,7 @@ use Rattle.cloak_model.specs.Record.{IsOfStep}
 use Rattle.cloak_model.specs.Cloaking.{CloakedMemory}
 use Rattle.cloak_model.specs.KernelStep.{ticked}
 use Rattle.cloak_model.specs.Leaving.{leave}
-use Rattle.cloak_model.specs.World.{World, Flat, Cloaked, Alone, plain_of, items_of, violation_of, is_missed}
+use Rattle.cloak_model.specs.World.{World, Cloaked, plain_of, items_of, violation_of, is_missed}
 use Rattle.cloak_model.specs.Asking.{Told}
 use Rattle.cloak_model.specs.AskPages.{answer_item}
 use Rattle.cloak_model.specs.Contexts.{Context, context_at, domain_of, slot_of}
@@ -162,14 +162,12 @@ interrupt_if_alone d count schedule k n p j h ctx old (Some c) order has is runs
 -- Its context makes a step.
 
 pub memory_plain : (w : World) (m : CloakedMemory) → is_cloaked w ≡ true → (memory_of w m).plain ≡ plain_of w
-memory_plain (Flat ram) m cloaked = absurd (false≢true cloaked)
 memory_plain (Cloaked c) m cloaked = refl
-memory_plain (Alone h) m cloaked = absurd (false≢true cloaked)
+memory_plain _ m cloaked = absurd (false≢true cloaked)
 
 memory_missed : (w : World) (m : CloakedMemory) → is_cloaked w ≡ true → (memory_of w m).ledger.missed ≡ is_missed w
-memory_missed (Flat ram) m cloaked = absurd (false≢true cloaked)
 memory_missed (Cloaked c) m cloaked = refl
-memory_missed (Alone h) m cloaked = absurd (false≢true cloaked)
+memory_missed _ m cloaked = absurd (false≢true cloaked)
 
 -- the joint machine with a domain and a memory after a step
 abbrev with_step : ℕ → Domain → CloakedMemory → Joint → Joint
@@ -179,19 +177,13 @@ ended_domains : (j : Joint) (n : ℕ) (h : Hart) (e : ℕ) (w : World) (g : Went
     (domain_ended j n h e w g).joint.domains ≡ j.domains
 unfolding domain_ended
 ended_domains j n h e w went.Stay = refl
-ended_domains j n h e w went.Stopped = refl
-ended_domains j n h e w (went.Remapped space) = refl
-ended_domains j n h e w (went.Leave s) = refl
-ended_domains j n h e w (went.SpaceGone space s) = refl
+ended_domains j n h e w _ = refl
 
 ended_plain : (j : Joint) (n : ℕ) (h : Hart) (e : ℕ) (w : World) (g : Went) →
     (domain_ended j n h e w g).joint.memory.plain ≡ j.memory.plain
 unfolding domain_ended
 ended_plain j n h e w went.Stay = refl
-ended_plain j n h e w went.Stopped = refl
-ended_plain j n h e w (went.Remapped space) = refl
-ended_plain j n h e w (went.Leave s) = refl
-ended_plain j n h e w (went.SpaceGone space s) = refl
+ended_plain j n h e w _ = refl
 
 with_leave : (d : ℕ) (items : List Item) (s : Shown) → inward_half d (items ++ item.Leave s ∷ []) ≡ inward_half d items
 with_leave d items s = filter-append (is_inward d) items (item.Leave s ∷ []) ∙ append-nil (inward_half d items)
@@ -199,11 +191,9 @@ with_leave d items s = filter-append (is_inward d) items (item.Leave s ∷ []) �
 ended_items : (d : ℕ) (j : Joint) (n : ℕ) (h : Hart) (e : ℕ) (w : World) (g : Went) →
     inward_half d (domain_ended j n h e w g).items ≡ inward_half d (items_of w)
 unfolding domain_ended
-ended_items d j n h e w went.Stay = refl
-ended_items d j n h e w went.Stopped = refl
-ended_items d j n h e w (went.Remapped space) = refl
 ended_items d j n h e w (went.Leave s) = with_leave d (items_of w) s
 ended_items d j n h e w (went.SpaceGone space s) = with_leave d (items_of w) s
+ended_items d j n h e w _ = refl
 
 ended_order : (count : ℕ) (j : Joint) (m : CloakedMemory) (n : ℕ) (h : Hart) (w : World) (ctx : ℕ)
     (old new : Domain) (g : Went) → InOrder count j.harts j.domains →
@@ -212,16 +202,12 @@ ended_order : (count : ℕ) (j : Joint) (m : CloakedMemory) (n : ℕ) (h : Hart)
     let t = domain_ended (with_step (domain_of ctx) new m j) n h (domain_of ctx) w g in
     InOrder count t.joint.harts t.joint.domains
 unfolding domain_ended
-ended_order count j m n h w ctx old new went.Stay order is runs kept moves =
-    order_stays count j.harts j.domains n h (domain_of ctx) (slot_of ctx) old new order is kept moves
-ended_order count j m n h w ctx old new went.Stopped order is runs kept moves =
-    order_stays count j.harts j.domains n h (domain_of ctx) (slot_of ctx) old new order is kept moves
-ended_order count j m n h w ctx old new (went.Remapped space) order is runs kept moves =
-    order_stays count j.harts j.domains n h (domain_of ctx) (slot_of ctx) old new order is kept moves
 ended_order count j m n h w ctx old new (went.Leave s) order is runs kept moves =
     order_leaves count j.harts j.domains n (leave h s) ctx old new order is runs moves
 ended_order count j m n h w ctx old new (went.SpaceGone space s) order is runs kept moves =
     order_leaves count j.harts j.domains n (leave h s) ctx old new order is runs moves
+ended_order count j m n h w ctx old new _ order is runs kept moves =
+    order_stays count j.harts j.domains n h (domain_of ctx) (slot_of ctx) old new order is kept moves
 
 halted_if : (missed missed' : Bool) (o : Option Violation) → missed ≡ missed' → (missed' || is_some o) ≡ true →
     (is_some o || is_some (if missed then Some stop.NoRandom else stop_without_miss None)) ≡ true
@@ -241,17 +227,12 @@ ended_stops j n h e w g missed is halted = absurd cc
 pub ended_met : (j : Joint) (n : ℕ) (h : Hart) (e : ℕ) (w : World) (g : Went) →
     is_some (domain_ended j n h e w g).violation ≡ true → is_some (violation_of w) ≡ true
 unfolding domain_ended
-ended_met j n h e w went.Stay some = absurd (false≢true some)
 ended_met j n h e w went.Stopped some = some
-ended_met j n h e w (went.Remapped space) some = absurd (false≢true some)
-ended_met j n h e w (went.Leave s) some = absurd (false≢true some)
-ended_met j n h e w (went.SpaceGone space s) some = absurd (false≢true some)
+ended_met j n h e w _ some = absurd (false≢true some)
 
 inward_elsewhere : (e d : ℕ) (a : Answer) → d ≢ e → is_inward d (answer_item e a) ≡ false
 inward_elsewhere e d told.Ok other = ne_eqb e d (λ same. other (sym same))
-inward_elsewhere e d (told.Absent cause) other = ne_eqb e d (λ same. other (sym same))
-inward_elsewhere e d (told.Word value) other = ne_eqb e d (λ same. other (sym same))
-inward_elsewhere e d told.Stopped other = ne_eqb e d (λ same. other (sym same))
+inward_elsewhere e d _ other = ne_eqb e d (λ same. other (sym same))
 
 answers_elsewhere : (e d : ℕ) (answers : List Answer) → d ≢ e → inward_half d (answer_items e answers) ≡ []
 answers_elsewhere e d [] other = refl
@@ -273,9 +254,7 @@ half_of_step d (i ∷ items) all =
 
 answer_of_step : (e : ℕ) (a : Answer) → IsOfStep (answer_item e a)
 answer_of_step e told.Ok = refl
-answer_of_step e (told.Absent cause) = refl
-answer_of_step e (told.Word value) = refl
-answer_of_step e told.Stopped = refl
+answer_of_step e _ = refl
 
 answers_of_step : (e : ℕ) (answers : List Answer) → AllByRecursion IsOfStep (answer_items e answers)
 answers_of_step e [] = tt

@@ -9,7 +9,7 @@ use Rattle.rv_isa.specs.Table.{instruction}
 use Rattle.rv_isa.specs.declared.instr.Instr.{Instr}
 use Rattle.rv_isa.specs.declared.instr.Instr.TheVariants.{Csrrw, Csrrs, Csrrc, Csrrwi, Csrrsi, Csrrci, Ebreak, Sret, Wfi, SfenceVma}
 use Rattle.cloak_model.specs.declared.outcome.Kernel.{Kernel}
-use Rattle.cloak_model.specs.declared.outcome.Kernel.TheVariants.{Stay, Put, Halt, Resume, Trapped}
+use Rattle.cloak_model.specs.declared.outcome.Kernel.TheVariants.{Resume}
 use Rattle.cloak_model.specs.declared.outcome.Effect.{Effect}
 use Rattle.cloak_model.specs.declared.outcome.Effect.TheVariants as does
 use Rattle.cloak_model.specs.Csr.{csr_read, satp_of, interrupt_due, with_pending}
@@ -28,11 +28,8 @@ use Rattle.rv_atomic.specs.declared.atomic.AtomicOp.{AtomicOp}
 use Rattle.rv_atomic.specs.declared.atomic.AtomicOp.TheVariants.{Lr, Sc, Swap, Add, Xor, And, Or, Min, Max, Minu, Maxu}
 
 abbrev pub inside_after : Kernel → Option ℕ → Option ℕ
-inside_after Stay was = was
-inside_after Trapped was = was
-inside_after (Put byte) was = was
-inside_after (Halt value) was = was
 inside_after (Resume ctx answer) was = Some ctx
+inside_after _ was = was
 
 abbrev MadeSo : Option ℕ → SteppedHart → Type 0
 MadeSo was m = m.hart.inside ≡ inside_after m.ending was
@@ -153,9 +150,6 @@ ecall_so h disk w =
 carried_out_so : (h : Hart) (disk : List ℕ) (word : ℕ) (i : Instr) (e : Effect) →
     StepsSo h.inside (carried_out h disk word i e)
 unfolding carried_out
-carried_out_so h disk word i (does.Write rd value) w = refl
-carried_out_so h disk word i (does.Jump rd link target) w = refl
-carried_out_so h disk word i (does.Go target) w = refl
 carried_out_so h disk word i (does.Load rd va width is_signed) w =
     let found = ask_load (satp_of h.csrs) (access h Load va) width w in
     let next : ℕ → Asking SteppedKernel = λ value.
@@ -169,8 +163,8 @@ carried_out_so h disk word i does.System w =
     either_so (λ (ask : Asking SteppedKernel). (ask w).answer.hart.inside ≡ inside_after (ask w).answer.ending h.inside)
     (is_ecall i) (ecall h disk) (ends disk (system h word i))
     (ecall_so h disk w) (system_so h word i)
-carried_out_so h disk word i does.Nothing w = refl
 carried_out_so h disk word i (does.Raise cause value) w = raised_so h cause value
+carried_out_so h disk word i _ w = refl
 
 operation_so : (h : Hart) (disk : List ℕ) (a : Atomic) (op : AtomicOp) (va operand : ℕ) → (w : World) →
     let found = ask_combine (satp_of h.csrs) (access h Store va) op operand w in

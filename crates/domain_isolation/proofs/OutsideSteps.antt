@@ -10,7 +10,7 @@ use Rattle.cloak_model.specs.declared.context.ResumeFault.{ResumeFault}
 use Rattle.cloak_model.specs.declared.item.Item.{Item}
 use Rattle.cloak_model.specs.declared.item.Item.TheVariants as item
 use Rattle.cloak_model.specs.declared.outcome.Kernel.{Kernel}
-use Rattle.cloak_model.specs.declared.outcome.Kernel.TheVariants.{Stay, Put, Halt, Resume, Trapped}
+use Rattle.cloak_model.specs.declared.outcome.Kernel.TheVariants.{Put, Halt, Resume}
 use Rattle.cloak_model.specs.Csr.{satp_of}
 use Rattle.cloak_model.specs.Hart.{Hart}
 use Rattle.cloak_model.specs.Halves.{is_inward, inward_half}
@@ -237,14 +237,6 @@ outside_ended_alone : (d count : ℕ) (schedule : List ℕ) (k n : ℕ) (p : Dom
     OutsideStep d count n p j h disk m items → h.inside ≡ inside_after ending None →
     StepAlone d count schedule k n p None (outside_ended (stepped_to n j h disk m) n items ending)
 unfolding outside_ended resume
-outside_ended_alone d count schedule k n p j h disk m items Stay o goes =
-    other_alone d count schedule k n p None (quiet (stepped_to n j h disk m) items) o.none o.half
-    (outside_has d count n p j h disk m items o)
-    (order_kept count j.harts j.domains n h o.order (goes ∙ sym o.out)) (λ some. tt)
-outside_ended_alone d count schedule k n p j h disk m items Trapped o goes =
-    other_alone d count schedule k n p None (quiet (stepped_to n j h disk m) items) o.none o.half
-    (outside_has d count n p j h disk m items o)
-    (order_kept count j.harts j.domains n h o.order (goes ∙ sym o.out)) (λ some. tt)
 outside_ended_alone d count schedule k n p j h disk m items (Put b) o goes =
     let j' = stepped_to n j h disk m in
     let has = outside_has d count n p j h disk m items o in
@@ -260,6 +252,10 @@ outside_ended_alone d count schedule k n p j h disk m items (Halt value) o goes 
 outside_ended_alone d count schedule k n p j h disk m items (Resume ctx reply) o goes =
     by_domain_alone d count schedule k n p j h disk m items
     (satp_of (hart_in (stepped_to n j h disk m) n).csrs) ctx reply (slice_get j.domains (domain_of ctx)) o goes refl
+outside_ended_alone d count schedule k n p j h disk m items _ o goes =
+    other_alone d count schedule k n p None (quiet (stepped_to n j h disk m) items) o.none o.half
+    (outside_has d count n p j h disk m items o)
+    (order_kept count j.harts j.domains n h o.order (goes ∙ sym o.out)) (λ some. tt)
 
 pub outside_alone : (d count : ℕ) (schedule : List ℕ) (k n : ℕ) (p : DomainPart) (j : Joint) →
     InOrder count j.harts j.domains → HoldsPart d j p → n < length j.harts → inside_at j.harts n ≡ None →

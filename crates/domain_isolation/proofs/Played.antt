@@ -110,9 +110,7 @@ stop_halts : {d : ℕ} {A : Type 0} (e : EndClaims A) (s : Script d A) (w : Worl
     Halts e (played s w)
 unfolding IsStop
 stop_halts e (Gives a) w is halted = record { stopped = is; halted = halted }
-stop_halts e (Asks question more) w is halted = absurd is
-stop_halts e (Reads q own at width more) w is halted = absurd is
-stop_halts e (Changes change more) w is halted = absurd is
+stop_halts e _ w is halted = absurd is
 
 is_stop : (a : Answer) → is_stopped a ≡ true → a ≡ told.Stopped
 is_stop told.Stopped is = refl
@@ -159,9 +157,7 @@ last_cons a (b ∷ answers) last = last
 stop_answers : {d : ℕ} {A : Type 0} (e : EndClaims A) (s : Script d A) (w : World) → IsStop e s → answers_of s w ≡ []
 unfolding IsStop
 stop_answers e (Gives a) w is = refl
-stop_answers e (Asks question more) w is = absurd is
-stop_answers e (Reads q own at width more) w is = absurd is
-stop_answers e (Changes change more) w is = absurd is
+stop_answers e _ w is = absurd is
 
 met_by : {d : ℕ} {A : Type 0} (e : EndClaims A) (question : Question d) (more : Answer → Script d A) (w : World) →
     IsServing d w → violation_of w ≡ None → IsStop e (more told.Stopped) → (o : Option Violation) →

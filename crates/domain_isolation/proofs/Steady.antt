@@ -26,9 +26,8 @@ use Rattle.cloak_model.proofs.Clashes.{either}
 use Rattle.script_fold.proofs.Questions.{Opens, opens_by, keeps_inside_address, keeps_if_marked}
 
 abbrev pub is_cloaked : World → Bool
-is_cloaked (Flat ram) = false
 is_cloaked (Cloaked c) = true
-is_cloaked (Alone h) = false
+is_cloaked _ = false
 
 -- Settling and offering change no page.
 
@@ -195,9 +194,8 @@ Steady-opened : (satp : ℕ) (a : Access) (pa : ℕ) (w : World) → Steady w (o
 Steady-opened satp a pa w = steady_opens.opened satp a pa w
 
 Steady-stored_at : (pa width value : ℕ) (w : World) → Steady w (stored_at pa width value w)
-Steady-stored_at pa width value (Flat ram) = record { plain = refl; regime = refl; form = refl; items = λ d. refl; violation = refl }
-Steady-stored_at pa width value (Cloaked c) = record { plain = refl; regime = refl; form = refl; items = λ d. refl; violation = refl }
 Steady-stored_at pa width value (Alone h) = Steady-refl (Alone h)
+Steady-stored_at pa width value _ = record { plain = refl; regime = refl; form = refl; items = λ d. refl; violation = refl }
 
 Steady-written : (i : Item) (w : World) → ((d : ℕ) → is_inward d i ≡ false) → Steady w (written i w)
 Steady-written i (Flat ram) outward = Steady-refl (Flat ram)
@@ -243,7 +241,6 @@ replied_after u v t s r = record {
 replied : (a : Answer) (w : World) → is_cloaked w ≡ true → (a ≡ told.Stopped → is_halted w ≡ true) →
     Replied w (replies a w)
 unfolding replies
-replied a (Flat ram) cloaked halted = absurd (false≢true cloaked)
 replied a (Cloaked c) cloaked halted = record {
   plain = refl;
   regime = refl;
@@ -252,7 +249,7 @@ replied a (Cloaked c) cloaked halted = record {
   stops = halted;
   meets = λ none some. absurd (false≢true (sym (ap is_some none) ∙ some));
 }
-replied a (Alone h) cloaked halted = absurd (false≢true cloaked)
+replied a _ cloaked halted = absurd (false≢true cloaked)
 
 missed_halted : (w : World) → is_missed w ≡ true → is_halted w ≡ true
 missed_halted w missed = ap (λ (b : Bool). b || is_some (violation_of w)) missed
@@ -297,7 +294,6 @@ replied_offered q va kind g Mismatch (Alone h) cloaked marked = absurd (false≢
 replied_offer : (q : PageId) (va : ℕ) (kind : Kind) (g : ℕ) (w : World) → is_cloaked w ≡ true →
     Replied w (ask_offer q va kind g w)
 unfolding ask_offer
-replied_offer q va kind g (Flat ram) cloaked = absurd (false≢true cloaked)
 replied_offer q va kind g (Cloaked c) cloaked =
     let o = offer q g (is_store kind) c.memory in
     replied_after (Cloaked c) (Cloaked _) _
@@ -310,7 +306,7 @@ replied_offer q va kind g (Cloaked c) cloaked =
       violation = refl;
     })
     (replied_offered q va kind g o.answer (Cloaked _) refl (offer_marked q g (is_store kind) c.memory))
-replied_offer q va kind g (Alone h) cloaked = absurd (false≢true cloaked)
+replied_offer q va kind g _ cloaked = absurd (false≢true cloaked)
 
 replied_reached : (q : PageId) (va : ℕ) (kind : Kind) (to : Result ℕ ℕ) (w : World) → is_cloaked w ≡ true →
     Replied w (reached q va kind to w)

@@ -48,19 +48,9 @@ use Rattle.frozen_commands.proofs.WrittenFacts.{begins_no_record, has_written, i
 
 answers_refused : {S O : Type 0} (asked : spec.Asked) (r : Refusal) (before after : Outside S O) →
     IsRefused asked (status_of_refusal r) before after → FreezeAnswers asked before after (status_of_refusal r)
-answers_refused asked (refusal.Usage fault) before after refused = refused
-answers_refused asked (refusal.BadBundle fault) before after refused = refused
-answers_refused asked refusal.ReadFault before after refused = refused
-answers_refused asked refusal.NoMemory before after refused = refused
 answers_refused asked refusal.NoKey before after refused = inl refused
 answers_refused asked refusal.NoPageDraw before after refused = inl refused
-answers_refused asked refusal.NoSuchDomain before after refused = refused
-answers_refused asked refusal.ShortSecret before after refused = refused
-answers_refused asked (refusal.BadStore fault) before after refused = refused
-answers_refused asked (refusal.NoRoom domain) before after refused = refused
-answers_refused asked (refusal.BadState fault) before after refused = refused
-answers_refused asked (refusal.ChangedDomain domain) before after refused = refused
-answers_refused asked (refusal.ChangedFrame frame) before after refused = refused
+answers_refused asked _ before after refused = refused
 
 -- what is answered if there is no run
 pub answers_no_run : {S O : Type 0} {asked : spec.Asked} {r : Refusal} {before after : Outside S O} {given : Status} →
@@ -78,16 +68,10 @@ pub same_files : (names : spec.FreezeNames) (answer : Status) (held held' : List
     SameFiles held held' → KeepsFrozenFiles names answer held held'
 same_files names status.Done held held' same = λ other one. same other
 same_files names status.Violation held held' same = λ other one. same other
-same_files names status.Usage held held' same = same
-same_files names status.BadBundle held held' same = same
-same_files names status.ReadFault held held' same = same
 same_files names status.WriteFault held held' same = λ other one two. same other
-same_files names status.NoMemory held held' same = same
 same_files names status.NoRandom held held' same = λ other one. same other
-same_files names status.BadRecord held held' same = same
-same_files names status.BadStore held held' same = same
 same_files names status.Frozen held held' same = λ other one two. same other
-same_files names status.BadState held held' same = same
+same_files names _ held held' same = same
 
 -- A run that was prepared.
 

@@ -118,17 +118,7 @@ no_state {S} names steps randomness (refusal.BadState fault) before after versio
     }
 no_state {S} names steps randomness refusal.NoMemory before after version bytes front bundle file read judged reading held writing =
     no_memory _ before after reading held writing
-no_state {S} names steps randomness (refusal.Usage fault) before after version bytes front bundle file read judged reading held writing = absurd judged
-no_state {S} names steps randomness (refusal.BadBundle fault) before after version bytes front bundle file read judged reading held writing = absurd judged
-no_state {S} names steps randomness refusal.ReadFault before after version bytes front bundle file read judged reading held writing = absurd judged
-no_state {S} names steps randomness refusal.NoKey before after version bytes front bundle file read judged reading held writing = absurd judged
-no_state {S} names steps randomness refusal.NoPageDraw before after version bytes front bundle file read judged reading held writing = absurd judged
-no_state {S} names steps randomness refusal.NoSuchDomain before after version bytes front bundle file read judged reading held writing = absurd judged
-no_state {S} names steps randomness refusal.ShortSecret before after version bytes front bundle file read judged reading held writing = absurd judged
-no_state {S} names steps randomness (refusal.BadStore fault) before after version bytes front bundle file read judged reading held writing = absurd judged
-no_state {S} names steps randomness (refusal.NoRoom domain) before after version bytes front bundle file read judged reading held writing = absurd judged
-no_state {S} names steps randomness (refusal.ChangedDomain domain) before after version bytes front bundle file read judged reading held writing = absurd judged
-no_state {S} names steps randomness (refusal.ChangedFrame frame) before after version bytes front bundle file read judged reading held writing = absurd judged
+no_state {S} names steps randomness _ before after version bytes front bundle file read judged reading held writing = absurd judged
 
 -- more steps are asked for than are left
 pub too_many : {S : Type 0} (names : spec.ThawNames) (steps : ℕ) (randomness : spec.Randomness)
@@ -187,36 +177,6 @@ not_thawed {S} names steps randomness fault.NoRandom before after s asks few cau
   held = held;
   writing = writing;
 }
-not_thawed {S} names steps randomness (fault.Domain domain) before after s asks few cause reading held writing = record {
-  cause = record {
-    names = names;
-    steps = steps;
-    randomness = randomness;
-    thaw = refl;
-    sources = s;
-    asks = asks;
-    few = few;
-    cause = cause;
-    reading = reading;
-  };
-  held = held;
-  writing = writing;
-}
-not_thawed {S} names steps randomness (fault.Frame frame) before after s asks few cause reading held writing = record {
-  cause = record {
-    names = names;
-    steps = steps;
-    randomness = randomness;
-    thaw = refl;
-    sources = s;
-    asks = asks;
-    few = few;
-    cause = cause;
-    reading = reading;
-  };
-  held = held;
-  writing = writing;
-}
 not_thawed {S} names steps randomness (fault.Form at) before after s asks few cause reading held writing = record {
   cause = inr (record {
     names = names;
@@ -234,3 +194,18 @@ not_thawed {S} names steps randomness (fault.Form at) before after s asks few ca
 }
 not_thawed {S} names steps randomness fault.NoMemory before after s asks few cause reading held writing =
     no_memory _ before after reading held writing
+not_thawed {S} names steps randomness _ before after s asks few cause reading held writing = record {
+  cause = record {
+    names = names;
+    steps = steps;
+    randomness = randomness;
+    thaw = refl;
+    sources = s;
+    asks = asks;
+    few = few;
+    cause = cause;
+    reading = reading;
+  };
+  held = held;
+  writing = writing;
+}

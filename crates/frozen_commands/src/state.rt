@@ -1,7 +1,7 @@
 //! The frozen state that a file is.
-ghost use Rattle.std.specs.Prelude.{◌≡◌, ◌≤◌, IfOk, length};
+ghost use Rattle.std.specs.Prelude.{◌≡◌, ◌≤◌, IfErr, IfOk, length};
 ghost use Rattle.io_traits.specs.Told.{SameFiles};
-ghost use Rattle.command_parts.specs.Files.{ReadsFile};
+ghost use Rattle.command_parts.specs.Files.{ReadsFile, TellsUnread};
 ghost use Rattle.frozen_commands.specs.Thawing.{IsStateFront, JudgesState};
 
 use cloak_model::Bundle;
@@ -22,6 +22,7 @@ pub(crate) fn read_state<S: Shelf>(
 ) -> Result<Vec<u8>, Refusal>
     requires { S.is_settled shelf.old }
     ensures front { IfOk result (λ v. IsStateFront (S.held shelf.old name.now) v.items) }
+    ensures unread { IfErr result (TellsUnread (S.unread shelf.new) name.now) }
     ensures reading { ReadsFile (S.reading_faults shelf.old) (S.reading_faults shelf.new) result }
     ensures files { SameFiles (S.held shelf.old) (S.held shelf.new) }
     ensures writing { S.writing_faults shelf.new ≡ S.writing_faults shelf.old }

@@ -34,11 +34,10 @@ cleared_memory domain marked n m clear count q own is f owed = elim (cases_lt f 
 
 pub cleared_world : (domain : ℕ) (marked : List Bool) (n : ℕ) (w : World) →
     InWorld (λ m. length m.ledger.owed ≡ n) w → ClearBelow n domain marked w → MarkedClear domain marked w
-cleared_world domain marked n (Flat seen) count clear = λ resource is. tt
 cleared_world domain marked n (Cloaked c) count clear =
     λ resource is q own of f owed.
     cleared_memory domain marked n c.memory clear count q own (ap (λ (k : ℕ). slice_index_or marked k false) of ∙ is) f owed
-cleared_world domain marked n (Alone h) count clear = λ resource is. tt
+cleared_world domain marked n _ count clear = λ resource is. tt
 
 either_none : (domain resource : ℕ) (b : Bool) (x y : Told Answer) → NoneOwedIn domain resource x.world →
     NoneOwedIn domain resource y.world → NoneOwedIn domain resource (cond b x y).world

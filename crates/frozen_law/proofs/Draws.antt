@@ -16,7 +16,7 @@ use Rattle.cloak_model.specs.DomainStep.{domain_step}
 use Rattle.cloak_model.specs.Ending.{ask_end}
 use Rattle.cloak_model.specs.Events.{Event}
 use Rattle.cloak_model.specs.Fork.{marked, ask_copies, fork_cleared, fork_if, fork, end_cleared, end_if, end_context}
-use Rattle.cloak_model.specs.Hypercalls.{Hypercall, New, Map, Unmap, File, Thread, ForkSpace, Exit, Call, Unknown, hypercall, fork_call, exit_call}
+use Rattle.cloak_model.specs.Hypercalls.{Hypercall, ForkSpace, Exit, hypercall, fork_call, exit_call}
 use Rattle.cloak_model.specs.Ledger.{vector_of}
 use Rattle.cloak_model.specs.PageMoves.{copy_pages, drop_pages}
 use Rattle.cloak_model.specs.Resources.{Resources, page_at}
@@ -122,9 +122,8 @@ abbrev FewIn : ℕ → World → Type 0
 FewIn n w = InWorld (AreFew n) w
 
 wide_in : (a b : ℕ) (w : World) → a ≤ b → FewIn a w → FewIn b w
-wide_in a b (Flat seen) low few = tt
 wide_in a b (Cloaked c) low few = few_wide a b c.memory low few
-wide_in a b (Alone h) low few = tt
+wide_in a b _ low few = tt
 
 record Adds (a : ℕ) (w v : World) : Type 0 where
   pub by : (n : ℕ) → FewIn n w → FewIn (n + a) v
@@ -212,9 +211,7 @@ adds_fork_cleared : (d : ℕ) (c : Context) (slot new : ℕ) (r : Resources) (co
     (w : World) → Adds 0 w (fork_cleared d c slot new r contexts a w).world
 unfolding fork_cleared
 adds_fork_cleared d c slot new r contexts told.Ok w = adds_copies d _ w
-adds_fork_cleared d c slot new r contexts (told.Absent cause) w = adds_none w
-adds_fork_cleared d c slot new r contexts (told.Word value) w = adds_none w
-adds_fork_cleared d c slot new r contexts told.Stopped w = adds_none w
+adds_fork_cleared d c slot new r contexts _ w = adds_none w
 
 adds_fork_if : (fits : Result (Unit {0}) MapFault) (d : ℕ) (c : Context) (r : Resources)
     (contexts : List (Option Context)) (w : World) → Adds 0 w (fork_if fits d c r contexts w).world
@@ -233,9 +230,7 @@ adds_end_cleared : (d slot space : ℕ) (r : Resources) (contexts : List (Option
     Adds 0 w (end_cleared d slot space r contexts a w).world
 unfolding end_cleared
 adds_end_cleared d slot space r contexts told.Ok w = forgets_keep AnyPage Adds changes adds_forget d _ w
-adds_end_cleared d slot space r contexts (told.Absent cause) w = adds_none w
-adds_end_cleared d slot space r contexts (told.Word value) w = adds_none w
-adds_end_cleared d slot space r contexts told.Stopped w = adds_none w
+adds_end_cleared d slot space r contexts _ w = adds_none w
 
 adds_end_if : (others : Bool) (d slot space : ℕ) (r : Resources) (contexts : List (Option Context)) (w : World) →
     Adds 0 w (end_if others d slot space r contexts w).world
@@ -253,15 +248,9 @@ adds_end_context d slot space r contexts w = adds_end_if _ d slot space r contex
 adds_hypercall : (d : Control) (h : Hypercall) (slot : ℕ) (c : Context) (w : World) →
     Adds 0 w (hypercall h slot c d w).world
 unfolding hypercall fork_call exit_call
-adds_hypercall d New slot c w = adds_none w
-adds_hypercall d Map slot c w = adds_none w
-adds_hypercall d Unmap slot c w = adds_none w
-adds_hypercall d File slot c w = adds_none w
-adds_hypercall d Thread slot c w = adds_none w
 adds_hypercall d ForkSpace slot c w = adds_fork d.number c d.resources d.contexts w
 adds_hypercall d Exit slot c w = adds_end_context d.number slot c.space d.resources d.contexts w
-adds_hypercall d Call slot c w = adds_none w
-adds_hypercall d Unknown slot c w = adds_none w
+adds_hypercall d _ slot c w = adds_none w
 
 -- The step, and the end of a domain.
 

@@ -97,8 +97,7 @@ hart_in_range frames marks words h here = record {
 
 violation_of : (frames d : ℕ) (v : Violation) → IsViolationOf frames d v → range.IsViolationOf frames d v
 violation_of frames d (violation.Page q frame) is = (is.domain, is.resource, is.page, is.frame)
-violation_of frames d (violation.Context ctx) is = tt
-violation_of frames d (violation.Mapping ctx root) is = tt
+violation_of frames d _ is = tt
 
 violation_if : (frames d : ℕ) (o : Option Violation) → IfSome o (IsViolationOf frames d) →
     IfSome o (range.IsViolationOf frames d)

@@ -12,7 +12,7 @@ use Rattle.cloak_model.specs.declared.inside.Went.{Went}
 use Rattle.cloak_model.specs.declared.inside.Went.TheVariants as went
 use Rattle.cloak_model.specs.declared.item.Item.{Item}
 use Rattle.cloak_model.specs.declared.outcome.Kernel.{Kernel}
-use Rattle.cloak_model.specs.declared.outcome.Kernel.TheVariants.{Stay, Put, Halt, Resume, Trapped}
+use Rattle.cloak_model.specs.declared.outcome.Kernel.TheVariants.{Resume}
 use Rattle.cloak_model.specs.declared.sstatus.Sstatus.{Sstatus}
 use Rattle.cloak_model.specs.Ahead.{settled_step, made_after, settle_touched}
 use Rattle.cloak_model.specs.Asking.{Told}
@@ -84,11 +84,8 @@ resume_fits j hart satp ctx reply all = domain_fits j hart satp ctx reply _ all
 ended_fits : (j : Joint) (number : ℕ) (items : List Item) (e : Kernel) → JointFits j →
     JointFits (outside_ended j number items e).joint
 unfolding outside_ended
-ended_fits j number items Stay all = all
-ended_fits j number items Trapped all = all
-ended_fits j number items (Put b) all = all
-ended_fits j number items (Halt value) all = all
 ended_fits j number items (Resume ctx reply) all = resume_fits j number _ ctx reply all
+ended_fits j number items _ all = all
 
 outside_by : (j : Joint) (number : ℕ) (h : Hart) (s : AfterSettling) → JointFits j → Fits h →
     JointFits (after_outside j number (made_after h j.disk (cloak_outside j.memory h) s)).joint
@@ -105,11 +102,9 @@ outside_fits j number h all here = outside_by j number h (settle_touched h j.dis
 went_fits : (j : Joint) (number : ℕ) (h : Hart) (d : ℕ) (w : World) (how : Went) → JointFits j → Fits h →
     JointFits (domain_ended j number h d w how).joint
 unfolding domain_ended
-went_fits j number h d w went.Stay all here = set_fits j.harts number h all here
-went_fits j number h d w went.Stopped all here = set_fits j.harts number h all here
-went_fits j number h d w (went.Remapped space) all here = set_fits j.harts number h all here
 went_fits j number h d w (went.Leave s) all here = set_fits j.harts number _ all (leave_fits h s here)
 went_fits j number h d w (went.SpaceGone space s) all here = set_fits j.harts number _ all (leave_fits h s here)
+went_fits j number h d w _ all here = set_fits j.harts number h all here
 
 told_fits : (j : Joint) (number : ℕ) (h : Hart) (d : ℕ) (told : Told DomainStepped) → JointFits j → Fits h →
     JointFits (after_domain_step j number h d told).joint
@@ -119,11 +114,8 @@ told_fits j number h d told all here = went_fits _ number h d told.world told.an
 interrupted_fits : (j : Joint) (number : ℕ) (h : Hart) (items : List Item) (how : Went) → JointFits j → Fits h →
     JointFits (interrupt_ended j number h items how).joint
 unfolding interrupt_ended
-interrupted_fits j number h items went.Stay all here = set_fits j.harts number h all here
-interrupted_fits j number h items went.Stopped all here = set_fits j.harts number h all here
-interrupted_fits j number h items (went.Remapped space) all here = set_fits j.harts number h all here
 interrupted_fits j number h items (went.Leave s) all here = set_fits j.harts number _ all (leave_fits h s here)
-interrupted_fits j number h items (went.SpaceGone space s) all here = set_fits j.harts number h all here
+interrupted_fits j number h items _ all here = set_fits j.harts number h all here
 
 left_fits : (j : Joint) (number : ℕ) (h : Hart) (d : ℕ) (was : Domain) (step : Stepped) → JointFits j → Fits h →
     JointFits (after_interrupt j number h d was step).joint

@@ -236,14 +236,9 @@ asked_fits ask h disk va next w here more =
 -- Where an effect leads.
 
 abbrev Leads : Effect → Type 0
-Leads (does.Write rd value) = Unit {0}
 Leads (does.Jump rd link target) = target % 4 ≡ 0
 Leads (does.Go target) = target % 4 ≡ 0
-Leads (does.Load rd va width is_signed) = Unit {0}
-Leads (does.Store va width value) = Unit {0}
-Leads does.System = Unit {0}
-Leads does.Nothing = Unit {0}
-Leads (does.Raise cause value) = Unit {0}
+Leads _ = Unit {0}
 
 either_leads : (t : Bool) (x y : Effect) → (t ≡ true → Leads x) → Leads y → Leads (cond t x y)
 either_leads true x y here there = here refl

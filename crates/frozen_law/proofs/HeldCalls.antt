@@ -59,9 +59,8 @@ abbrev pub OfIn : (PageId → Type 0) → World → Type 0
 OfIn P w = InWorld (PagesAreOf P) w
 
 wide_in : (P Q : PageId → Type 0) (w : World) → ((q : PageId) → P q → Q q) → OfIn P w → OfIn Q w
-wide_in P Q (Flat seen) wide of = tt
 wide_in P Q (Cloaked c) wide of = of_wide P Q c.memory wide of
-wide_in P Q (Alone h) wide of = tt
+wide_in P Q _ wide of = tt
 
 -- Each change of a world, and so each question, for pages of a kind.
 
@@ -125,9 +124,8 @@ module _ (P : PageId → Type 0) where
   write_knows : (q : PageId) (at width value : ℕ) (w : World) → InWorld KnowsOf w →
       InWorld KnowsOf (ask_write q at width value w).world
   unfolding ask_write
-  write_knows q at width value (Flat seen) knows = tt
   write_knows q at width value (Cloaked c) knows = (knows.0, same_of c.memory _ refl knows.1)
-  write_knows q at width value (Alone h) knows = tt
+  write_knows q at width value _ knows = tt
 
   pub stores : Stores P Learns
   stores q own va kind at width value w is ok = record {
@@ -135,23 +133,20 @@ module _ (P : PageId → Type 0) where
   }
 
   pub of_knows : (w : World) → InWorld KnowsOf w → OfIn P w
-  of_knows (Flat seen) knows = tt
   of_knows (Cloaked c) knows = knows.1
-  of_knows (Alone h) knows = tt
+  of_knows _ knows = tt
 
   pub places_know : (w : World) → InWorld KnowsOf w → InWorld HasPlaces w
-  places_know (Flat seen) knows = tt
   places_know (Cloaked c) knows = knows.0
-  places_know (Alone h) knows = tt
+  places_know _ knows = tt
 
   -- Copies.
 
   copy_in : (d from to : ℕ) (w : World) →
       ((q : PageId) → is_of d to q ≡ true → P (page_in from q) → P q) → OfIn P w → OfIn P (ask_copy d from to w).world
   unfolding ask_copy
-  copy_in d from to (Flat seen) closed of = tt
   copy_in d from to (Cloaked c) closed of = copy_of_kind P d from to c.memory closed of
-  copy_in d from to (Alone h) closed of = tt
+  copy_in d from to _ closed of = tt
 
   abbrev IsClosedAt : ℕ → ℕ × ℕ → Type 0
   IsClosedAt d copy = (q : PageId) → is_of d copy.1 q ≡ true → P (page_in copy.0 q) → P q
@@ -172,16 +167,14 @@ IsApart d numbers q = q.domain ≡ d → All (λ n. q.resource ≢ n) numbers
 drop_in : (P : PageId → Type 0) (d n : ℕ) (w : World) → NoneOwedIn d n w → OfIn P w →
     OfIn (Without P d n) (ask_forget d n w).world
 unfolding ask_forget
-drop_in P d n (Flat seen) none of = tt
 drop_in P d n (Cloaked c) none of = drop_of P d n c.memory none of
-drop_in P d n (Alone h) none of = tt
+drop_in P d n _ none of = tt
 
 forget_owes : (d n : ℕ) (w : World) (resource : ℕ) → NoneOwedIn d resource w →
     NoneOwedIn d resource (ask_forget d n w).world
 unfolding ask_forget drop_pages
-forget_owes d n (Flat seen) resource none = tt
 forget_owes d n (Cloaked c) resource none = none
-forget_owes d n (Alone h) resource none = tt
+forget_owes d n _ resource none = tt
 
 pub forgets_in : (P : PageId → Type 0) (d : ℕ) (numbers : List ℕ) (w : World) → All (λ n. NoneOwedIn d n w) numbers →
     OfIn P w → OfIn (λ q. P q × IsApart d numbers q) (ask_forgets d numbers w).world
@@ -387,22 +380,14 @@ module _ (Other : PageId → Type 0) (d : Domain) (sound : IsSound d.control.res
   ended_holds : (slot : ℕ) (c : Context) (e : Ran) (w : World) → InWorld (KnowsOf Now) w →
       StepHolds (instruction_ended slot d c e w)
   unfolding instruction_ended
-  ended_holds slot c ran.Stay w knows = of_knows Now w knows
-  ended_holds slot c (ran.Loaded address value) w knows = of_knows Now w knows
-  ended_holds slot c (ran.Trap cause address) w knows = of_knows Now w knows
   ended_holds slot c ran.Ecall w knows = hypercall_holds Other d.control sound (hypercall_of c) slot c w knows
-  ended_holds slot c ran.Stopped w knows = of_knows Now w knows
+  ended_holds slot c _ w knows = of_knows Now w knows
 
   copied_same : (slot : ℕ) (c : Context) (e : Copied) →
       (copy_ended slot d c e).domain.control.resources ≡ d.control.resources
   unfolding copy_ended
   copied_same slot c copied.Going = refl
-  copied_same slot c copied.CallReady = refl
-  copied_same slot c copied.Done = refl
-  copied_same slot c (copied.Absent cause address) = refl
-  copied_same slot c copied.Stopped = refl
-  copied_same slot c copied.Refused = refl
-  copied_same slot c (copied.Loaded address byte) = refl
+  copied_same slot c _ = refl
 
   written_same : (wrote : Option WordPlace) (s : DomainStepped) →
       (after_write wrote s).domain.control.resources ≡ s.domain.control.resources

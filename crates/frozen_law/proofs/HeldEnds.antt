@@ -10,7 +10,7 @@ use Rattle.cloak_model.specs.Cloaking.{CloakedMemory}
 use Rattle.cloak_model.specs.Ending.{all_marked, settled_for, ask_end, cloak_for}
 use Rattle.cloak_model.specs.Opening.{numbers_below}
 use Rattle.cloak_model.specs.Resources.{Resources, resource_at}
-use Rattle.cloak_model.specs.World.{World, Flat, Cloaked, Alone, settled}
+use Rattle.cloak_model.specs.World.{World, Cloaked, settled}
 use Rattle.kernel_isolation.proofs.Settlings.{HasPlaces}
 use Rattle.resource_map.proofs.Lists.{inside_from_some}
 use Rattle.frozen_law.specs.Held.{IsHeldBy}
@@ -49,9 +49,8 @@ number_index (suc k) n default low =
 
 module _ (P : PageId → Type 0) where
   settled_in : (f : ℕ) (w : World) → OfIn P w → OfIn P (settled f w)
-  settled_in f (Flat seen) of = tt
   settled_in f (Cloaked c) of = settle_of P f c.memory of
-  settled_in f (Alone h) of = tt
+  settled_in f _ of = tt
 
   either_in : (b : Bool) (w v : World) → OfIn P w → OfIn P v → OfIn P (cond b v w)
   either_in true w v here there = there
@@ -68,9 +67,8 @@ module _ (P : PageId → Type 0) where
       settled_for_in d (f + 1) n (settled_if_marked d all_marked f w) (marked_in d f w of)
 
 settled_count : (n f : ℕ) (w : World) → InWorld (HasCount n) w → InWorld (HasCount n) (settled f w)
-settled_count n f (Flat seen) here = tt
 settled_count n f (Cloaked c) here = settle_count n f c.memory here
-settled_count n f (Alone h) here = tt
+settled_count n f _ here = tt
 
 either_count : (n : ℕ) (b : Bool) (w v : World) → InWorld (HasCount n) w → InWorld (HasCount n) v →
     InWorld (HasCount n) (cond b v w)

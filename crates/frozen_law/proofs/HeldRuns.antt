@@ -9,7 +9,7 @@ use Rattle.cloak_model.specs.declared.inside.Went.{Went}
 use Rattle.cloak_model.specs.declared.inside.Went.TheVariants as went
 use Rattle.cloak_model.specs.declared.item.Item.{Item}
 use Rattle.cloak_model.specs.declared.outcome.Kernel.{Kernel}
-use Rattle.cloak_model.specs.declared.outcome.Kernel.TheVariants.{Stay, Put, Halt, Resume, Trapped}
+use Rattle.cloak_model.specs.declared.outcome.Kernel.TheVariants.{Resume}
 use Rattle.cloak_model.specs.Ahead.{settle_while, settle_found, settle_touched, settled_step, made_after, is_owed}
 use Rattle.cloak_model.specs.Asking.{Told}
 use Rattle.cloak_model.specs.Cloaking.{CloakedMemory, AfterSettling, seen_in, with_seen, settle}
@@ -25,7 +25,7 @@ use Rattle.cloak_model.specs.Opening.{numbers_below}
 use Rattle.cloak_model.specs.Parts.{Joint}
 use Rattle.cloak_model.specs.Resources.{Resources}
 use Rattle.cloak_model.specs.Resuming.{with_roots, by_root, by_context, by_domain, resume}
-use Rattle.cloak_model.specs.World.{World, Cloak, Flat, Cloaked, Alone, seen_of}
+use Rattle.cloak_model.specs.World.{World, Cloak, Flat, Cloaked, seen_of}
 use Rattle.domain_isolation.proofs.InOrder.{decided}
 use Rattle.kernel_isolation.proofs.Accounts.{is_joint, IsJointWorld, ram_seen}
 use Rattle.kernel_isolation.proofs.Ends.{end_shows}
@@ -169,11 +169,8 @@ module _ (j : Joint) (from : AreFrom 0 j.domains) where
   outside_ended_good : (number : ℕ) (items : List Item) (e : Kernel) → number < 4 → JointGood j →
       JointGood (outside_ended j number items e).joint
   unfolding outside_ended
-  outside_ended_good number items Stay low here = here
-  outside_ended_good number items Trapped low here = here
-  outside_ended_good number items (Put b) low here = here
-  outside_ended_good number items (Halt value) low here = here
   outside_ended_good number items (Resume ctx reply) low here = resume_good number _ ctx reply low here
+  outside_ended_good number items _ low here = here
 
 -- A hart outside.
 
@@ -220,21 +217,18 @@ outside_good j number h low from here =
 went_good : (j : Joint) (number : ℕ) (h : Hart) (d : ℕ) (w : World) (how : Went) → JointGood j →
     JointGood (domain_ended j number h d w how).joint
 unfolding domain_ended
-went_good j number h d w went.Stay here = here
-went_good j number h d w went.Stopped here = here
-went_good j number h d w (went.Remapped space) here = here
 went_good j number h d w (went.Leave s) here =
     moved j.domains j.memory (without_mark number j.memory) refl refl refl here
 went_good j number h d w (went.SpaceGone space s) here =
     moved j.domains j.memory (without_mark number (without_root (record { domain = d; number = space }) j.memory)) refl
     refl refl here
+went_good j number h d w _ here = here
 
 memory_good : (domains : List Domain) (P : PageId → Type 0) (w : World) (m : CloakedMemory) → IsJointWorld w →
     AllKeep domains → ((q : PageId) → P q → IsHeldIn domains q) → OfIn P w → Good domains (memory_of w m)
-memory_good domains P (Flat seen) m joint keep wide of = absurd (false≢true joint.form)
 memory_good domains P (Cloaked c) m joint keep wide of =
     record { places = joint.places; keep = keep; of = of_wide P (IsHeldIn domains) c.memory wide of }
-memory_good domains P (Alone h) m joint keep wide of = absurd (false≢true joint.form)
+memory_good domains P _ m joint keep wide of = absurd (false≢true joint.form)
 
 told_good : (j : Joint) (number : ℕ) (h : Hart) (d : ℕ) (was : Domain) (told : Told DomainStepped) →
     slice_get j.domains d ≡ Some was → was.control.number ≡ d → IsJointWorld told.world →
@@ -250,12 +244,9 @@ told_good j number h d was told there own joint of keeps all =
 interrupted_good : (j : Joint) (number : ℕ) (h : Hart) (items : List Item) (how : Went) → JointGood j →
     JointGood (interrupt_ended j number h items how).joint
 unfolding interrupt_ended
-interrupted_good j number h items went.Stay here = here
-interrupted_good j number h items went.Stopped here = here
-interrupted_good j number h items (went.Remapped space) here = here
 interrupted_good j number h items (went.Leave s) here =
     moved j.domains j.memory (without_mark number j.memory) refl refl refl here
-interrupted_good j number h items (went.SpaceGone space s) here = here
+interrupted_good j number h items _ here = here
 
 left_good : (j : Joint) (number : ℕ) (h : Hart) (d : ℕ) (was : Domain) (step : Stepped) →
     slice_get j.domains d ≡ Some was → was.control.number ≡ d → step.control.resources ≡ was.control.resources →
@@ -322,9 +313,8 @@ ended_held domains d was there keeps q here = elim (decided q.domain d) [
 
 memory_holds : (P Q : PageId → Type 0) (w : World) (m : CloakedMemory) → is_joint w ≡ true →
     ((q : PageId) → P q → Q q) → OfIn P w → PagesAreOf Q (memory_of w m)
-memory_holds P Q (Flat seen) m form wide of = absurd (false≢true form)
 memory_holds P Q (Cloaked c) m form wide of = of_wide P Q c.memory wide of
-memory_holds P Q (Alone h) m form wide of = absurd (false≢true form)
+memory_holds P Q _ m form wide of = absurd (false≢true form)
 
 end_holds : (d : ℕ) (was : Domain) (v : Violation) (t : Turn) → slice_get t.joint.domains d ≡ Some was →
     JointGood t.joint → JointHolds (end_domain d was v t).joint

@@ -141,20 +141,17 @@ written_world i (Alone h) = same (Alone h)
 
 plain_world : (domain : ℕ) (plain : PageId → List ℕ) (w : World) → SameMarkCount w (with_plain domain plain w)
 plain_world domain plain (Flat seen) = same (Flat seen)
-plain_world domain plain (Cloaked c) = record { by = λ n here. here }
-plain_world domain plain (Alone h) = record { by = λ n here. here }
+plain_world domain plain _ = record { by = λ n here. here }
 
 copy_world : (d from to : ℕ) (w : World) → SameMarkCount w (ask_copy d from to w).world
 unfolding ask_copy copy_pages
 copy_world d from to (Flat seen) = same (Flat seen)
-copy_world d from to (Cloaked c) = record { by = λ n here. here }
-copy_world d from to (Alone h) = record { by = λ n here. here }
+copy_world d from to _ = record { by = λ n here. here }
 
 forget_world : (d n : ℕ) (w : World) → SameMarkCount w (ask_forget d n w).world
 unfolding ask_forget drop_pages
 forget_world d n (Flat seen) = same (Flat seen)
-forget_world d n (Cloaked c) = record { by = λ k here. here }
-forget_world d n (Alone h) = record { by = λ k here. here }
+forget_world d n _ = record { by = λ k here. here }
 
 changes : Kept SameMarkCount
 changes = record {
@@ -176,15 +173,13 @@ reaches = record { opens = opens_of SameMarkCount changes; stored_at = stored_wo
 
 -- the memory that the joint machine takes from a world
 memory_count : (n : ℕ) (w : World) (m : CloakedMemory) → MarksIn n w → HasMarks n m → HasMarks n (memory_of w m)
-memory_count n (Flat seen) m there here = there
-memory_count n (Cloaked c) m there here = there
 memory_count n (Alone h) m there here = here
+memory_count n _ m there here = there
 
 -- what the kernel sees in a world
 seen_count : (n : ℕ) (w : World) → MarksIn n w → length (seen_of w).marks ≡ n
 seen_count n (Flat seen) there = there
-seen_count n (Cloaked c) there = there
-seen_count n (Alone h) there = there
+seen_count n _ there = there
 
 moves_count : (n : ℕ) → Moves (HasMarks n) (HasMarks n)
 moves_count n = record {

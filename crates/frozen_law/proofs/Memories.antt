@@ -7,7 +7,7 @@ use Rattle.cloak_model.specs.declared.inside.Went.{Went}
 use Rattle.cloak_model.specs.declared.inside.Went.TheVariants as went
 use Rattle.cloak_model.specs.declared.item.Item.{Item}
 use Rattle.cloak_model.specs.declared.outcome.Kernel.{Kernel}
-use Rattle.cloak_model.specs.declared.outcome.Kernel.TheVariants.{Stay, Put, Halt, Resume, Trapped}
+use Rattle.cloak_model.specs.declared.outcome.Kernel.TheVariants.{Resume}
 use Rattle.cloak_model.specs.Ahead.{settle_while, settle_found, settle_touched, settled_step, made_after, is_owed}
 use Rattle.cloak_model.specs.Asking.{Told}
 use Rattle.cloak_model.specs.Cloaking.{CloakedMemory, AfterSettling, seen_in, with_seen, settle}
@@ -28,9 +28,8 @@ use Rattle.limit_law.proofs.Endings.{answers_keep}
 
 -- of the memory of a world
 abbrev pub InWorld : (CloakedMemory → Type 0) → World → Type 0
-InWorld P (Flat seen) = Unit {0}
 InWorld P (Cloaked c) = P c.memory
-InWorld P (Alone h) = Unit {0}
+InWorld P _ = Unit {0}
 
 -- What takes a memory from P, before a step, to Q.
 pub record Carries (P Q : CloakedMemory → Type 0) : Type 0 where
@@ -100,11 +99,8 @@ module _ (P Q : CloakedMemory → Type 0) (k : Moves P Q) where
   outside_ended_kept : (j : Joint) (number : ℕ) (items : List Item) (e : Kernel) → JointQ j →
       JointQ (outside_ended j number items e).joint
   unfolding outside_ended
-  outside_ended_kept j number items Stay here = here
-  outside_ended_kept j number items Trapped here = here
-  outside_ended_kept j number items (Put b) here = here
-  outside_ended_kept j number items (Halt value) here = here
   outside_ended_kept j number items (Resume ctx reply) here = resume_kept j number _ ctx reply here
+  outside_ended_kept j number items _ here = here
 
   outside_by : (j : Joint) (number : ℕ) (h : Hart) (s : AfterSettling) → Q s.memory →
       JointQ (after_outside j number (made_after h j.disk (cloak_outside j.memory h) s)).joint
@@ -121,13 +117,11 @@ module _ (P Q : CloakedMemory → Type 0) (k : Moves P Q) where
   went_kept : (j : Joint) (number : ℕ) (h : Hart) (d : ℕ) (w : World) (how : Went) → JointQ j →
       JointQ (domain_ended j number h d w how).joint
   unfolding domain_ended
-  went_kept j number h d w went.Stay here = here
-  went_kept j number h d w went.Stopped here = here
-  went_kept j number h d w (went.Remapped space) here = here
   went_kept j number h d w (went.Leave s) here = k.unmarked number j.memory here
   went_kept j number h d w (went.SpaceGone space s) here =
       let gone : SpaceId = record { domain = d; number = space } in
       k.unmarked number (without_root gone j.memory) (k.rooted (forget_root gone j.memory.ledger.root) j.memory here)
+  went_kept j number h d w _ here = here
 
   told_kept : (j : Joint) (number : ℕ) (h : Hart) (d : ℕ) (told : Told DomainStepped) →
       Q (memory_of told.world j.memory) → JointQ (after_domain_step j number h d told).joint
@@ -137,11 +131,8 @@ module _ (P Q : CloakedMemory → Type 0) (k : Moves P Q) where
   interrupted_kept : (j : Joint) (number : ℕ) (h : Hart) (items : List Item) (how : Went) → JointQ j →
       JointQ (interrupt_ended j number h items how).joint
   unfolding interrupt_ended
-  interrupted_kept j number h items went.Stay here = here
-  interrupted_kept j number h items went.Stopped here = here
-  interrupted_kept j number h items (went.Remapped space) here = here
   interrupted_kept j number h items (went.Leave s) here = k.unmarked number j.memory here
-  interrupted_kept j number h items (went.SpaceGone space s) here = here
+  interrupted_kept j number h items _ here = here
 
   left_kept : (j : Joint) (number : ℕ) (h : Hart) (d : ℕ) (was : Domain) (step : Stepped) → P j.memory →
       JointQ (after_interrupt j number h d was step).joint

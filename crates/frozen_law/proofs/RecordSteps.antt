@@ -6,7 +6,7 @@ use Rattle.std.proofs.lemmas.List.{length-set}
 use Rattle.std.proofs.lemmas.List.Elements.{All-head, All-tail}
 use Rattle.cloak_base.specs.Constants.{frame_of}
 use Rattle.cloak_base.specs.declared.names.Kind.{Kind}
-use Rattle.cloak_base.specs.declared.names.Kind.TheVariants.{Fetch, Load, Store}
+use Rattle.cloak_base.specs.declared.names.Kind.TheVariants.{Store}
 use Rattle.cloak_base.specs.declared.names.PageId.{PageId}
 use Rattle.cloak_model.specs.declared.answer.Answer.{Answer}
 use Rattle.cloak_model.specs.declared.answer.Answer.TheVariants as told
@@ -21,7 +21,7 @@ use Rattle.cloak_model.specs.DomainStep.{domain_step}
 use Rattle.cloak_model.specs.Ending.{all_marked, settled_for, ask_end}
 use Rattle.cloak_model.specs.Events.{Event}
 use Rattle.cloak_model.specs.Fork.{marked, private_numbers, free_numbers, ask_copies, ask_forgets, fork_cleared, fork_if, fork, end_cleared, end_if, end_context}
-use Rattle.cloak_model.specs.Hypercalls.{Hypercall, New, Map, Unmap, File, Thread, ForkSpace, Exit, Call, Unknown, hypercall, fork_call, exit_call}
+use Rattle.cloak_model.specs.Hypercalls.{Hypercall, ForkSpace, Exit, hypercall, fork_call, exit_call}
 use Rattle.cloak_model.specs.Memory.{is_in_ram}
 use Rattle.cloak_model.specs.Opening.{numbers_below}
 use Rattle.cloak_model.specs.PageMoves.{copy_pages, drop_pages}
@@ -110,14 +110,12 @@ abbrev OwedIfOk : PageId → Told Answer → Type 0
 OwedIfOk q t = t.answer ≡ told.Ok → OwedIn q t.world
 
 owed_written : (q : PageId) (i : Item) (w : World) → OwedIn q w → OwedIn q (written i w)
-owed_written q i (Flat seen) owed = tt
 owed_written q i (Cloaked c) owed = owed
-owed_written q i (Alone h) owed = tt
+owed_written q i _ owed = tt
 
 owed_noted : (q : PageId) (events : List Event) (w : World) → OwedIn q w → OwedIn q (noted events w)
-owed_noted q events (Flat seen) owed = tt
 owed_noted q events (Cloaked c) owed = owed
-owed_noted q events (Alone h) owed = tt
+owed_noted q events _ owed = tt
 
 owed_replies : (q : PageId) (a : Answer) (w : World) → (a ≡ told.Ok → OwedIn q w) → OwedIfOk q (replies a w)
 unfolding replies
@@ -138,10 +136,9 @@ owed_offered q va kind g Mismatch (Alone h) owed = owed_replies q told.Stopped _
 owed_offer : (q : PageId) (va g : ℕ) (w : World) → InWorld HasPlaces w → g < length (ram_of w) →
     OwedIfOk q (ask_offer q va Store g w)
 unfolding ask_offer
-owed_offer q va g (Flat seen) places low is = absurd (stopped_ok is)
 owed_offer q va g (Cloaked c) places low is =
     owed_offered q va Store g _ _ (offer_owes (length c.memory.ram) q g c.memory places low) is
-owed_offer q va g (Alone h) places low is = absurd (stopped_ok is)
+owed_offer q va g _ places low is = absurd (stopped_ok is)
 
 second_true : (a b : Bool) → a && b ≡ true → b ≡ true
 second_true true b is = is
@@ -164,9 +161,8 @@ owed_drawn q ask w owed = by (is_missed w)
     by false = owed
 
 places_of : (w : World) → KnowsIn w → InWorld HasPlaces w
-places_of (Flat seen) knows = tt
 places_of (Cloaked c) knows = knows.0
-places_of (Alone h) knows = tt
+places_of _ knows = tt
 
 owed_by_table : (q : PageId) (va : ℕ) (w : World) → KnowsIn w → OwedIfOk q (reach_by_table q va Store w)
 unfolding reach_by_table
@@ -197,18 +193,16 @@ reach_owed q va (Alone h) knows is = owed_alone q _ _ h
 write_knows : (q : PageId) (at width value : ℕ) (w : World) → OwedIn q w → KnowsIn w →
     KnowsIn (ask_write q at width value w).world
 unfolding ask_write
-write_knows q at width value (Flat seen) owed knows = tt
 write_knows q at width value (Cloaked c) owed knows = (knows.0, newest_tell q _ c.memory owed knows.1)
-write_knows q at width value (Alone h) owed knows = tt
+write_knows q at width value _ owed knows = tt
 
 stores : Stores AnyPage Learns
-stores q own va Fetch at width value w is ok = absurd (false≢true is)
-stores q own va Load at width value w is ok = absurd (false≢true is)
 stores q own va Store at width value w is ok = record {
   by = λ knows.
       write_knows q at width value (ask_reach q va Store w).world (reach_owed q va w knows ok)
       ((reach_keeps AnyPage Learns changes q own va Store w).by knows);
 }
+stores q own va _ at width value w is ok = absurd (false≢true is)
 
 -- Forks and ends.
 
@@ -265,9 +259,7 @@ end_cleared_learns : (domain slot space : ℕ) (r : Resources) (contexts : List 
     (w : World) → Learns 0 w (end_cleared domain slot space r contexts a w).world
 unfolding end_cleared
 end_cleared_learns domain slot space r contexts told.Ok w = forgets_keep AnyPage Learns changes learns_forget domain _ w
-end_cleared_learns domain slot space r contexts (told.Absent cause) w = learns_none w
-end_cleared_learns domain slot space r contexts (told.Word value) w = learns_none w
-end_cleared_learns domain slot space r contexts told.Stopped w = learns_none w
+end_cleared_learns domain slot space r contexts _ w = learns_none w
 
 end_if_learns : (others : Bool) (domain slot space : ℕ) (r : Resources) (contexts : List (Option Context)) (w : World) →
     Learns 0 w (end_if others domain slot space r contexts w).world
@@ -285,15 +277,9 @@ end_context_learns domain slot space r contexts w = end_if_learns _ domain slot 
 hypercall_learns : (d : Control) (h : Hypercall) (slot : ℕ) (c : Context) (w : World) →
     Learns 0 w (hypercall h slot c d w).world
 unfolding hypercall fork_call exit_call
-hypercall_learns d New slot c w = learns_none w
-hypercall_learns d Map slot c w = learns_none w
-hypercall_learns d Unmap slot c w = learns_none w
-hypercall_learns d File slot c w = learns_none w
-hypercall_learns d Thread slot c w = learns_none w
 hypercall_learns d ForkSpace slot c w = fork_learns d.number c d.resources d.contexts w
 hypercall_learns d Exit slot c w = end_context_learns d.number slot c.space d.resources d.contexts w
-hypercall_learns d Call slot c w = learns_none w
-hypercall_learns d Unknown slot c w = learns_none w
+hypercall_learns d _ slot c w = learns_none w
 
 -- The step, and the end of a domain.
 
@@ -305,9 +291,8 @@ any_page : (domain : ℕ) (r : Resources) (space : ℕ) → AreOf AnyPage domain
 any_page domain r space va = any_some (page_at domain r space va)
 
 tells_of : (w : World) → KnowsIn w → InWorld RecordsTell w
-tells_of (Flat seen) knows = tt
 tells_of (Cloaked c) knows = knows.1
-tells_of (Alone h) knows = tt
+tells_of _ knows = tt
 
 pub step_tells : (slot : ℕ) (d : Domain) (w : World) → InWorld Knows w →
     InWorld RecordsTell (domain_step slot d w).world
@@ -320,9 +305,8 @@ abbrev TellIn : World → Type 0
 TellIn w = InWorld RecordsTell w
 
 settled_tells : (f : ℕ) (w : World) → TellIn w → TellIn (settled f w)
-settled_tells f (Flat seen) tell = tt
 settled_tells f (Cloaked c) tell = settle_tell f c.memory tell
-settled_tells f (Alone h) tell = tt
+settled_tells f _ tell = tt
 
 either_tells : (b : Bool) (w v : World) → TellIn w → TellIn v → TellIn (cond b v w)
 either_tells true w v here there = there
@@ -340,9 +324,8 @@ settled_for_tells d f (suc n) w tell =
 
 forget_tells : (d n : ℕ) (w : World) → TellIn w → TellIn (ask_forget d n w).world
 unfolding ask_forget
-forget_tells d n (Flat seen) tell = tt
 forget_tells d n (Cloaked c) tell = drop_tell d n c.memory tell
-forget_tells d n (Alone h) tell = tt
+forget_tells d n _ tell = tt
 
 forgets_tell : (d : ℕ) (numbers : List ℕ) (w : World) → TellIn w → TellIn (ask_forgets d numbers w).world
 unfolding ask_forgets

@@ -211,8 +211,7 @@ module _ (b : Bundle) (from : Beginning) (budget : ℕ) (r : Run) (grammar : IsI
 
     end_in_range : (d : ℕ) (v : Violation) → EndIsPresented b r d v → IsViolationOf b.kernel.frames d v
     end_in_range d (violation.Page q frame) e = page_in_range e.before d q frame.0 e.own e.presents.presents
-    end_in_range d (violation.Context ctx) e = tt
-    end_in_range d (violation.Mapping ctx root) e = tt
+    end_in_range d _ e = tt
 
 listed : (ended : List (Option Violation)) (d : ℕ) (v : Violation) → slice_index_or ended d None ≡ Some v →
     slice_get ended d ≡ Some (Some v)

@@ -1,6 +1,7 @@
 -- A load, a store, a fetch and an atomic instruction of the step are a whole access, and what follows its answer; the
 -- step is what comes before its end, and its end.
-use Rattle.std.proofs.Common.{◌≡◌, ◌≢◌, ◌∙◌, true, false, cond, ℕ, Bool, List, Option, None, Result, Ok, Err, refl, ap, subst, sym}
+use Rattle.std.proofs.Common.{◌≡◌, ◌≢◌, ◌∙◌, true, false, cond, ℕ, Bool, List, Option, None, Some, option_map, Result, Ok, Err, refl, ap, subst, sym}
+use Rattle.std.proofs.lemmas.Option.{none-some, same_Some}
 use Rattle.rv_atomic.specs.Table.{atomic_instruction}
 use Rattle.rv_atomic.specs.declared.atomic.Atomic.{Atomic}
 use Rattle.rv_atomic.specs.declared.atomic.AtomicOp.{AtomicOp}
@@ -8,6 +9,8 @@ use Rattle.rv_atomic.specs.declared.atomic.AtomicOp.TheVariants.{Lr, Sc, Swap, A
 use Rattle.rv_isa.specs.Table.{instruction}
 use Rattle.rv_isa.specs.declared.instr.Instr.{Instr}
 use Rattle.cloak_base.specs.declared.names.Kind.TheVariants.{Fetch, Load, Store}
+use Rattle.cloak_model.specs.Effect.{effect}
+use Rattle.cloak_model.specs.declared.outcome.Effect.{Effect}
 use Rattle.cloak_model.specs.Hart.{Hart}
 use Rattle.cloak_model.specs.Csr.{satp_of, interrupt_due}
 use Rattle.cloak_model.specs.World.{World}
@@ -18,7 +21,7 @@ use Rattle.cloak_model.specs.HostCalls.{SteppedKernel, over}
 use Rattle.cloak_model.specs.declared.outcome.Kernel.{Kernel}
 use Rattle.cloak_model.specs.declared.outcome.Kernel.TheVariants.{Stay}
 use Rattle.cloak_model.specs.KernelStep.{access, ends_reservation, released, ticked}
-use Rattle.step_parts.specs.Parts.{after_load, load_part, after_store, store_part, after_atomic, reserve_part, after_conditional, conditional_part, combine_part, atomic_access_part, atomic_part, decoded_part, executed_part, fetched_part, instruction_part, interrupted, step_in_parts}
+use Rattle.step_parts.specs.Parts.{after_load, load_part, after_store, store_part, after_atomic, reserve_part, after_conditional, conditional_part, combine_part, atomic_access_part, atomic_part, decoded_part, done_part, executed_part, fetched_part, instruction_part, interrupted, step_in_parts}
 use Rattle.host_calls.specs.declared.ram.Ram.{Ghosts}
 use Rattle.host_calls.specs.Stepping.{StepsOver, ReleasesAfter}
 use Rattle.cloak_model.proofs.Later.{IsLater}
@@ -96,15 +99,34 @@ fault_steps ram old new h disk pc cause after at is steps =
       same_count = refl;
     })
 
-pub word_steps : {M : Type 0} (ram : Ghosts M) (old mid new : M) (h : Hart) (disk : List ℕ) (pc : ℕ) (word : ℕ) (i : Option Instr) (after : SteppedKernel) →
-    pc ≡ h.pc → i ≡ instruction word →
-    StepsOver ram old mid (Ok word) (ask_load (satp_of h.csrs) (access h Fetch pc) 4) →
-    StepsOver ram mid new after (decoded_part h disk word i) →
+pub word_steps : {M : Type 0} (ram : Ghosts M) (old mid new : M) (h : Hart) (disk : List ℕ) (pc : ℕ) (word : ℕ) (after : SteppedKernel) →
+    pc ≡ h.pc → StepsOver ram old mid (Ok word) (ask_load (satp_of h.csrs) (access h Fetch pc) 4) →
+    StepsOver ram mid new after (executed_part h disk word) →
     StepsOver ram old new after (instruction_part h disk)
-unfolding fetched_part executed_part
-word_steps ram old mid new h disk pc word i after at is steps then =
-    fetch_steps ram old mid new h disk pc (Ok word) after at steps
-    (subst (λ i. StepsOver ram mid new after (decoded_part h disk word i)) is then)
+unfolding fetched_part
+word_steps ram old mid new h disk pc word after at steps then = fetch_steps ram old mid new h disk pc (Ok word) after at steps then
+
+-- the word was decoded
+pub decoded_steps : {M : Type 0} (ram : Ghosts M) (old new : M) (h : Hart) (disk : List ℕ) (word : ℕ) (i : Option Instr) (after : SteppedKernel) →
+    i ≡ instruction word → StepsOver ram old new after (decoded_part h disk word i) →
+    StepsOver ram old new after (executed_part h disk word)
+unfolding executed_part
+decoded_steps ram old new h disk word i after is then =
+    subst (λ i. StepsOver ram old new after (decoded_part h disk word i)) is then
+
+-- the effect of the instruction that the word spells was found without it
+pub effect_steps : {M : Type 0} (ram : Ghosts M) (old new : M) (h : Hart) (disk : List ℕ) (word : ℕ) (e : Effect) (after : SteppedKernel) →
+    option_map (λ i. effect i h.regs h.pc) (instruction word) ≡ Some e →
+    ((i : Instr) → StepsOver ram old new after (done_part h disk word i e)) →
+    StepsOver ram old new after (executed_part h disk word)
+unfolding executed_part decoded_part
+effect_steps ram old new h disk word e after is steps = by_spelled (instruction word) is
+  where
+    by_spelled : (o : Option Instr) → option_map (λ i. effect i h.regs h.pc) o ≡ Some e →
+        StepsOver ram old new after (decoded_part h disk word o)
+    by_spelled None is = absurd (none-some e is)
+    by_spelled (Some i) is =
+        subst (λ e. StepsOver ram old new after (done_part h disk word i e)) (sym (same_Some _ _ is)) (steps i)
 
 -- atomic instructions
 

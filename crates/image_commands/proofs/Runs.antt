@@ -34,9 +34,8 @@ answers_unless {O} {n} {steps} {before} {after} false has = has
 answers_stop : {O : Type 0} {n steps : ℕ} {before after : Output O} (cause : Stop) (refused : Bool) →
     HasDemonstrated n steps (status_of cause refused) before after →
     DemoAnswers n steps before after (status_of cause refused)
-answers_stop {O} {n} {steps} {before} {after} (stop.Halt value) refused has = answers_unless refused has
-answers_stop {O} {n} {steps} {before} {after} stop.Budget refused has = answers_unless refused has
 answers_stop {O} {n} {steps} {before} {after} stop.NoRandom refused has = has
+answers_stop {O} {n} {steps} {before} {after} _ refused has = answers_unless refused has
 
 -- the run of an image that was opened so
 run_is : (n : ℕ) {machine : Machine} (steps : ℕ) (opens : OpensMachine (generated n) (numbered n) machine) →

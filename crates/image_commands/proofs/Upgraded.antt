@@ -28,16 +28,7 @@ refused : {S O : Type 0} (old_name new_name : List ℕ) (r : Refusal) (before af
 refused old_name new_name (refusal.BadBundle fault) before after is given = inl given
 refused old_name new_name refusal.ReadFault before after is given = given
 refused old_name new_name refusal.NoMemory before after is given = given
-refused old_name new_name (refusal.Usage fault) before after is given = absurd is
-refused old_name new_name refusal.NoKey before after is given = absurd is
-refused old_name new_name refusal.NoPageDraw before after is given = absurd is
-refused old_name new_name refusal.NoSuchDomain before after is given = absurd is
-refused old_name new_name refusal.ShortSecret before after is given = absurd is
-refused old_name new_name (refusal.BadStore fault) before after is given = absurd is
-refused old_name new_name (refusal.NoRoom domain) before after is given = absurd is
-refused old_name new_name (refusal.BadState fault) before after is given = absurd is
-refused old_name new_name (refusal.ChangedDomain domain) before after is given = absurd is
-refused old_name new_name (refusal.ChangedFrame frame) before after is given = absurd is
+refused old_name new_name _ before after is given = absurd is
 
 pub upgrade_refuses : {S O : Type 0} {old_name new_name : List ℕ} {r : Refusal} {before after : Outside S O}
     {given : Status} → IsUnread r → NoRun (spec.Upgrade old_name new_name) r before.files after.files →
@@ -89,16 +80,7 @@ not_made {S} {O} old_name new_name {before} {after} {given} b refusal.NoMemory m
     upgrade_refuses {r = refusal.NoMemory} tt
     (record { cause = record { reading = files.reading }; held = files.held; writing = files.writing }) low refuses
 not_made old_name new_name b (refusal.Usage fault) made file files low refuses = absurd made
-not_made old_name new_name b refusal.ReadFault made file files low refuses = absurd made
-not_made old_name new_name b refusal.NoKey made file files low refuses = absurd made
-not_made old_name new_name b refusal.NoPageDraw made file files low refuses = absurd made
-not_made old_name new_name b refusal.NoSuchDomain made file files low refuses = absurd made
-not_made old_name new_name b refusal.ShortSecret made file files low refuses = absurd made
-not_made old_name new_name b (refusal.BadStore fault) made file files low refuses = absurd made
-not_made old_name new_name b (refusal.NoRoom domain) made file files low refuses = absurd made
-not_made old_name new_name b (refusal.BadState fault) made file files low refuses = absurd made
-not_made old_name new_name b (refusal.ChangedDomain domain) made file files low refuses = absurd made
-not_made old_name new_name b (refusal.ChangedFrame frame) made file files low refuses = absurd made
+not_made old_name new_name b _ made file files low refuses = absurd made
 
 -- It was written, or not, seen from before the bundle was read.
 

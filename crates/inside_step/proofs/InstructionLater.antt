@@ -8,7 +8,8 @@ use Rattle.cloak_model.specs.declared.answer.Answer.TheVariants as told
 use Rattle.cloak_model.specs.World.{World}
 use Rattle.cloak_model.specs.Contexts.{Context}
 use Rattle.cloak_model.specs.Resources.{Resources}
-use Rattle.cloak_model.specs.InsideStep.{load_reached, load_got, store_reached, store_put, atomic_granted, atomic_reached, decoded_inside, executed_inside, fetched_inside}
+use Rattle.cloak_model.specs.InsideStep.{atomic_granted, decoded_inside}
+use Rattle.cloak_model.proofs.InsideParts.{load_reached, load_got, store_reached, store_put, atomic_reached, executed_inside, fetched_inside}
 use Rattle.cloak_model.proofs.Later.{IsLater, IsLater-refl, IsLater-trans}
 use Rattle.cloak_model.proofs.PagesLater.{later_reach, later_read, later_write, later_get, later_put}
 use Rattle.script_fold.proofs.InstructionScripts.{load_reached_scripted, load_got_scripted, store_reached_scripted, store_put_scripted, granted_scripted, atomic_reached_scripted, decoded_scripted, executed_scripted}
@@ -50,7 +51,6 @@ later_executed domain r c word w = later_scripted (executed_scripted domain r c 
 
 pub later_fetched : (domain : ℕ) (r : Resources) (c : Context) (q : PageId) (a : Answer) (w : World) →
     IsLater w (fetched_inside domain r c q a w).world
-unfolding fetched_inside
 later_fetched domain r c q told.Ok w = IsLater-trans _ _ _ (later_read _ _ _ w) (later_executed domain r c _ _)
 later_fetched domain r c q (told.Absent cause) w = IsLater-refl w
 later_fetched domain r c q (told.Word value) w = IsLater-refl w

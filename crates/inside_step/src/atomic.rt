@@ -50,7 +50,7 @@ fn uncloaked(op: AtomicOp) -> u32
 }
 
 /// SC at a word that is reached: the word is stored if the context has it reserved. The reservation ends either way.
-#[tactic(auto, using(crate::proofs::InstructionLater::laters, cloak_model::proofs::PagesLater::stay_pages), unfolding(cloak_model::specs::InsideStep::conditional_inside))]
+#[tactic(auto, using(crate::proofs::InstructionLater::laters, cloak_model::proofs::PagesLater::stay_pages), unfolding(cloak_model::specs::InsideStep::atomic_granted))]
 fn store_conditional<M: PageSide>(
     c: &mut Context,
     rd: u32,
@@ -65,7 +65,7 @@ fn store_conditional<M: PageSide>(
     requires aligned { va % 4 ≡ 0 }
     requires writable { M.is_writable m.old q }
     ensures follows { Follows M.stands_for m.old m.new (after_instruction c.new result wrote.new)
-        (spec.conditional_inside (is_reserved (word_of_page q va) c.old.mark) c.old rd q va operand) }
+        (spec.atomic_granted c.old rd AtomicOp.Sc q va operand) }
     ensures unchanged { IsLeftOpen result → c.new ≡ c.old }
     ensures unwritten { IsLeftOpen result → wrote.new ≡ None }
     ensures unmarked { is_some c.old.mark ≡ false → is_some c.new.mark ≡ false }
@@ -166,7 +166,7 @@ fn granted<M: PageSide>(
 }
 
 /// An atomic instruction at an address that is a multiple of 4. At one that is not cloaked it asks nothing.
-#[tactic(auto, using(crate::proofs::InstructionLater::laters, cloak_model::proofs::PagesLater::stay_pages), unfolding(cloak_model::specs::InsideStep::atomic_placed, cloak_model::specs::InsideStep::atomic_reached))]
+#[tactic(auto, using(crate::proofs::InstructionLater::laters, cloak_model::proofs::PagesLater::stay_pages), unfolding(cloak_model::specs::InsideStep::atomic_placed))]
 fn placed<M: PageSide>(
     c: &mut Context,
     r: &Resources,

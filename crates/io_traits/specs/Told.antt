@@ -25,6 +25,12 @@ abbrev pub Counts : {A : Type 0} → ℕ → ℕ → Result A Failed → Type 0
 Counts before now (Ok a) = now ≡ before
 Counts before now (Err e) = Rose before now
 
+-- The name of the file of which reading failed last: a call that succeeded leaves it, and after one that failed it is this
+-- one, if it is told.
+abbrev pub NamesFault : {A : Type 0} → Option (List ℕ) → Option (List ℕ) → List ℕ → Result A Failed → Type 0
+NamesFault before now name (Ok a) = now ≡ before
+NamesFault before now name (Err e) = Tells now name
+
 -- a call that succeeded leaves both counts, and at one that failed one of them rose
 abbrev pub CountsEither : {A : Type 0} → ℕ → ℕ → ℕ → ℕ → Result A Failed → Type 0
 CountsEither reading reads writing writes (Ok a) = (reads ≡ reading) × (writes ≡ writing)

@@ -1,7 +1,8 @@
-ghost use Rattle.std.specs.Prelude.{◌≡◌, ◌++◌, ◌↔◌, [], Some, length, take, drop, min, Contains};
+ghost use Rattle.std.specs.Prelude.{◌≡◌, ◌++◌, ◌↔◌, [], None, Some, length, take, drop, min, Contains};
 ghost use Rattle.std.specs.Prelude.{IfOk, OnOk, OnErr, IsErr};
 ghost use Rattle.std.specs.FinMap.{insert, empty};
 ghost use Rattle.io_traits.specs.Memory.{one_more, bytes_of, IsThere};
+ghost use Rattle.io_traits.specs.Told.{Tells};
 
 use crate::copied::copy_from;
 use crate::planned::Planned;
@@ -21,9 +22,12 @@ pub struct MemoryShelf {
     planned: Planned,
     reading_faults: u64,
     writing_faults: u64,
+    /// The file of which reading failed last.
+    unread: Option<String>,
 }
 
 impl Model for MemoryShelf {
+    ghost use Rattle.std.specs.Prelude.{option_map, string_bytes};
     ghost use Rattle.io_traits.specs.Memory.{MemoryFiles, memory_files_code};
     ghost use Rattle.io_traits.specs.Table.{files_of};
 
@@ -37,6 +41,7 @@ impl Model for MemoryShelf {
       calls = s.planned.calls;
       reading_faults = s.reading_faults;
       writing_faults = s.writing_faults;
+      unread = option_map string_bytes s.unread;
     } };
 }
 
@@ -49,6 +54,7 @@ impl MemoryShelf {
           calls = 0;
           reading_faults = 0;
           writing_faults = 0;
+          unread = None;
         } }
     {
         MemoryShelf {
@@ -57,6 +63,7 @@ impl MemoryShelf {
             planned: Planned { fails, calls: 0 },
             reading_faults: 0,
             writing_faults: 0,
+            unread: None,
         }
     }
 
@@ -74,12 +81,26 @@ impl MemoryShelf {
     {
         table::bytes(&self.files, name)
     }
+
+    /// Counts a fault of reading this file.
+    fn fail_reading(&mut self, name: &str)
+        ensures counted { self.new ≡ record self.old {
+          reading_faults = one_more self.old.reading_faults;
+          unread = self.new.unread;
+        } }
+        ensures named { Tells self.new.unread name.now }
+    {
+        self.reading_faults = self.reading_faults.saturating_add(1);
+        self.unread = String::from_str(self.alloc, name).ok();
+    }
 }
 
 impl Shelf for MemoryShelf {
     ghost held = { λ s name. Some (bytes_of s.files name) };
 
     ghost reading_faults = { λ s. s.reading_faults };
+
+    ghost unread = { λ s. s.unread };
 
     ghost writing_faults = { λ s. s.writing_faults };
 
@@ -94,10 +115,12 @@ impl Shelf for MemoryShelf {
         ensures after_err { OnErr result (self.new ≡ record self.old {
           calls = one_more self.old.calls;
           reading_faults = one_more self.old.reading_faults;
+          unread = self.new.unread;
         }) }
+        ensures named { OnErr result (Tells self.new.unread name.now) }
     {
         if self.planned.is_next_to_fail() {
-            self.reading_faults = self.reading_faults.saturating_add(1);
+            self.fail_reading(name);
             return Err(Failed);
         }
         Ok(table::bytes(&self.files, name).len() as u64)
@@ -115,10 +138,12 @@ impl Shelf for MemoryShelf {
         ensures after_err { OnErr result (self.new ≡ record self.old {
           calls = one_more self.old.calls;
           reading_faults = one_more self.old.reading_faults;
+          unread = self.new.unread;
         }) }
+        ensures named { OnErr result (Tells self.new.unread name.now) }
     {
         if self.planned.is_next_to_fail() {
-            self.reading_faults = self.reading_faults.saturating_add(1);
+            self.fail_reading(name);
             return Err(Failed);
         }
         Ok(copy_from(table::bytes(&self.files, name), at, into))

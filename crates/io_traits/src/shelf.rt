@@ -1,6 +1,6 @@
 ghost use Rattle.std.specs.Prelude.{◌≡◌, ◌≤◌, ◌⊎◌, ℕ, List, [], Option, length, IfOk, IfSome, OnOk, OnErr};
 ghost use Rattle.io_traits.specs.Told.{Tells, Grows, GrowsByFront, Counts, CountsEither};
-ghost use Rattle.io_traits.specs.Told.{SameFiles, OtherFiles, IsCopied};
+ghost use Rattle.io_traits.specs.Told.{SameFiles, OtherFiles, IsCopied, NamesFault};
 
 use cloak_base::Failed;
 
@@ -13,6 +13,9 @@ pub trait Shelf {
 
     /// How often reading failed, up to 2^64 - 1.
     ghost reading_faults: { Self → ℕ };
+
+    /// The name of the file of which reading failed last, if the shelf tells it.
+    ghost unread: { Self → Option (List ℕ) };
 
     /// How often writing failed, up to 2^64 - 1.
     ghost writing_faults: { Self → ℕ };
@@ -30,6 +33,7 @@ pub trait Shelf {
         ensures counts { CountsEither (reading_faults self.old) (reading_faults self.new)
             (writing_faults self.old) (writing_faults self.new) result }
         ensures reading { is_settled self.old → Counts (reading_faults self.old) (reading_faults self.new) result }
+        ensures unread { is_settled self.old → NamesFault (unread self.old) (unread self.new) name.now result }
         ensures writing { is_settled self.old → writing_faults self.new ≡ writing_faults self.old }
         ensures settled { is_settled self.old → is_settled self.new }
         ensures unsettled { ¬ is_settled self.new → reading_faults self.new ≡ reading_faults self.old };
@@ -44,6 +48,7 @@ pub trait Shelf {
         ensures counts { CountsEither (reading_faults self.old) (reading_faults self.new)
             (writing_faults self.old) (writing_faults self.new) result }
         ensures reading { is_settled self.old → Counts (reading_faults self.old) (reading_faults self.new) result }
+        ensures unread { is_settled self.old → NamesFault (unread self.old) (unread self.new) name.now result }
         ensures writing { is_settled self.old → writing_faults self.new ≡ writing_faults self.old }
         ensures settled { is_settled self.old → is_settled self.new }
         ensures unsettled { ¬ is_settled self.new → reading_faults self.new ≡ reading_faults self.old };
@@ -56,7 +61,8 @@ pub trait Shelf {
         ensures others { OtherFiles name.now (held self.old) (held self.new) }
         ensures last { OnOk result (is_last self.new name.now) }
         ensures writing { Counts (writing_faults self.old) (writing_faults self.new) result }
-        ensures reading { reading_faults self.new ≡ reading_faults self.old };
+        ensures reading { reading_faults self.new ≡ reading_faults self.old }
+        ensures unread { unread self.new ≡ unread self.old };
 
     /// Adds the whole piece at the end of the file of this name. One that failed has added a front of it.
     fn append(&mut self, name: &str, bytes: &[u8]) -> Result<(), Failed>
@@ -65,7 +71,8 @@ pub trait Shelf {
         ensures others { OtherFiles name.now (held self.old) (held self.new) }
         ensures last { OnOk result (is_last self.new name.now) }
         ensures writing { Counts (writing_faults self.old) (writing_faults self.new) result }
-        ensures reading { reading_faults self.new ≡ reading_faults self.old };
+        ensures reading { reading_faults self.new ≡ reading_faults self.old }
+        ensures unread { unread self.new ≡ unread self.old };
 
     /// The same for the file that was begun or appended to last, whose name need not be looked at.
     fn append_last(&mut self, name: &str, bytes: &[u8]) -> Result<(), Failed>
@@ -75,7 +82,8 @@ pub trait Shelf {
         ensures others { OtherFiles name.now (held self.old) (held self.new) }
         ensures last { OnOk result (is_last self.new name.now) }
         ensures writing { Counts (writing_faults self.old) (writing_faults self.new) result }
-        ensures reading { reading_faults self.new ≡ reading_faults self.old };
+        ensures reading { reading_faults self.new ≡ reading_faults self.old }
+        ensures unread { unread self.new ≡ unread self.old };
 
     /// Writes out what is gathered. Where that fails it stays gathered.
     fn flush(&mut self) -> Result<(), Failed>
@@ -83,5 +91,6 @@ pub trait Shelf {
         ensures files { SameFiles (held self.old) (held self.new) }
         ensures last { (name : List ℕ) → is_last self.old name → is_last self.new name }
         ensures writing { Counts (writing_faults self.old) (writing_faults self.new) result }
-        ensures reading { reading_faults self.new ≡ reading_faults self.old };
+        ensures reading { reading_faults self.new ≡ reading_faults self.old }
+        ensures unread { unread self.new ≡ unread self.old };
 }

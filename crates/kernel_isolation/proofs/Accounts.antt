@@ -27,9 +27,8 @@ use Rattle.kernel_isolation.proofs.Settlings.{ShownBy, settle_shown, offer_shown
 use Rattle.kernel_isolation.proofs.Leading.{LeadsInside, leads_inside, low_bytes_stored, is_aligned}
 
 abbrev pub is_joint : World → Bool
-is_joint (Flat ram) = false
 is_joint (Cloaked c) = true
-is_joint (Alone h) = false
+is_joint _ = false
 
 -- A joint machine's memory, in which each frame has its place among what is owed.
 pub record IsJointWorld (w : World) : Type 0 where
@@ -61,8 +60,7 @@ Accounts-refl w = record {
 -- RAM is that of what is seen
 pub ram_seen : (w : World) → ram_of w ≡ (seen_of w).ram
 ram_seen (Flat seen) = refl
-ram_seen (Cloaked c) = refl
-ram_seen (Alone h) = refl
+ram_seen _ = refl
 
 -- settling leaves which addresses are in RAM
 length-account : (w v : World) → Account w v → length (ram_of v) ≡ length (ram_of w)

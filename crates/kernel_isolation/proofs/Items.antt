@@ -31,13 +31,7 @@ is_within ram (item.Leave s) = false
 is_within ram (item.Step number) = false
 is_within ram (item.Close steps) = false
 is_within ram item.End = false
-is_within ram (item.Ok domain) = true
-is_within ram (item.Absent domain cause) = true
-is_within ram (item.Word domain value) = true
-is_within ram (item.Timer domain) = true
-is_within ram (item.Resume domain ctx answer) = true
-is_within ram (item.Stopped domain) = true
-is_within ram (item.Ended domain) = true
+is_within ram _ = true
 
 abbrev pub AreWithin : List (List ℕ) → List Item → Type 0
 AreWithin ram items = AllByRecursion (λ i. is_within ram i ≡ true) items
@@ -46,17 +40,7 @@ AreWithin ram items = AllByRecursion (λ i. is_within ram i ≡ true) items
 pub length-with_item : (i : Item) (seen : Seen) → length (with_item i seen).ram ≡ length seen.ram
 length-with_item (item.Cipher f bytes) seen = length-set seen.ram f bytes
 length-with_item (item.Put pa width value) seen = length-set seen.ram _ _
-length-with_item (item.Leave x) seen = refl
-length-with_item (item.Step number) seen = refl
-length-with_item (item.Close steps) seen = refl
-length-with_item item.End seen = refl
-length-with_item (item.Ok domain) seen = refl
-length-with_item (item.Absent domain cause) seen = refl
-length-with_item (item.Word domain value) seen = refl
-length-with_item (item.Timer domain) seen = refl
-length-with_item (item.Resume domain ctx answer) seen = refl
-length-with_item (item.Stopped domain) seen = refl
-length-with_item (item.Ended domain) seen = refl
+length-with_item _ seen = refl
 
 pub length-with_items : (items : List Item) (seen : Seen) → length (with_items items seen).ram ≡ length seen.ram
 length-with_items [] seen = refl
@@ -70,17 +54,7 @@ with_items-append (i ∷ a) b seen = with_items-append a b (with_item i seen)
 one_stays : (ram ram' : List (List ℕ)) (i : Item) → length ram' ≡ length ram → is_within ram' i ≡ is_within ram i
 one_stays ram ram' (item.Cipher f bytes) same = rw same refl
 one_stays ram ram' (item.Put pa width value) same = rw same refl
-one_stays ram ram' (item.Leave x) same = refl
-one_stays ram ram' (item.Step number) same = refl
-one_stays ram ram' (item.Close steps) same = refl
-one_stays ram ram' item.End same = refl
-one_stays ram ram' (item.Ok domain) same = refl
-one_stays ram ram' (item.Absent domain cause) same = refl
-one_stays ram ram' (item.Word domain value) same = refl
-one_stays ram ram' (item.Timer domain) same = refl
-one_stays ram ram' (item.Resume domain ctx answer) same = refl
-one_stays ram ram' (item.Stopped domain) same = refl
-one_stays ram ram' (item.Ended domain) same = refl
+one_stays ram ram' _ same = refl
 
 pub within_stays : (ram ram' : List (List ℕ)) (items : List Item) → length ram' ≡ length ram → AreWithin ram items →
     AreWithin ram' items
@@ -116,13 +90,7 @@ fit_taken schedule hart ctx (item.Leave x) s place within = absurd cc
 fit_taken schedule hart ctx (item.Step number) s place within = absurd cc
 fit_taken schedule hart ctx (item.Close steps) s place within = absurd cc
 fit_taken schedule hart ctx item.End s place within = absurd cc
-fit_taken schedule hart ctx (item.Ok domain) s place within = refl
-fit_taken schedule hart ctx (item.Absent domain cause) s place within = refl
-fit_taken schedule hart ctx (item.Word domain value) s place within = refl
-fit_taken schedule hart ctx (item.Timer domain) s place within = refl
-fit_taken schedule hart ctx (item.Resume domain c answer) s place within = refl
-fit_taken schedule hart ctx (item.Stopped domain) s place within = refl
-fit_taken schedule hart ctx (item.Ended domain) s place within = refl
+fit_taken schedule hart ctx _ s place within = refl
 
 item_taken : (schedule : List ℕ) (hart ctx : ℕ) (i : Item) (s : KernelAlone) → s.unfit ≡ None →
     s.place ≡ Inside hart ctx →

@@ -33,16 +33,7 @@ one_inward : (i : Item) → is_outward i ≡ false → IsOfStep i
 one_inward (item.Step number) is = absurd cc
 one_inward (item.Close steps) is = absurd cc
 one_inward item.End is = absurd cc
-one_inward (item.Cipher frame bytes) is = refl
-one_inward (item.Put address width value) is = refl
-one_inward (item.Leave s) is = refl
-one_inward (item.Ok domain) is = refl
-one_inward (item.Absent domain cause) is = refl
-one_inward (item.Word domain value) is = refl
-one_inward (item.Timer domain) is = refl
-one_inward (item.Resume domain ctx answer) is = refl
-one_inward (item.Stopped domain) is = refl
-one_inward (item.Ended domain) is = refl
+one_inward _ is = refl
 
 pub inward_of_step : (items : List Item) → AreInward items → AreOfStep items
 inward_of_step [] all = tt
@@ -52,16 +43,7 @@ one_within : (ram : List (List ℕ)) (i : Item) → is_within ram i ≡ true →
 one_within ram (item.Step number) is = absurd cc
 one_within ram (item.Close steps) is = absurd cc
 one_within ram item.End is = absurd cc
-one_within ram (item.Cipher frame bytes) is = refl
-one_within ram (item.Put address width value) is = refl
-one_within ram (item.Leave s) is = refl
-one_within ram (item.Ok domain) is = refl
-one_within ram (item.Absent domain cause) is = refl
-one_within ram (item.Word domain value) is = refl
-one_within ram (item.Timer domain) is = refl
-one_within ram (item.Resume domain ctx answer) is = refl
-one_within ram (item.Stopped domain) is = refl
-one_within ram (item.Ended domain) is = refl
+one_within ram _ is = refl
 
 pub within_of_step : (ram : List (List ℕ)) (items : List Item) → AreWithin ram items → AreOfStep items
 within_of_step ram [] all = tt
@@ -82,16 +64,7 @@ no_marker : (n : ℕ) (i : Item) → IsOfStep i → begins_behind n i ≡ false
 no_marker n (item.Step number) is = absurd cc
 no_marker n (item.Close steps) is = absurd cc
 no_marker n item.End is = absurd cc
-no_marker n (item.Cipher frame bytes) is = refl
-no_marker n (item.Put address width value) is = refl
-no_marker n (item.Leave s) is = refl
-no_marker n (item.Ok domain) is = refl
-no_marker n (item.Absent domain cause) is = refl
-no_marker n (item.Word domain value) is = refl
-no_marker n (item.Timer domain) is = refl
-no_marker n (item.Resume domain ctx answer) is = refl
-no_marker n (item.Stopped domain) is = refl
-no_marker n (item.Ended domain) is = refl
+no_marker n _ is = refl
 
 before_one : (n : ℕ) (i : Item) (test : Bool) (items a rest : List Item) → begins_behind n i ≡ false →
     before_step n items ≡ a ++ rest → before_step n (cond test (i ∷ items) items) ≡ cond test (i ∷ a) a ++ rest
@@ -149,16 +122,7 @@ closes_past : (i : Item) (items : List Item) → IsOfStep i → closes_at (i ∷
 closes_past (item.Step number) items is = absurd cc
 closes_past (item.Close steps) items is = absurd cc
 closes_past item.End items is = absurd cc
-closes_past (item.Cipher frame bytes) items is = refl
-closes_past (item.Put address width value) items is = refl
-closes_past (item.Leave s) items is = refl
-closes_past (item.Ok domain) items is = refl
-closes_past (item.Absent domain cause) items is = refl
-closes_past (item.Word domain value) items is = refl
-closes_past (item.Timer domain) items is = refl
-closes_past (item.Resume domain ctx answer) items is = refl
-closes_past (item.Stopped domain) items is = refl
-closes_past (item.Ended domain) items is = refl
+closes_past _ items is = refl
 
 closes_one : (i : Item) (test : Bool) (items : List Item) → IsOfStep i →
     closes_at (cond test (i ∷ items) items) ≡ closes_at items

@@ -20,17 +20,15 @@ use Rattle.cloak_model.specs.declared.resource.MapFault.{MapFault}
 use Rattle.cloak_model.specs.Contexts.{Context, context_number, domain_of, slot_of, shown}
 use Rattle.cloak_model.specs.DomainState.{Control, Domain}
 use Rattle.cloak_model.specs.DomainStep.{DomainStepped, instruction_ended, copy_ended, phase_step, step_if, domain_step, interrupt_if, interrupt, answer_taken, resume_told, resume_slot, after_write}
-use Rattle.cloak_model.specs.Hypercalls.{Stepped, remapped, new_call, map_call, unmap_call, file_call, thread_at, thread_call, fork_told, fork_call, end_told, exit_call, call_begun, kernel_call, leaves, Hypercall, New, Map, Unmap, File, Thread, ForkSpace, Exit, Call, Unknown, hypercall}
+use Rattle.cloak_model.specs.Hypercalls.{Stepped, remapped, new_call, map_call, unmap_call, file_call, thread_at, thread_call, fork_told, fork_call, end_told, exit_call, call_begun, kernel_call, leaves, Hypercall, Map, Unmap, Thread, ForkSpace, Exit, Call, hypercall}
 use Rattle.cloak_model.specs.World.{World}
 use Rattle.cloak_model.specs.declared.context.WordPlace.{WordPlace}
 
 -- what is shown, if anything is, is of this context
 abbrev pub ShowsContext : ℕ → Went → Type 0
-ShowsContext ctx went.Stay = Unit {0}
 ShowsContext ctx (went.Leave s) = s.ctx ≡ ctx
-ShowsContext ctx went.Stopped = Unit {0}
 ShowsContext ctx (went.SpaceGone space s) = s.ctx ≡ ctx
-ShowsContext ctx (went.Remapped space) = Unit {0}
+ShowsContext ctx _ = Unit {0}
 
 -- A step of the context of a slot.
 pub record KeepsNumber (slot : ℕ) (was now : Control) (how : Went) : Type 0 where
@@ -44,8 +42,7 @@ number_of_context ctx = omega arith
 shown_ctx : (c : Context) (ctx : ℕ) (cause : Why) → (shown c ctx cause).ctx ≡ ctx
 unfolding shown
 shown_ctx c ctx (why.Trap cause address) = refl
-shown_ctx c ctx why.Call = refl
-shown_ctx c ctx why.Exit = refl
+shown_ctx c ctx _ = refl
 
 numbers_leave : (slot : ℕ) (c : Context) (cause : Why) (d : Control) →
     let s = leaves slot c cause d in KeepsNumber slot d s.control s.went
@@ -79,36 +76,31 @@ numbers_thread slot c d = either slot d _ _ _ (numbers_thread_at slot c _ d) (re
 numbers_fork : (slot : ℕ) (c : Context) (d d' : Control) (made : Result (Option CtxId) MapFault) →
     d'.number ≡ d.number → Numbers slot d (fork_told slot c d made d')
 unfolding fork_told
-numbers_fork slot c d d' (Err f) same = record { number = refl; shows = tt }
-numbers_fork slot c d d' (Ok None) same = record { number = refl; shows = tt }
 numbers_fork slot c d d' (Ok (Some ctx)) same = record { number = same; shows = tt }
+numbers_fork slot c d d' _ same = record { number = refl; shows = tt }
 
 numbers_end : (slot : ℕ) (c : Context) (d d' : Control) (ending : Ended) → d'.number ≡ d.number →
     Numbers slot d (end_told slot c d ending d')
 unfolding end_told
-numbers_end slot c d d' ends.Kept same = record { number = same; shows = shown_ctx c _ why.Exit }
-numbers_end slot c d d' (ends.SpaceGone space) same = record { number = same; shows = shown_ctx c _ why.Exit }
 numbers_end slot c d d' ends.Stopped same = record { number = refl; shows = tt }
+numbers_end slot c d d' _ same = record { number = same; shows = shown_ctx c _ why.Exit }
 
 numbers_begun : (slot : ℕ) (c : Context) (made : Result Begun MapFault) (d : Control) →
     Numbers slot d (call_begun slot c made d)
 unfolding call_begun
-numbers_begun slot c (Err f) d = record { number = refl; shows = tt }
-numbers_begun slot c (Ok begun.Copying) d = record { number = refl; shows = tt }
 numbers_begun slot c (Ok begun.Leave) d = numbers_leave slot c why.Call d
+numbers_begun slot c _ d = record { number = refl; shows = tt }
 
 numbers_hypercall : (h : Hypercall) (slot : ℕ) (c : Context) (d : Control) (w : World) →
     Numbers slot d (hypercall h slot c d w).answer
 unfolding hypercall new_call map_call unmap_call file_call fork_call exit_call kernel_call
-numbers_hypercall New slot c d w = record { number = refl; shows = tt }
 numbers_hypercall Map slot c d w = numbers_remapped slot c _ d _ refl
 numbers_hypercall Unmap slot c d w = numbers_remapped slot c _ d _ refl
-numbers_hypercall File slot c d w = record { number = refl; shows = tt }
 numbers_hypercall Thread slot c d w = numbers_thread slot c d
 numbers_hypercall ForkSpace slot c d w = numbers_fork slot c d _ _ refl
 numbers_hypercall Exit slot c d w = numbers_end slot c d _ _ refl
 numbers_hypercall Call slot c d w = numbers_begun slot _ _ d
-numbers_hypercall Unknown slot c d w = record { number = refl; shows = tt }
+numbers_hypercall _ slot c d w = record { number = refl; shows = tt }
 
 -- The step.
 
@@ -118,28 +110,22 @@ StepNumbers slot d s = KeepsNumber slot d.control s.domain.control s.went
 numbers_instruction : (slot : ℕ) (d : Domain) (c : Context) (e : Ran) (w : World) →
     StepNumbers slot d (instruction_ended slot d c e w).answer
 unfolding instruction_ended
-numbers_instruction slot d c ran.Stay w = record { number = refl; shows = tt }
-numbers_instruction slot d c (ran.Loaded address value) w = record { number = refl; shows = tt }
 numbers_instruction slot d c (ran.Trap cause address) w = record {
   number = refl;
   shows = shown_ctx c _ (why.Trap cause address);
 }
 numbers_instruction slot d c ran.Ecall w =
     let s = numbers_hypercall _ slot c d.control w in record { number = s.number; shows = s.shows }
-numbers_instruction slot d c ran.Stopped w = record { number = refl; shows = tt }
+numbers_instruction slot d c _ w = record { number = refl; shows = tt }
 
 numbers_copy : (slot : ℕ) (d : Domain) (c : Context) (e : Copied) → StepNumbers slot d (copy_ended slot d c e)
 unfolding copy_ended
-numbers_copy slot d c copied.Going = record { number = refl; shows = tt }
 numbers_copy slot d c copied.CallReady = record { number = refl; shows = shown_ctx c _ why.Call }
-numbers_copy slot d c copied.Done = record { number = refl; shows = tt }
 numbers_copy slot d c (copied.Absent cause address) = record {
   number = refl;
   shows = shown_ctx c _ (why.Trap cause address);
 }
-numbers_copy slot d c copied.Stopped = record { number = refl; shows = tt }
-numbers_copy slot d c copied.Refused = record { number = refl; shows = tt }
-numbers_copy slot d c (copied.Loaded address byte) = record { number = refl; shows = tt }
+numbers_copy slot d c _ = record { number = refl; shows = tt }
 
 -- a write leaves numbers
 numbers_write : (slot : ℕ) (d : Domain) (wrote : Option WordPlace) (s : DomainStepped) → StepNumbers slot d s →

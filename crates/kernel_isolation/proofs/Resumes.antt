@@ -15,7 +15,7 @@ use Rattle.rv_atomic.specs.declared.atomic.AtomicOp.{AtomicOp}
 use Rattle.rv_atomic.specs.declared.atomic.AtomicOp.TheVariants.{Lr, Sc}
 use Rattle.cloak_model.specs.declared.access.Access.{Access}
 use Rattle.cloak_model.specs.declared.outcome.Kernel.{Kernel}
-use Rattle.cloak_model.specs.declared.outcome.Kernel.TheVariants.{Stay, Put, Halt, Resume, Trapped}
+use Rattle.cloak_model.specs.declared.outcome.Kernel.TheVariants.{Resume, Trapped}
 use Rattle.cloak_model.specs.declared.outcome.Effect.{Effect}
 use Rattle.cloak_model.specs.declared.outcome.Effect.TheVariants as does
 use Rattle.cloak_model.specs.Csr.{csr_read, satp_of, interrupt_due}
@@ -33,11 +33,8 @@ use Rattle.cloak_model.proofs.FlatWalk.{ask_walk-flat}
 use Rattle.settling_ahead.proofs.Planning.{unmarked}
 
 abbrev pub is_resume : Kernel → Bool
-is_resume Stay = false
-is_resume Trapped = false
-is_resume (Put byte) = false
-is_resume (Halt value) = false
 is_resume (Resume ctx answer) = true
+is_resume _ = false
 
 -- the same frames with other reservations
 abbrev pub marked : List (Option ℕ) → Seen → Seen
@@ -324,11 +321,9 @@ released_answer made w =
     by false x y first second = second
 
 resume_releases : (e : Kernel) → is_resume e ≡ true → ends_reservation e ≡ true
-resume_releases Stay is = absurd cc
 resume_releases Trapped is = refl
-resume_releases (Put byte) is = absurd cc
-resume_releases (Halt value) is = absurd cc
 resume_releases (Resume ctx answer) is = refl
+resume_releases _ is = absurd cc
 
 released_resume : (made : SteppedKernel) (seen : Seen) → is_resume made.ending ≡ true →
     released made (Flat seen) ≡ record { answer = made; world = Flat (unmarked made.hart.id seen) }

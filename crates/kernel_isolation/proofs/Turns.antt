@@ -12,7 +12,7 @@ use Rattle.cloak_model.specs.declared.inside.Went.TheVariants as went
 use Rattle.cloak_model.specs.declared.item.Item.{Item}
 use Rattle.cloak_model.specs.declared.item.Item.TheVariants as item
 use Rattle.cloak_model.specs.declared.outcome.Kernel.{Kernel}
-use Rattle.cloak_model.specs.declared.outcome.Kernel.TheVariants.{Stay, Put, Halt, Resume, Trapped}
+use Rattle.cloak_model.specs.declared.outcome.Kernel.TheVariants.{Put, Halt, Resume, Trapped}
 use Rattle.cloak_model.specs.Ahead.{settle_touched, settled_step, made_after, with_shown}
 use Rattle.cloak_model.specs.Asking.{Told}
 use Rattle.cloak_model.specs.Cloaking.{CloakedMemory, AfterSettling, seen_in, with_seen}
@@ -164,22 +164,6 @@ halt_stops j items value none = sym none ∙ some_either j.memory.ledger.missed 
 ends_as : (j : Joint) (number : ℕ) (items : List Item) (e : Kernel) → IsSteady j →
     EndsAs j items e (outside_ended j number items e)
 unfolding outside_ended
-ends_as j number items Stay steady = record {
-  others = [];
-  written = sym (append-nil items);
-  inward = tt;
-  part = console_same j;
-  halts = λ none. refl;
-  steady = steady;
-}
-ends_as j number items Trapped steady = record {
-  others = [];
-  written = sym (append-nil items);
-  inward = tt;
-  part = console_same j;
-  halts = λ none. refl;
-  steady = steady;
-}
 ends_as j number items (Put b) steady = record {
   others = [];
   written = sym (append-nil items);
@@ -206,6 +190,14 @@ ends_as j number items (Resume ctx reply) steady =
       halts = λ none. refl;
       steady = r.steady;
     }
+ends_as j number items _ steady = record {
+  others = [];
+  written = sym (append-nil items);
+  inward = tt;
+  part = console_same j;
+  halts = λ none. refl;
+  steady = steady;
+}
 
 -- the law of such steps, for the hart of the turn
 outside_for : (schedule : List ℕ) (n : ℕ) (k : KernelPart) (ciphers : List (ℕ × List ℕ)) (others : List Item)
@@ -348,11 +340,8 @@ ends_extends : (schedule : List ℕ) (n : ℕ) (j : Joint) (number : ℕ) (s : A
     let t : Turn = outside_ended after number (cipher_items s.ciphers) e in
     (v : Violation) → t.violation ≡ Some v → Extends schedule n (kernel_part j) t
 unfolding outside_ended
-ends_extends schedule n j number s Stay same outside shown paid is steady v met = let clash : None ≡ Some v = met in absurd cc
 ends_extends schedule n j number s Trapped same outside shown paid is steady v met =
     let clash : None ≡ Some v = met in absurd cc
-ends_extends schedule n j number s (Put b) same outside shown paid is steady v met = let clash : None ≡ Some v = met in absurd cc
-ends_extends schedule n j number s (Halt value) same outside shown paid is steady v met = let clash : None ≡ Some v = met in absurd cc
 ends_extends schedule n j number s (Resume ctx reply) same outside shown paid is steady v met =
     let told = kernel_step (hart_in j number) j.disk (Flat (seen_in s.memory)) in
     let after : Joint = record j {
@@ -366,6 +355,7 @@ ends_extends schedule n j number s (Resume ctx reply) same outside shown paid is
     (record (quiet x.joint (cipher_items s.ciphers ++ x.items)) { violation = x.violation })) (sym (u.refused v met))
     (refused_extends schedule n j number s ctx reply v same outside
     (record { paid = paid; shown = shown; ends = is }))
+ends_extends schedule n j number s _ same outside shown paid is steady v met = let clash : None ≡ Some v = met in absurd cc
 
 -- the step, by the settling ahead of it
 outside_by : (schedule : List ℕ) (n : ℕ) (j : Joint) (number : ℕ) (s : AfterSettling) →
@@ -533,12 +523,6 @@ domain_turn : (schedule : List ℕ) (n : ℕ) (j j' : Joint) (number ctx d : ℕ
     IsInside schedule n j number ctx → IsReached j j' items → items_of w ≡ items → ShowsContext ctx how →
     TurnIsAlone schedule n j (domain_ended j' number (ticked (hart_in j number)) d w how)
 unfolding domain_ended
-domain_turn schedule n j j' number ctx d w went.Stay items inside reached written shows =
-    staying schedule n j j' number ctx items _ inside reached written refl
-domain_turn schedule n j j' number ctx d w went.Stopped items inside reached written shows =
-    staying schedule n j j' number ctx items _ inside reached written refl
-domain_turn schedule n j j' number ctx d w (went.Remapped space) items inside reached written shows =
-    staying schedule n j j' number ctx items _ inside reached written refl
 domain_turn schedule n j j' number ctx d w (went.Leave s) items inside reached written shows =
     leaving schedule n j j' number ctx items s _ inside reached shows
     (ap (λ (l : List Item). l ++ item.Leave s ∷ []) written) refl refl
@@ -550,16 +534,16 @@ domain_turn schedule n j j' number ctx d w (went.SpaceGone space s) items inside
       steady = record { places = reached.steady.places; programs = reached.steady.programs };
     })
     shows (ap (λ (l : List Item). l ++ item.Leave s ∷ []) written) refl refl
+domain_turn schedule n j j' number ctx d w _ items inside reached written shows =
+    staying schedule n j j' number ctx items _ inside reached written refl
 
 memory_ram : (w : World) (m : CloakedMemory) → is_joint w ≡ true → seen_in (memory_of w m) ≡ seen_of w
-memory_ram (Flat ram) m form = refl
-memory_ram (Cloaked c) m form = refl
 memory_ram (Alone h) m form = absurd (false≢true form)
+memory_ram _ m form = refl
 
 memory_places : (w : World) (m : CloakedMemory) → IsJointWorld w → HasPlaces (memory_of w m)
-memory_places (Flat ram) m joint = absurd (false≢true joint.form)
 memory_places (Cloaked c) m joint = joint.places
-memory_places (Alone h) m joint = absurd (false≢true joint.form)
+memory_places _ m joint = absurd (false≢true joint.form)
 
 -- what a program's step told has come about
 told_turn : (schedule : List ℕ) (n : ℕ) (j : Joint) (number ctx d : ℕ) (was : Domain) (c : Cloak)
@@ -593,15 +577,9 @@ interrupt_turn : (schedule : List ℕ) (n : ℕ) (j j' : Joint) (number ctx : �
     IsInside schedule n j number ctx → IsReached j j' items → ShowsContext ctx how →
     TurnIsAlone schedule n j (interrupt_ended j' number (ticked (hart_in j number)) items how)
 unfolding interrupt_ended
-interrupt_turn schedule n j j' number ctx went.Stay items inside reached shows =
-    staying schedule n j j' number ctx items _ inside reached refl refl
-interrupt_turn schedule n j j' number ctx went.Stopped items inside reached shows =
-    staying schedule n j j' number ctx items _ inside reached refl refl
-interrupt_turn schedule n j j' number ctx (went.Remapped space) items inside reached shows =
-    staying schedule n j j' number ctx items _ inside reached refl refl
 interrupt_turn schedule n j j' number ctx (went.Leave s) items inside reached shows =
     leaving schedule n j j' number ctx items s _ inside reached shows refl refl refl
-interrupt_turn schedule n j j' number ctx (went.SpaceGone space s) items inside reached shows =
+interrupt_turn schedule n j j' number ctx _ items inside reached shows =
     staying schedule n j j' number ctx items _ inside reached refl refl
 
 after_interrupt_turn : (schedule : List ℕ) (n : ℕ) (j : Joint) (number ctx d : ℕ) (was : Domain) (step : Stepped) →

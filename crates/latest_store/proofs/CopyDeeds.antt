@@ -11,7 +11,8 @@ use Rattle.cloak_model.specs.declared.item.Item.{Item}
 use Rattle.cloak_model.specs.declared.item.Item.TheVariants as item
 use Rattle.cloak_model.specs.Asking.{Asking, answered, then_ask}
 use Rattle.cloak_model.specs.AskPages.{answer_item, ask_read, ask_write}
-use Rattle.cloak_model.specs.Calls.{Copy, buffer, area, byte_address, in_put, in_reached, in_placed, in_step, copy_in_step, out_reached, out_got, out_placed, out_step, copy_out_step}
+use Rattle.cloak_model.specs.Calls.{Copy, buffer, area, byte_address, copy_in_step, copy_out_step}
+use Rattle.cloak_model.proofs.CallParts.{in_put, in_reached, in_placed, in_step, out_reached, out_got, out_placed, out_step}
 use Rattle.cloak_model.specs.Contexts.{Context, context_at}
 use Rattle.cloak_model.specs.DomainState.{Domain}
 use Rattle.cloak_model.specs.DomainStep.{DomainStepped, copy_ended, phase_step, step_if, domain_step}
@@ -44,7 +45,7 @@ in_put_did : (slot : ℕ) (d : Domain) (plain : PageId → List ℕ) (c : Contex
     byte ≡ value_in (plain q) (byte_address (buffer c) done % 4096) 1 →
     Heard d.control.number plain (item.Ok d.control.number ∷ answer_item d.control.number a ∷ []) w →
     Does slot d plain (if_granted (Loads q (byte_address (buffer c) done) 1 ∷ [])) (in_put c done byte a) w
-unfolding in_put copy_ended
+unfolding copy_ended
 in_put_did slot d plain c q done byte told.Ok w same heard = record {
   answers = item.Ok d.control.number ∷ item.Ok d.control.number ∷ [];
   form = heard.form;
@@ -62,7 +63,7 @@ in_put_did slot d plain c q done byte told.Stopped w same heard = quiet _ _ _ _ 
 in_reached_did : (slot : ℕ) (d : Domain) (plain : PageId → List ℕ) (c : Context) (q : PageId) (done : ℕ) (a : Answer)
     (w : World) → Heard d.control.number plain (answer_item d.control.number a ∷ []) w →
     Does slot d plain (if_granted (Loads q (byte_address (buffer c) done) 1 ∷ [])) (in_reached c q done a) w
-unfolding in_reached ask_read copy_ended
+unfolding ask_read copy_ended
 in_reached_did slot d plain c q done told.Ok w heard =
     let at = byte_address (buffer c) done % 4096 in
     let byte : ℕ = value_in (plain_of w q) at 1 in
@@ -77,7 +78,7 @@ in_reached_did slot d plain c q done told.Stopped w heard = quiet _ _ _ _ _ w he
 in_placed_did : (slot : ℕ) (d : Domain) (plain : PageId → List ℕ) (c : Context) (done : ℕ) (place : Option PageId)
     (cloaked : Bool) (w : World) → IsOwn d.control.number place → Heard d.control.number plain [] w →
     Does slot d plain (if_granted (load_at (byte_address (buffer c) done) 1 place)) (in_placed c done place cloaked) w
-unfolding in_placed copy_ended
+unfolding copy_ended
 in_placed_did slot d plain c done None cloaked w own heard = quiet _ _ _ _ _ w heard refl refl (follows_same _)
 in_placed_did slot d plain c done (Some q) true w own heard = quiet _ _ _ _ _ w heard refl refl (follows_same _)
 in_placed_did slot d plain c done (Some q) false w own heard =
@@ -91,7 +92,7 @@ in_step_did : (all : Bool) (slot : ℕ) (d : Domain) (plain : PageId → List �
     (if_granted (load_at (byte_address (buffer c) done) 1
     (page_at d.control.number d.control.resources c.space (byte_address (buffer c) done))))
     (in_step all d.control.number d.control.resources c done) w
-unfolding in_step copy_ended
+unfolding copy_ended
 in_step_did true slot d plain c done w heard = quiet _ _ _ _ _ w heard refl refl (follows_same _)
 in_step_did false slot d plain c done w heard =
     in_placed_did slot d plain c done _ _ w
@@ -104,7 +105,7 @@ out_reached_did : (slot : ℕ) (d : Domain) (plain : PageId → List ℕ) (c : C
     (MapsHeld d.control.resources → HeldPlace d.control.resources (Some q)) →
     Heard d.control.number plain (item.Word d.control.number byte ∷ answer_item d.control.number a ∷ []) w →
     Does slot d plain (byte_moves (byte_address (buffer c) done) (Some q)) (out_reached c q done total byte a) w
-unfolding out_reached ask_write copy_ended
+unfolding ask_write copy_ended
 out_reached_did slot d plain c q done total byte told.Ok w held heard =
     let at = byte_address (buffer c) done % 4096 in
     let new : (PageId → List ℕ) → PageId → List ℕ = λ p. with_page p q (with_value_in (p q) at 1 byte) in
@@ -129,22 +130,20 @@ out_got_did : (slot : ℕ) (d : Domain) (plain : PageId → List ℕ) (c : Conte
     (done total : ℕ) (a : Answer) (w : World) →
     Heard d.control.number plain (answer_item d.control.number a ∷ []) w →
     Does slot d plain (byte_moves (byte_address (buffer c) done) (Some q)) (out_got c q done total a) w
-unfolding out_got copy_ended
+unfolding copy_ended
 out_got_did slot d plain c q own held done total told.Ok w heard = quiet _ _ _ _ _ w heard refl refl (follows_same _)
-out_got_did slot d plain c q own held done total (told.Absent cause) w heard =
-    quiet _ _ _ _ _ w heard refl refl (follows_same _)
 out_got_did slot d plain c q own held done total (told.Word byte) w heard =
     let question = Reach q own (byte_address (buffer c) done) Store in
     out_reached_did slot d plain c q done total byte (asked question w).answer (asked question w).world held
     (heard_asked d.control.number plain (item.Word d.control.number byte ∷ []) question w heard)
-out_got_did slot d plain c q own held done total told.Stopped w heard =
+out_got_did slot d plain c q own held done total _ w heard =
     quiet _ _ _ _ _ w heard refl refl (follows_same _)
 
 out_placed_did : (slot : ℕ) (d : Domain) (plain : PageId → List ℕ) (c : Context) (done total : ℕ)
     (place : Option PageId) (cloaked : Bool) (w : World) → IsOwn d.control.number place →
     (MapsHeld d.control.resources → HeldPlace d.control.resources place) → Heard d.control.number plain [] w →
     Does slot d plain (byte_moves (byte_address (buffer c) done) place) (out_placed c done total place cloaked) w
-unfolding out_placed copy_ended
+unfolding copy_ended
 out_placed_did slot d plain c done total None cloaked w own held heard =
     quiet _ _ _ _ _ w heard refl refl (follows_same _)
 out_placed_did slot d plain c done total (Some q) true w own held heard =
@@ -160,7 +159,7 @@ out_step_did : (all : Bool) (slot : ℕ) (d : Domain) (plain : PageId → List �
     (byte_moves (byte_address (buffer c) done)
     (page_at d.control.number d.control.resources c.space (byte_address (buffer c) done)))
     (out_step all d.control.number d.control.resources c done total) w
-unfolding out_step copy_ended
+unfolding copy_ended
 out_step_did true slot d plain c done total w heard = quiet _ _ _ _ _ w heard refl refl (follows_same _)
 out_step_did false slot d plain c done total w heard =
     let va = byte_address (buffer c) done in

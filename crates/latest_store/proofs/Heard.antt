@@ -8,7 +8,7 @@ use Rattle.cloak_model.specs.declared.context.WordPlace.{WordPlace}
 use Rattle.cloak_model.specs.declared.item.Item.{Item}
 use Rattle.cloak_model.specs.declared.item.Item.TheVariants as item
 use Rattle.cloak_model.specs.Halves.{inward_half}
-use Rattle.cloak_model.specs.World.{World, Flat, Cloaked, Alone, plain_of, regime_of, items_of, with_plain}
+use Rattle.cloak_model.specs.World.{World, Cloaked, plain_of, regime_of, items_of, with_plain}
 use Rattle.cloak_model.specs.Asking.{Told}
 use Rattle.cloak_model.specs.AskPages.{answer_item}
 use Rattle.cloak_model.specs.DomainState.{Domain}
@@ -126,6 +126,5 @@ pub record Rewrites (w v : World) (plain : PageId → List ℕ) : Type 0 where
 
 pub with_plain_rewrites : (d : ℕ) (plain : PageId → List ℕ) (w : World) → is_cloaked w ≡ true →
     Rewrites w (with_plain d plain w) plain
-with_plain_rewrites d plain (Flat seen) form = absurd cc
 with_plain_rewrites d plain (Cloaked c) form = record { form = refl; regime = refl; pages = refl; items = refl }
-with_plain_rewrites d plain (Alone h) form = absurd cc
+with_plain_rewrites d plain _ form = absurd cc

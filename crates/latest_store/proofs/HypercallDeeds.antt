@@ -112,11 +112,7 @@ fork_cleared_did slot d plain c free new told.Ok w enough heard =
     made_so d plain (copy_moves d.control.number list) _ w _ heard (copies_made d.control.number list w heard.form)
     (copies_give d.control.number list plain) refl
     (fits_fork d.control.number c.space new d.control.resources enough)
-fork_cleared_did slot d plain c free new (told.Absent cause) w enough heard =
-    quiet _ _ _ _ _ w heard refl refl (follows_same _)
-fork_cleared_did slot d plain c free new (told.Word value) w enough heard =
-    quiet _ _ _ _ _ w heard refl refl (follows_same _)
-fork_cleared_did slot d plain c free new told.Stopped w enough heard =
+fork_cleared_did slot d plain c free new _ w enough heard =
     quiet _ _ _ _ _ w heard refl refl (follows_same _)
 
 room_there : (b : Bool) (done : Unit {0}) →

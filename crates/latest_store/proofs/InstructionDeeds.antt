@@ -27,7 +27,8 @@ use Rattle.cloak_model.specs.DomainStep.{DomainStepped, instruction_ended}
 use Rattle.cloak_model.specs.Effect.{effect}
 use Rattle.cloak_model.specs.Halves.{inward_half}
 use Rattle.cloak_model.specs.Hypercalls.{hypercall_of}
-use Rattle.cloak_model.specs.InsideStep.{AfterInstruction, loaded_inside, load_reached, load_got, load_inside, store_reached, store_put, store_inside, conditional_inside, atomic_granted, atomic_reached, atomic_placed, traps, atomic_inside, system_inside, done_inside, decoded_inside, executed_inside, fetched_inside, fetch, instruction_inside}
+use Rattle.cloak_model.specs.InsideStep.{AfterInstruction, load_inside, store_inside, atomic_granted, atomic_placed, traps, atomic_inside, system_inside, done_inside, decoded_inside, fetch, instruction_inside}
+use Rattle.cloak_model.proofs.InsideParts.{load_reached, load_got, store_reached, store_put, conditional_inside, atomic_reached, executed_inside, fetched_inside}
 use Rattle.cloak_model.specs.KernelStep.{atomic_kind, misaligned}
 use Rattle.cloak_model.specs.Memory.{value_in, with_value_in}
 use Rattle.cloak_model.specs.Resources.{page_at}
@@ -63,7 +64,7 @@ second_answer n a = item.Ok n ∷ answer_item n a ∷ []
 load_reached_did : (slot : ℕ) (d : Domain) (plain : PageId → List ℕ) (c : Context) (q : PageId) (rd va width : ℕ)
     (signed : Bool) (a : Answer) (w : World) → Heard d.control.number plain (second_answer d.control.number a) w →
     DoesIf slot d plain (if_granted (Loads q va width ∷ [])) (load_reached c q rd va width signed a) w
-unfolding load_reached loaded_inside ask_read instruction_ended
+unfolding ask_read instruction_ended
 load_reached_did slot d plain c q rd va width signed told.Ok w heard = record {
   answers = second_answer d.control.number told.Ok;
   form = heard.form;
@@ -82,13 +83,11 @@ load_reached_did slot d plain c q rd va width signed told.Stopped w heard =
 load_got_did : (slot : ℕ) (d : Domain) (plain : PageId → List ℕ) (c : Context) (rd va width : ℕ) (signed : Bool)
     (a : Answer) (w : World) → Heard d.control.number plain (second_answer d.control.number a) w →
     DoesIf slot d plain (if_granted []) (load_got c rd va width signed a) w
-unfolding load_got instruction_ended
+unfolding instruction_ended
 load_got_did slot d plain c rd va width signed told.Ok w heard = quiet _ _ _ _ _ w heard refl refl (follows_same _)
-load_got_did slot d plain c rd va width signed (told.Absent cause) w heard =
-    quiet _ _ _ _ _ w heard refl refl (follows_same _)
-load_got_did slot d plain c rd va width signed (told.Word value) w heard =
-    quiet _ _ _ _ _ w heard refl refl (follows_same _)
 load_got_did slot d plain c rd va width signed told.Stopped w heard = quiet _ _ _ _ _ w heard refl refl (follows_same _)
+load_got_did slot d plain c rd va width signed _ w heard =
+    quiet _ _ _ _ _ w heard refl refl (follows_same _)
 
 load_did : (slot : ℕ) (d : Domain) (plain : PageId → List ℕ) (c : Context) (rd va width : ℕ) (signed : Bool)
     (place : Option PageId) (w : World) → IsOwn d.control.number place →
@@ -108,7 +107,7 @@ store_reached_did : (slot : ℕ) (d : Domain) (plain : PageId → List ℕ) (c :
     (a : Answer) (w : World) → (MapsHeld d.control.resources → HeldPlace d.control.resources (Some q)) →
     Heard d.control.number plain (second_answer d.control.number a) w →
     DoesIf slot d plain (if_granted (Stores q (va % 4096) width value ∷ [])) (store_reached c q va width value a) w
-unfolding store_reached ask_write instruction_ended
+unfolding ask_write instruction_ended
 store_reached_did slot d plain c q va width value told.Ok w held heard =
     let new : (PageId → List ℕ) → PageId → List ℕ = λ p. with_page p q (with_value_in (p q) (va % 4096) width value) in
     let made = with_plain_rewrites q.domain (new (plain_of w)) w heard.form in
@@ -130,11 +129,9 @@ store_reached_did slot d plain c q va width value told.Stopped w held heard =
 store_put_did : (slot : ℕ) (d : Domain) (plain : PageId → List ℕ) (c : Context) (va : ℕ) (a : Answer) (w : World) →
     Heard d.control.number plain (second_answer d.control.number a) w →
     DoesIf slot d plain (if_granted []) (store_put c va a) w
-unfolding store_put instruction_ended
+unfolding instruction_ended
 store_put_did slot d plain c va told.Ok w heard = quiet _ _ _ _ _ w heard refl refl (follows_same _)
-store_put_did slot d plain c va (told.Absent cause) w heard = quiet _ _ _ _ _ w heard refl refl (follows_same _)
-store_put_did slot d plain c va (told.Word value) w heard = quiet _ _ _ _ _ w heard refl refl (follows_same _)
-store_put_did slot d plain c va told.Stopped w heard = quiet _ _ _ _ _ w heard refl refl (follows_same _)
+store_put_did slot d plain c va _ w heard = quiet _ _ _ _ _ w heard refl refl (follows_same _)
 
 store_did : (slot : ℕ) (d : Domain) (plain : PageId → List ℕ) (c : Context) (va width value : ℕ)
     (place : Option PageId) (w : World) → IsAligned va width → IsOwn d.control.number place →
@@ -164,9 +161,6 @@ done_did : (slot : ℕ) (d : Domain) (plain : PageId → List ℕ) (c : Context)
     Heard d.control.number plain (item.Ok d.control.number ∷ []) w →
     DoesIf slot d plain (effect_moves d.control c i e) (done_inside d.control.number d.control.resources c i e) w
 unfolding done_inside effect_moves instruction_ended
-done_did slot d plain c i (does.Write rd value) w at heard = quiet _ _ _ _ _ w heard refl refl (follows_same _)
-done_did slot d plain c i (does.Jump rd link target) w at heard = quiet _ _ _ _ _ w heard refl refl (follows_same _)
-done_did slot d plain c i (does.Go target) w at heard = quiet _ _ _ _ _ w heard refl refl (follows_same _)
 done_did slot d plain c i (does.Load rd va width signed) w at heard =
     load_did slot d plain c rd va width signed (page_at d.control.number d.control.resources c.space va) w
     (own_page d.control.number d.control.resources c.space va) heard
@@ -175,8 +169,7 @@ done_did slot d plain c i (does.Store va width value) w at heard =
     (own_page d.control.number d.control.resources c.space va)
     (held_page d.control.number d.control.resources c.space va) heard
 done_did slot d plain c i does.System w at heard = system_did slot d plain c i w heard
-done_did slot d plain c i does.Nothing w at heard = quiet _ _ _ _ _ w heard refl refl (follows_same _)
-done_did slot d plain c i (does.Raise cause value) w at heard = quiet _ _ _ _ _ w heard refl refl (follows_same _)
+done_did slot d plain c i _ w at heard = quiet _ _ _ _ _ w heard refl refl (follows_same _)
 
 -- Atomic instructions.
 
@@ -186,7 +179,7 @@ conditional_did : (reserved : Bool) (slot : ℕ) (d : Domain) (plain : PageId �
     Heard d.control.number plain (second_answer d.control.number told.Ok) w →
     DoesIf slot d plain (if_granted (cond reserved (Stores q (va % 4096) 4 operand ∷ []) []))
     (conditional_inside reserved c rd q va operand) w
-unfolding conditional_inside ask_write instruction_ended
+unfolding ask_write instruction_ended
 conditional_did true slot d plain c rd q va operand w held heard =
     let new : (PageId → List ℕ) → PageId → List ℕ = λ p. with_page p q (with_value_in (p q) (va % 4096) 4 operand) in
     let made = with_plain_rewrites q.domain (new (plain_of w)) w heard.form in
@@ -234,14 +227,10 @@ atomic_reached_did : (slot : ℕ) (d : Domain) (plain : PageId → List ℕ) (c 
     (MapsHeld d.control.resources → HeldPlace d.control.resources (Some q)) →
     Heard d.control.number plain (second_answer d.control.number a) w →
     DoesIf slot d plain (if_granted (atomic_at c op va operand (Some q))) (atomic_reached c rd op q va operand a) w
-unfolding atomic_reached instruction_ended
+unfolding instruction_ended
 atomic_reached_did slot d plain c rd op q va operand told.Ok w held heard =
     granted_did slot d plain c rd op q va operand w held heard
-atomic_reached_did slot d plain c rd op q va operand (told.Absent cause) w held heard =
-    quiet _ _ _ _ _ w heard refl refl (follows_same _)
-atomic_reached_did slot d plain c rd op q va operand (told.Word value) w held heard =
-    quiet _ _ _ _ _ w heard refl refl (follows_same _)
-atomic_reached_did slot d plain c rd op q va operand told.Stopped w held heard =
+atomic_reached_did slot d plain c rd op q va operand _ w held heard =
     quiet _ _ _ _ _ w heard refl refl (follows_same _)
 
 placed_did : (slot : ℕ) (d : Domain) (plain : PageId → List ℕ) (c : Context) (rd : ℕ) (op : AtomicOp)
@@ -292,7 +281,6 @@ executed_did : (slot : ℕ) (d : Domain) (plain : PageId → List ℕ) (c : Cont
     Heard d.control.number plain (item.Ok d.control.number ∷ []) w →
     DoesIf slot d plain (word_moves d.control c word (instruction word))
     (executed_inside d.control.number d.control.resources c word) w
-unfolding executed_inside
 executed_did slot d plain c word w heard = decoded_did slot d plain c word (instruction word) w heard
 
 fetched_did : (slot : ℕ) (d : Domain) (history : List Move) (plain : PageId → List ℕ) (c : Context) (q : PageId)
@@ -300,7 +288,7 @@ fetched_did : (slot : ℕ) (d : Domain) (history : List Move) (plain : PageId �
     Heard d.control.number plain (first_answer d.control.number a) w →
     DoesIf slot d plain (fetched_moves history d.control c (Some q))
     (fetched_inside d.control.number d.control.resources c q a) w
-unfolding fetched_inside fetched_moves ask_read instruction_ended
+unfolding fetched_moves ask_read instruction_ended
 fetched_did slot d history plain c q told.Ok w agrees heard =
     let n = d.control.number in
     let word : ℕ = value_in (plain_of w q) (c.pc % 4096) 4 in

@@ -22,9 +22,8 @@ moved (Stores p from width value) plain = with_page plain p (with_value_in (plai
 moved (Combines p from op operand) plain =
     with_page plain p (with_value_in (plain p) from 4 (combined op (value_in (plain p) from 4) operand))
 moved (Copies domain from to) plain = with_copied plain domain from to
-moved (Zeros domain resource) plain = plain
 moved (Drops domain resource) plain = with_resource plain domain resource zero_page
-moved (Loads q address width) plain = plain
+moved _ plain = plain
 
 abbrev pub moved_by : List Move → (PageId → List ℕ) → PageId → List ℕ
 moved_by [] plain = plain
@@ -32,13 +31,8 @@ moved_by (m ∷ moves) plain = moved_by moves (moved m plain)
 
 -- the loads among moves, with what the pages gave
 abbrev pub given : Move → (PageId → List ℕ) → List (ℕ × ℕ)
-given (Makes p bytes) plain = []
-given (Stores p from width value) plain = []
-given (Combines p from op operand) plain = []
-given (Copies domain from to) plain = []
-given (Zeros domain resource) plain = []
-given (Drops domain resource) plain = []
 given (Loads q address width) plain = (address, value_in (plain q) (address % 4096) width) ∷ []
+given _ plain = []
 
 abbrev pub given_by : List Move → (PageId → List ℕ) → List (ℕ × ℕ)
 given_by [] plain = []
@@ -151,12 +145,6 @@ one_more false before load load' same = sym (append-nil before)
 move_loads : (d e : ℕ) (m : Move) (history : List Move) (plain : PageId → List ℕ) → IsSound d history m →
     Agrees history plain → LoadsMore d e m history plain
 unfolding loads_of
-move_loads d e (Makes p bytes) history plain sound agrees = none_more (d == e) (loads_of e history)
-move_loads d e (Stores p from width value) history plain sound agrees = none_more (d == e) (loads_of e history)
-move_loads d e (Combines p from op operand) history plain sound agrees = none_more (d == e) (loads_of e history)
-move_loads d e (Copies domain from to) history plain sound agrees = none_more (d == e) (loads_of e history)
-move_loads d e (Zeros domain resource) history plain sound agrees = none_more (d == e) (loads_of e history)
-move_loads d e (Drops domain resource) history plain sound agrees = none_more (d == e) (loads_of e history)
 move_loads d e (Loads q address width) history plain sound agrees =
     let before = loads_of e history in
     let value = latest_value history q (address % 4096) width in
@@ -164,6 +152,7 @@ move_loads d e (Loads q address width) history plain sound agrees =
     ∙ one_more (d == e) before (address, value) (address, value_in (plain q) (address % 4096) width)
     (ap (λ (v : ℕ). let load : ℕ × ℕ = (address, v) in load)
     (sym (read_value history q (plain q) (address % 4096) width (agrees q))))
+move_loads d e _ history plain sound agrees = none_more (d == e) (loads_of e history)
 
 -- Moves one after another.
 

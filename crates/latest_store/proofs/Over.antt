@@ -11,7 +11,7 @@ use Rattle.cloak_model.specs.declared.inside.Went.TheVariants as went
 use Rattle.cloak_model.specs.declared.item.Item.{Item}
 use Rattle.cloak_model.specs.declared.item.Item.TheVariants as item
 use Rattle.cloak_model.specs.declared.outcome.Kernel.{Kernel}
-use Rattle.cloak_model.specs.declared.outcome.Kernel.TheVariants.{Stay, Put, Halt, Resume, Trapped}
+use Rattle.cloak_model.specs.declared.outcome.Kernel.TheVariants.{Resume}
 use Rattle.cloak_model.specs.Contexts.{Context, Admitted, Resumed, context_at, domain_of, slot_of, resume_if, resume_at}
 use Rattle.cloak_model.specs.DomainAlone.{runs_on}
 use Rattle.cloak_model.specs.DomainState.{Control, Domain}
@@ -84,10 +84,7 @@ module _ (d : ℕ) where
       Same j (domain_ended j number h e w how).joint
   unfolding domain_ended
   went_same j number h e w went.Stay = refl
-  went_same j number h e w went.Stopped = refl
-  went_same j number h e w (went.Remapped space) = refl
-  went_same j number h e w (went.Leave s) = refl
-  went_same j number h e w (went.SpaceGone space s) = refl
+  went_same j number h e w _ = refl
 
   interrupt_same : (j : Joint) (number : ℕ) (h : Hart) (items : List Item) (how : Went) →
       Same j (interrupt_ended j number h items how).joint
@@ -140,13 +137,10 @@ module _ (d : ℕ) where
     kernel_same : (j' : Joint) (number : ℕ) (items : List Item) (k : Kernel) → j'.domains ≡ j.domains →
         Same j' (outside_ended j' number items k).joint
     unfolding outside_ended resume
-    kernel_same j' number items Stay alike = refl
-    kernel_same j' number items Trapped alike = refl
-    kernel_same j' number items (Put b) alike = refl
-    kernel_same j' number items (Halt value) alike = refl
     kernel_same j' number items (Resume ctx answer) alike =
         domain_same j' number _ ctx answer (slice_get j'.domains (domain_of ctx)) alike
         (ap (λ (domains : List Domain). slice_get domains (domain_of ctx)) (sym alike))
+    kernel_same j' number items _ alike = refl
 
     found_same : (number : ℕ) (h : Hart) (ctx : ℕ) (found : Option Domain) →
         slice_get j.domains (domain_of ctx) ≡ found →

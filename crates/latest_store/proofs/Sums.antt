@@ -12,7 +12,7 @@ use Rattle.cloak_base.proofs.Pages.{same_page-decides, same_page-self}
 use Rattle.cloak_base.specs.declared.names.PageId.{PageId}
 use Rattle.rv_atomic.specs.Combine.{combined}
 use Rattle.rv_atomic.specs.declared.atomic.AtomicOp.TheVariants.{Add}
-use Rattle.latest_store.specs.Moves.{Move, Makes, Stores, Combines, Copies, Zeros, Drops, Loads, covers, bytes_from, latest, latest_value}
+use Rattle.latest_store.specs.Moves.{Move, Makes, Stores, Combines, Copies, Loads, covers, bytes_from, latest, latest_value}
 use Rattle.latest_store.specs.Sums.{reaches, writes_in, addend, OnlyAdd, added, RunsAddUp}
 use Rattle.latest_store.proofs.Values.{byte_from, past_bytes, four_bytes}
 
@@ -48,11 +48,9 @@ unwritten q at i (Combines p from op operand) history low none =
     (still_not (same_page q p) (reaches from 4 at) (covers from 4 (at + i)) none (uncovered from 4 at i low))
 unwritten q at i (Copies domain from to) history low none =
     ap (λ (b : Bool). cond b (latest history (page_in from q) (at + i)) (latest history q (at + i))) none
-unwritten q at i (Zeros domain resource) history low none =
-    ap (λ (b : Bool). cond b 0 (latest history q (at + i))) none
-unwritten q at i (Drops domain resource) history low none =
-    ap (λ (b : Bool). cond b 0 (latest history q (at + i))) none
 unwritten q at i (Loads p address width) history low none = refl
+unwritten q at i _ history low none =
+    ap (λ (b : Bool). cond b 0 (latest history q (at + i))) none
 
 unwritten_word : (q : PageId) (at : ℕ) (m : Move) (history : List Move) → writes_in q at m ≡ false →
     latest_value (m ∷ history) q at 4 ≡ latest_value history q at 4

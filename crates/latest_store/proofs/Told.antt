@@ -24,7 +24,7 @@ use Rattle.cloak_model.specs.declared.item.Item.TheVariants as item
 use Rattle.cloak_model.specs.declared.outcome.Effect.{Effect}
 use Rattle.cloak_model.specs.declared.outcome.Effect.TheVariants as does
 use Rattle.cloak_model.specs.declared.outcome.Kernel.{Kernel}
-use Rattle.cloak_model.specs.declared.outcome.Kernel.TheVariants.{Stay, Put, Halt, Resume, Trapped}
+use Rattle.cloak_model.specs.declared.outcome.Kernel.TheVariants.{Resume}
 use Rattle.cloak_model.specs.Ahead.{settle_touched, settled_step, made_after}
 use Rattle.cloak_model.specs.AskPages.{answer_item}
 use Rattle.cloak_model.specs.Asking.{Told}
@@ -83,9 +83,7 @@ unheard_ends items unheard d = half_ends d items ∙ ap (ends_in d) (unheard d)
 
 answer_ends : (d n : ℕ) (a : Answer) → is_end_of d (answer_item n a) ≡ false
 answer_ends d n told.Ok = refl
-answer_ends d n (told.Absent cause) = refl
-answer_ends d n (told.Word value) = refl
-answer_ends d n told.Stopped = refl
+answer_ends d n _ = refl
 
 answers_end : (n : ℕ) (answers : List Answer) → EndsNone (answer_items n answers)
 answers_end n [] d = refl
@@ -95,9 +93,7 @@ answers_end n (a ∷ answers) d = λ i. answer_ends d n a i || answers_end n ans
 
 answer_inward : (n : ℕ) (a : Answer) → is_inward n (answer_item n a) ≡ true
 answer_inward n told.Ok = eq-eqb n n refl
-answer_inward n (told.Absent cause) = eq-eqb n n refl
-answer_inward n (told.Word value) = eq-eqb n n refl
-answer_inward n told.Stopped = eq-eqb n n refl
+answer_inward n _ = eq-eqb n n refl
 
 own_items : (n : ℕ) (answers : List Answer) → inward_half n (answer_items n answers) ≡ answer_items n answers
 own_items n [] = refl
@@ -147,11 +143,8 @@ resume_ends j hart satp ctx reply d = domain_ends j hart satp ctx reply _ d
 kernel_ends : (j : Joint) (number : ℕ) (items : List Item) (k : Kernel) → EndsNone items →
     EndsNone (outside_ended j number items k).items
 unfolding outside_ended
-kernel_ends j number items Stay ends = ends
-kernel_ends j number items Trapped ends = ends
-kernel_ends j number items (Put b) ends = ends
-kernel_ends j number items (Halt value) ends = ends
 kernel_ends j number items (Resume ctx answer) ends = ends_append items _ ends (resume_ends j number _ ctx answer)
+kernel_ends j number items _ ends = ends
 
 outside_told : (j : Joint) (number : ℕ) (h : Hart) → TurnTold None (outside_step j number h)
 unfolding outside_step after_outside settled_step made_after
@@ -167,12 +160,10 @@ outside_told j number h = record {
 went_ends : (j : Joint) (number : ℕ) (h : Hart) (e : ℕ) (w : World) (how : Went) → EndsNone (items_of w) →
     EndsNone (domain_ended j number h e w how).items
 unfolding domain_ended
-went_ends j number h e w went.Stay ends = ends
-went_ends j number h e w went.Stopped ends = ends
-went_ends j number h e w (went.Remapped space) ends = ends
 went_ends j number h e w (went.Leave s) ends = ends_append (items_of w) (item.Leave s ∷ []) ends (λ d. refl)
 went_ends j number h e w (went.SpaceGone space s) ends =
     ends_append (items_of w) (item.Leave s ∷ []) ends (λ d. refl)
+went_ends j number h e w _ ends = ends
 
 leave_half : (d : ℕ) (items : List Item) (s : Shown) → inward_half d (items ++ item.Leave s ∷ []) ≡ inward_half d items
 leave_half d items s = filter-append (is_inward d) items (item.Leave s ∷ []) ∙ append-nil (inward_half d items)
@@ -180,20 +171,15 @@ leave_half d items s = filter-append (is_inward d) items (item.Leave s ∷ []) �
 went_half : (d : ℕ) (j : Joint) (number : ℕ) (h : Hart) (e : ℕ) (w : World) (how : Went) →
     inward_half d (domain_ended j number h e w how).items ≡ inward_half d (items_of w)
 unfolding domain_ended
-went_half d j number h e w went.Stay = refl
-went_half d j number h e w went.Stopped = refl
-went_half d j number h e w (went.Remapped space) = refl
 went_half d j number h e w (went.Leave s) = leave_half d (items_of w) s
 went_half d j number h e w (went.SpaceGone space s) = leave_half d (items_of w) s
+went_half d j number h e w _ = refl
 
 went_met : (j : Joint) (number : ℕ) (h : Hart) (e : ℕ) (w : World) (how : Went) →
     is_some (domain_ended j number h e w how).violation ≡ true → is_some (violation_of w) ≡ true
 unfolding domain_ended
-went_met j number h e w went.Stay some = absurd (false≢true some)
 went_met j number h e w went.Stopped some = some
-went_met j number h e w (went.Remapped space) some = absurd (false≢true some)
-went_met j number h e w (went.Leave s) some = absurd (false≢true some)
-went_met j number h e w (went.SpaceGone space s) some = absurd (false≢true some)
+went_met j number h e w _ some = absurd (false≢true some)
 
 interrupt_told : (inside : Option ℕ) (j : Joint) (number : ℕ) (h : Hart) (e : ℕ) (how : Went) →
     TurnTold inside (interrupt_ended j number h (item.Timer e ∷ []) how)

@@ -6,14 +6,14 @@ use Rattle.std.proofs.lemmas.List.Elements.{filter-append}
 use Rattle.cloak_base.specs.declared.causes.Shown.{Shown}
 use Rattle.cloak_base.specs.declared.names.PageId.{PageId}
 use Rattle.cloak_model.specs.declared.context.Phase.{Phase}
-use Rattle.cloak_model.specs.declared.context.Phase.TheVariants.{Plain, CopyIn, Waiting, CopyOut}
+use Rattle.cloak_model.specs.declared.context.Phase.TheVariants.{Plain}
 use Rattle.cloak_model.specs.declared.context.ResumeFault.{ResumeFault}
 use Rattle.cloak_model.specs.declared.inside.Went.{Went}
 use Rattle.cloak_model.specs.declared.inside.Went.TheVariants as went
 use Rattle.cloak_model.specs.declared.item.Item.{Item}
 use Rattle.cloak_model.specs.declared.item.Item.TheVariants as item
 use Rattle.cloak_model.specs.declared.outcome.Kernel.{Kernel}
-use Rattle.cloak_model.specs.declared.outcome.Kernel.TheVariants.{Stay, Put, Halt, Resume, Trapped}
+use Rattle.cloak_model.specs.declared.outcome.Kernel.TheVariants.{Put, Resume}
 use Rattle.cloak_model.specs.Ahead.{settled_step, made_after}
 use Rattle.cloak_model.specs.Asking.{Told}
 use Rattle.cloak_model.specs.Contexts.{Context, Admitted, context_at, domain_of, slot_of}
@@ -187,11 +187,9 @@ resume_keeps j hart satp ctx reply = domain_keeps j hart satp ctx reply _ refl
 ended_keeps : (j : Joint) (number : ℕ) (items : List Item) (k : Kernel) →
     Keeps j (outside_ended j number items k).joint
 unfolding outside_ended
-ended_keeps j number items Stay = kept j j refl refl
-ended_keeps j number items Trapped = kept j j refl refl
 ended_keeps j number items (Put b) = kept j _ refl refl
-ended_keeps j number items (Halt value) = kept j j refl refl
 ended_keeps j number items (Resume ctx answer) = resume_keeps j number _ ctx answer
+ended_keeps j number items _ = kept j j refl refl
 
 outside_keeps : (j : Joint) (number : ℕ) (h : Hart) → Keeps j (outside_step j number h).joint
 unfolding outside_step after_outside settled_step made_after
@@ -214,23 +212,18 @@ record EndsSo (e : ℕ) (j : Joint) (items : List Item) (t : Turn) : Type 0 wher
 domain_ended_so : (e : ℕ) (j : Joint) (number : ℕ) (h : Hart) (d : ℕ) (w : World) (how : Went) →
     EndsSo e j (items_of w) (domain_ended j number h d w how)
 unfolding domain_ended
-domain_ended_so e j number h d w went.Stay = record { told = refl; pages = refl; domains = refl }
-domain_ended_so e j number h d w went.Stopped = record { told = refl; pages = refl; domains = refl }
-domain_ended_so e j number h d w (went.Remapped space) = record { told = refl; pages = refl; domains = refl }
 domain_ended_so e j number h d w (went.Leave s) =
     record { told = leave_told e (items_of w) s; pages = refl; domains = refl }
 domain_ended_so e j number h d w (went.SpaceGone space s) =
     record { told = leave_told e (items_of w) s; pages = refl; domains = refl }
+domain_ended_so e j number h d w _ = record { told = refl; pages = refl; domains = refl }
 
 interrupt_ended_so : (e : ℕ) (j : Joint) (number : ℕ) (h : Hart) (items : List Item) (how : Went) →
     EndsSo e j items (interrupt_ended j number h items how)
 unfolding interrupt_ended
-interrupt_ended_so e j number h items went.Stay = record { told = refl; pages = refl; domains = refl }
-interrupt_ended_so e j number h items went.Stopped = record { told = refl; pages = refl; domains = refl }
-interrupt_ended_so e j number h items (went.Remapped space) = record { told = refl; pages = refl; domains = refl }
 interrupt_ended_so e j number h items (went.Leave s) =
     record { told = leave_told e items s; pages = refl; domains = refl }
-interrupt_ended_so e j number h items (went.SpaceGone space s) = record { told = refl; pages = refl; domains = refl }
+interrupt_ended_so e j number h items _ = record { told = refl; pages = refl; domains = refl }
 
 -- the step of a program, by what it was told
 built : (history : List Move) (j : Joint) (e slot : ℕ) (found made : Domain) (t : Turn) (answers : List Item) →
@@ -261,9 +254,7 @@ pub timer_phase : (p : Phase) (history : List Move) (d : Control) (c : Context) 
     phase_moves p history d c (item.Timer e ∷ []) ≡ []
 unfolding phase_moves
 timer_phase Plain history d c e = refl
-timer_phase (CopyIn done) history d c e = refl
-timer_phase Waiting history d c e = refl
-timer_phase (CopyOut done total) history d c e = refl
+timer_phase _ history d c e = refl
 
 timer_none : (o : Option Context) (history : List Move) (d : Control) (e : ℕ) →
     context_moves o history d (item.Timer e ∷ []) ≡ []
@@ -276,9 +267,7 @@ timer_none (Some c) history d e = timer_phase c.phase history d c e
 pub silent_phase : (p : Phase) (history : List Move) (d : Control) (c : Context) → phase_moves p history d c [] ≡ []
 unfolding phase_moves
 silent_phase Plain history d c = refl
-silent_phase (CopyIn done) history d c = refl
-silent_phase Waiting history d c = refl
-silent_phase (CopyOut done total) history d c = refl
+silent_phase _ history d c = refl
 
 silent_none : (o : Option Context) (history : List Move) (d : Control) → context_moves o history d [] ≡ []
 unfolding context_moves

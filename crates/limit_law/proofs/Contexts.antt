@@ -8,7 +8,7 @@ use Rattle.cloak_base.specs.declared.names.PageId.{PageId}
 use Rattle.rv_atomic.specs.Table.{atomic_instruction}
 use Rattle.rv_atomic.specs.declared.atomic.Atomic.{Atomic}
 use Rattle.rv_atomic.specs.declared.atomic.AtomicOp.{AtomicOp}
-use Rattle.rv_atomic.specs.declared.atomic.AtomicOp.TheVariants.{Lr, Sc, Swap, Add, Xor, And, Or, Min, Max, Minu, Maxu}
+use Rattle.rv_atomic.specs.declared.atomic.AtomicOp.TheVariants.{Lr, Sc}
 use Rattle.rv_isa.specs.declared.instr.Instr.{Instr}
 use Rattle.rv_isa.specs.declared.instr.Instr.TheVariants as instr
 use Rattle.cloak_model.specs.declared.answer.Answer.{Answer}
@@ -23,7 +23,8 @@ use Rattle.cloak_model.specs.AskPages.{ask_read}
 use Rattle.cloak_model.specs.Asking.{Told}
 use Rattle.cloak_model.specs.Contexts.{Context, set_word, moved_on, word_of_page, is_reserved}
 use Rattle.cloak_model.specs.Effect.{jump, go, branch, load_effect, store_effect, effect}
-use Rattle.cloak_model.specs.InsideStep.{AfterInstruction, made, made_writing, traps, loaded_inside, load_reached, load_got, load_inside, store_reached, store_put, store_inside, conditional_inside, atomic_granted, atomic_reached, atomic_placed, atomic_inside, system_inside, done_inside, decoded_inside, executed_inside, fetched_inside, fetch, instruction_inside}
+use Rattle.cloak_model.specs.InsideStep.{AfterInstruction, made, made_writing, traps, load_inside, store_inside, atomic_granted, atomic_placed, atomic_inside, system_inside, done_inside, decoded_inside, fetch, instruction_inside}
+use Rattle.cloak_model.proofs.InsideParts.{loaded_inside, load_reached, load_got, store_reached, store_put, conditional_inside, atomic_reached, fetched_inside}
 use Rattle.cloak_model.specs.KernelStep.{misaligned}
 use Rattle.cloak_model.specs.Resources.{Resources, page_at}
 use Rattle.cloak_model.specs.World.{World}
@@ -91,14 +92,9 @@ word_steady c i v plain s =
     (with_register_zero c.regs i v s.zero_register) s.aligned s.mark
 
 abbrev Targets : Effect → Type 0
-Targets (does.Write rd value) = Unit {0}
 Targets (does.Jump rd link target) = target % 4 ≡ 0
 Targets (does.Go target) = target % 4 ≡ 0
-Targets (does.Load rd va width is_signed) = Unit {0}
-Targets (does.Store va width value) = Unit {0}
-Targets does.System = Unit {0}
-Targets does.Nothing = Unit {0}
-Targets (does.Raise cause value) = Unit {0}
+Targets _ = Unit {0}
 
 module _ (c : Context) (plain : c.phase ≡ Plain) (s : IsSteady c) where
   after : (regs : List ℕ) (pc : ℕ) (mark : Option WordPlace) (e : Ran) (written : Option WordPlace) →
@@ -136,24 +132,17 @@ module _ (c : Context) (plain : c.phase ≡ Plain) (s : IsSteady c) where
 
   loaded_one : (rd va width : ℕ) (is_signed : Bool) (value : ℕ) (w : World) →
       AfterOne c (loaded_inside c rd va width is_signed value w).answer
-  unfolding loaded_inside
   loaded_one rd va width is_signed value w = wrote rd _ (ran.Loaded va value) (λ is. cc)
 
   load_reached_one : (q : PageId) (rd va width : ℕ) (is_signed : Bool) (a : Answer) (w : World) →
       AfterOne c (load_reached c q rd va width is_signed a w).answer
-  unfolding load_reached
-  load_reached_one q rd va width is_signed told.Ok w = loaded_one rd va width is_signed _ _
-  load_reached_one q rd va width is_signed (told.Absent cause) w = same _
-  load_reached_one q rd va width is_signed (told.Word value) w = same _
-  load_reached_one q rd va width is_signed told.Stopped w = same _
+  load_reached_one q rd va width is_signed told.Ok w = loaded_one rd va width is_signed _ w
+  load_reached_one q rd va width is_signed _ w = same _
 
   load_got_one : (rd va width : ℕ) (is_signed : Bool) (a : Answer) (w : World) →
       AfterOne c (load_got c rd va width is_signed a w).answer
-  unfolding load_got
   load_got_one rd va width is_signed (told.Word value) w = wrote rd _ ran.Stay (λ is. cc)
-  load_got_one rd va width is_signed (told.Absent cause) w = same _
-  load_got_one rd va width is_signed told.Ok w = same _
-  load_got_one rd va width is_signed told.Stopped w = same _
+  load_got_one rd va width is_signed _ w = same _
 
   load_one : (rd va width : ℕ) (is_signed : Bool) (place : Option PageId) (w : World) →
       AfterOne c (load_inside c rd va width is_signed place w).answer
@@ -163,18 +152,12 @@ module _ (c : Context) (plain : c.phase ≡ Plain) (s : IsSteady c) where
 
   store_reached_one : (q : PageId) (va width value : ℕ) (a : Answer) (w : World) →
       AfterOne c (store_reached c q va width value a w).answer
-  unfolding store_reached
   store_reached_one q va width value told.Ok w = on_stay (Some (word_of_page q va))
-  store_reached_one q va width value (told.Absent cause) w = same _
-  store_reached_one q va width value (told.Word other) w = same _
-  store_reached_one q va width value told.Stopped w = same _
+  store_reached_one q va width value _ w = same _
 
   store_put_one : (va : ℕ) (a : Answer) (w : World) → AfterOne c (store_put c va a w).answer
-  unfolding store_put
   store_put_one va told.Ok w = on_stay None
-  store_put_one va (told.Absent cause) w = same _
-  store_put_one va (told.Word value) w = same _
-  store_put_one va told.Stopped w = same _
+  store_put_one va _ w = same _
 
   store_one : (va width value : ℕ) (place : Option PageId) (w : World) →
       AfterOne c (store_inside c va width value place w).answer
@@ -184,7 +167,6 @@ module _ (c : Context) (plain : c.phase ≡ Plain) (s : IsSteady c) where
 
   conditional_one : (reserved : Bool) (rd : ℕ) (q : PageId) (va operand : ℕ) (w : World) →
       AfterOne c (conditional_inside reserved c rd q va operand w).answer
-  unfolding conditional_inside
   conditional_one true rd q va operand w = marked rd 0 None ran.Stay (Some (word_of_page q va)) (λ is. cc) tt
   conditional_one false rd q va operand w = marked rd 1 None ran.Stay None (λ is. cc) tt
 
@@ -200,23 +182,12 @@ module _ (c : Context) (plain : c.phase ≡ Plain) (s : IsSteady c) where
       marked rd old (Some (word_of_page q va)) (ran.Loaded va old) None (λ is. cc) (place_there q va page)
   granted_one rd Sc q va operand w page =
       conditional_one (is_reserved (word_of_page q va) c.mark) rd q va operand w
-  granted_one rd Swap q va operand w page = operation_one rd q va (ask_read q (va % 4096) 4 w).answer
-  granted_one rd Add q va operand w page = operation_one rd q va (ask_read q (va % 4096) 4 w).answer
-  granted_one rd Xor q va operand w page = operation_one rd q va (ask_read q (va % 4096) 4 w).answer
-  granted_one rd And q va operand w page = operation_one rd q va (ask_read q (va % 4096) 4 w).answer
-  granted_one rd Or q va operand w page = operation_one rd q va (ask_read q (va % 4096) 4 w).answer
-  granted_one rd Min q va operand w page = operation_one rd q va (ask_read q (va % 4096) 4 w).answer
-  granted_one rd Max q va operand w page = operation_one rd q va (ask_read q (va % 4096) 4 w).answer
-  granted_one rd Minu q va operand w page = operation_one rd q va (ask_read q (va % 4096) 4 w).answer
-  granted_one rd Maxu q va operand w page = operation_one rd q va (ask_read q (va % 4096) 4 w).answer
+  granted_one rd _ q va operand w page = operation_one rd q va (ask_read q (va % 4096) 4 w).answer
 
   atomic_reached_one : (rd : ℕ) (op : AtomicOp) (q : PageId) (va operand : ℕ) (a : Answer) (w : World) → IsPage q →
       AfterOne c (atomic_reached c rd op q va operand a w).answer
-  unfolding atomic_reached
   atomic_reached_one rd op q va operand told.Ok w page = granted_one rd op q va operand w page
-  atomic_reached_one rd op q va operand (told.Absent cause) w page = same _
-  atomic_reached_one rd op q va operand (told.Word value) w page = same _
-  atomic_reached_one rd op q va operand told.Stopped w page = same _
+  atomic_reached_one rd op q va operand _ w page = same _
 
   atomic_placed_one : (rd : ℕ) (op : AtomicOp) (va operand : ℕ) (place : Option PageId) (w : World) →
       IfSome place IsPage → AfterOne c (atomic_placed c rd op va operand place w).answer
@@ -314,11 +285,8 @@ module _ (c : Context) (plain : c.phase ≡ Plain) (s : IsSteady c) where
 
   fetched_one : (domain : ℕ) (r : Resources) (q : PageId) (a : Answer) (w : World) → AreInPages domain r c.space →
       AfterOne c (fetched_inside domain r c q a w).answer
-  unfolding fetched_inside executed_inside
   fetched_one domain r q told.Ok w pages = decoded_one domain r _ _ _ pages
-  fetched_one domain r q (told.Absent cause) w pages = same c plain s _
-  fetched_one domain r q (told.Word value) w pages = same c plain s _
-  fetched_one domain r q told.Stopped w pages = same c plain s _
+  fetched_one domain r q _ w pages = same c plain s _
 
   fetch_one : (domain : ℕ) (r : Resources) (place : Option PageId) (w : World) → AreInPages domain r c.space →
       AfterOne c (fetch domain r c place w).answer

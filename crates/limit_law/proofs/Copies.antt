@@ -14,7 +14,8 @@ use Rattle.cloak_model.specs.declared.inside.Begun.TheVariants as begun
 use Rattle.cloak_model.specs.declared.inside.Copied.{Copied}
 use Rattle.cloak_model.specs.declared.inside.Copied.TheVariants as copied
 use Rattle.cloak_model.specs.declared.resource.MapFault.{MapFault}
-use Rattle.cloak_model.specs.Calls.{call_number, call_length, buffer, area, takes_bytes, gives_bytes, is_in_bounds, is_good, BeginsCall, waiting, copy_begin, call_begin, begin_call, Copy, copy, copy_refused, in_put, in_reached, in_placed, in_step, copy_in_step, out_reached, out_got, out_placed, out_step, copy_out_step, finish_call}
+use Rattle.cloak_model.specs.Calls.{call_number, call_length, buffer, area, takes_bytes, gives_bytes, is_in_bounds, is_apart, is_good, BeginsCall, waiting, begin_call, Copy, copy, copy_refused, copy_in_step, copy_out_step, finish_call}
+use Rattle.cloak_model.proofs.CallParts.{copy_begin, call_begin, in_put, in_reached, in_placed, in_step, out_reached, out_got, out_placed, out_step}
 use Rattle.cloak_model.specs.Contexts.{Context, set_word, in_phase, has_buffer}
 use Rattle.cloak_model.specs.Resources.{Resources}
 use Rattle.cloak_model.specs.World.{World}
@@ -61,13 +62,10 @@ call_kept regs v call =
 -- What a copying step leaves. If it goes on inside, its context does not wait on a hart.
 
 abbrev pub StaysIdle : Copied → Context → Type 0
-StaysIdle copied.Going c = WaitsOnNoHart c.phase c.on
 StaysIdle copied.CallReady c = Unit {0}
-StaysIdle copied.Done c = WaitsOnNoHart c.phase c.on
 StaysIdle (copied.Absent cause address) c = Unit {0}
 StaysIdle copied.Stopped c = Unit {0}
-StaysIdle copied.Refused c = WaitsOnNoHart c.phase c.on
-StaysIdle (copied.Loaded address byte) c = WaitsOnNoHart c.phase c.on
+StaysIdle _ c = WaitsOnNoHart c.phase c.on
 
 pub record AfterCopy (c : Context) (k : Copy) : Type 0 where
   pub steady : IsSteady k.context
@@ -88,7 +86,6 @@ module _ (c : Context) (s : IsSteady c) where
   module _ (done : ℕ) (p : IsCopyIn c.regs done) where
     in_put_one : (byte : ℕ) (a : Answer) (w : World) → done < register c.regs 12 →
         AfterCopy c (in_put c done byte a w).answer
-    unfolding in_put
     in_put_one byte told.Ok w low = record {
       steady = phase_steady c (CopyIn (done + 1)) s (record {
         number = p.number;
@@ -105,22 +102,18 @@ module _ (c : Context) (s : IsSteady c) where
 
     in_reached_one : (q : PageId) (a : Answer) (w : World) → done < register c.regs 12 →
         AfterCopy c (in_reached c q done a w).answer
-    unfolding in_reached
     in_reached_one q told.Ok w low = in_put_one _ _ _ low
     in_reached_one q (told.Absent cause) w low = absent _ _
-    in_reached_one q (told.Word value) w low = stopped
-    in_reached_one q told.Stopped w low = stopped
+    in_reached_one q _ w low = stopped
 
     in_placed_one : (place : Option PageId) (cloaked : Bool) (w : World) → done < register c.regs 12 →
         AfterCopy c (in_placed c done place cloaked w).answer
-    unfolding in_placed
     in_placed_one None cloaked w low = refused w
     in_placed_one (Some q) true w low = refused w
     in_placed_one (Some q) false w low = in_reached_one q _ _ low
 
     in_step_one : (t : Bool) (domain : ℕ) (r : Resources) (w : World) → nat_le (call_length c) done ≡ t →
         AfterCopy c (in_step t domain r c done w).answer
-    unfolding in_step
     in_step_one true domain r w is =
         record { steady = phase_steady c Waiting s (λ a b. p.call); space = refl; on = refl; idle = tt }
     in_step_one false domain r w is = in_placed_one _ _ w (leb-false _ _ is)
@@ -132,7 +125,6 @@ module _ (c : Context) (s : IsSteady c) where
   module _ (done total : ℕ) (p : IsCopyOut c.regs done total) where
     out_reached_one : (q : PageId) (byte : ℕ) (a : Answer) (w : World) → done < total →
         AfterCopy c (out_reached c q done total byte a w).answer
-    unfolding out_reached
     out_reached_one q byte told.Ok w low = record {
       steady = phase_steady c (CopyOut (done + 1) total) s (record {
         number = p.number;
@@ -149,22 +141,18 @@ module _ (c : Context) (s : IsSteady c) where
     out_reached_one q byte told.Stopped w low = stopped
 
     out_got_one : (q : PageId) (a : Answer) (w : World) → done < total → AfterCopy c (out_got c q done total a w).answer
-    unfolding out_got
     out_got_one q (told.Word byte) w low = out_reached_one q _ _ _ low
     out_got_one q (told.Absent cause) w low = absent _ _
-    out_got_one q told.Ok w low = stopped
-    out_got_one q told.Stopped w low = stopped
+    out_got_one q _ w low = stopped
 
     out_placed_one : (place : Option PageId) (cloaked : Bool) (w : World) → done < total →
         AfterCopy c (out_placed c done total place cloaked w).answer
-    unfolding out_placed
     out_placed_one None cloaked w low = refused w
     out_placed_one (Some q) true w low = refused w
     out_placed_one (Some q) false w low = out_got_one q _ _ low
 
     out_step_one : (t : Bool) (domain : ℕ) (r : Resources) (w : World) → nat_le total done ≡ t →
         AfterCopy c (out_step t domain r c done total w).answer
-    unfolding out_step
     out_step_one true domain r w is =
         record { steady = phase_steady c Plain s tt; space = refl; on = refl; idle = tt }
     out_step_one false domain r w is = out_placed_one _ _ w (leb-false _ _ is)
@@ -196,10 +184,8 @@ in_bounds c is =
     let rest = and_parts low high parts.1 in
     record { few = leb-true _ _ parts.0; buffer = leb-true _ _ rest.0; area = leb-true _ _ rest.1 }
 
-good_in_bounds : (t : Bool) (r : Resources) (c : Context) → is_good t r c ≡ true → t ≡ true
-unfolding is_good
-good_in_bounds true r c is = refl
-good_in_bounds false r c is = absurd cc
+good_in_bounds : (r : Resources) (c : Context) → is_good r c ≡ true → is_in_bounds c ≡ true
+good_in_bounds r c is = (and_parts (is_in_bounds c) (is_apart r c) is).0
 
 takes : (n : ℕ) → takes_bytes n ≡ true → (n ≡ 1) ⊎ (n ≡ 2)
 takes n is = elim (or_cases (n == 1) (n == 2) is) [
@@ -222,7 +208,6 @@ module _ (c : Context) (s : IsSteady c) where
   begin_either false is call = waits (λ a b. call)
 
   copy_begin_one : (t : Bool) → (t ≡ true → IsCall c.regs) → AfterBegin c (copy_begin t c)
-  unfolding copy_begin
   copy_begin_one false call = record { steady = s; space = refl; on = refl; idle = refl }
   copy_begin_one true call = begin_either _ refl (call refl)
 
@@ -233,9 +218,8 @@ module _ (c : Context) (s : IsSteady c) where
   ]
 
   call_begin_one : (t : Bool) (r : Resources) → has_buffer (call_number c) ≡ t → AfterBegin c (call_begin t r c)
-  unfolding call_begin
   call_begin_one false r is = waits (λ a b. absurd (no_buffer _ is a b))
-  call_begin_one true r is = copy_begin_one _ (λ good. in_bounds c (good_in_bounds _ r c good))
+  call_begin_one true r is = copy_begin_one _ (λ good. in_bounds c (good_in_bounds r c good))
 
   pub begin_one : (r : Resources) → AfterBegin c (begin_call r c)
   unfolding begin_call

@@ -21,7 +21,7 @@ use Rattle.cloak_model.specs.Calls.{copy_out_step}
 use Rattle.cloak_model.specs.Contexts.{Context}
 use Rattle.cloak_model.specs.DomainState.{Control, Domain}
 use Rattle.cloak_model.specs.DomainStep.{DomainStepped, instruction_ended, copy_ended, after_write, phase_step, step_if, domain_step, interrupt_if, interrupt, answer_taken, resume_told, resume_slot}
-use Rattle.cloak_model.specs.Hypercalls.{Stepped, answers_word, fault_word, remapped, new_call, map_call, unmap_call, file_call, thread_at, thread_call, fork_told, fork_call, end_told, exit_call, call_begun, kernel_call, Hypercall, New, Map, Unmap, File, Thread, ForkSpace, Exit, Call, Unknown, hypercall}
+use Rattle.cloak_model.specs.Hypercalls.{Stepped, answers_word, fault_word, remapped, new_call, map_call, unmap_call, file_call, thread_at, thread_call, fork_told, fork_call, end_told, exit_call, call_begun, kernel_call, Hypercall, Map, Unmap, Thread, ForkSpace, Exit, Call, hypercall}
 use Rattle.cloak_model.specs.InsideStep.{instruction_inside}
 use Rattle.cloak_model.specs.Resources.{first_free}
 use Rattle.cloak_model.specs.World.{World}
@@ -57,16 +57,14 @@ thread_flag slot c d =
 fork_flag : (slot : ℕ) (c : Context) (d d' : Control) (made : Result (Option CtxId) MapFault) → SameFlag d d' →
     SameFlag d (fork_told slot c d made d').control
 unfolding fork_told
-fork_flag slot c d d' (Err f) same = record { ended = refl }
-fork_flag slot c d d' (Ok None) same = record { ended = refl }
 fork_flag slot c d d' (Ok (Some ctx)) same = record { ended = same.ended }
+fork_flag slot c d d' _ same = record { ended = refl }
 
 end_flag : (slot : ℕ) (c : Context) (d d' : Control) (ending : Ended) → SameFlag d d' →
     SameFlag d (end_told slot c d ending d').control
 unfolding end_told
-end_flag slot c d d' ends.Kept same = record { ended = same.ended }
-end_flag slot c d d' (ends.SpaceGone space) same = record { ended = same.ended }
 end_flag slot c d d' ends.Stopped same = record { ended = refl }
+end_flag slot c d d' _ same = record { ended = same.ended }
 
 begun_flag : (slot : ℕ) (c : Context) (made : Result Begun MapFault) (d : Control) →
     SameFlag d (call_begun slot c made d).control
@@ -78,37 +76,27 @@ begun_flag slot c (Ok begun.Leave) d = record { ended = refl }
 hypercall_flag : (h : Hypercall) (slot : ℕ) (c : Context) (d : Control) (w : World) →
     SameFlag d (hypercall h slot c d w).answer.control
 unfolding hypercall new_call map_call unmap_call file_call fork_call exit_call kernel_call
-hypercall_flag New slot c d w = record { ended = refl }
 hypercall_flag Map slot c d w = remapped_flag slot c _ d _ (record { ended = refl })
 hypercall_flag Unmap slot c d w = remapped_flag slot c _ d _ (record { ended = refl })
-hypercall_flag File slot c d w = record { ended = refl }
 hypercall_flag Thread slot c d w = thread_flag slot c d
 hypercall_flag ForkSpace slot c d w = fork_flag slot c d _ _ (record { ended = refl })
 hypercall_flag Exit slot c d w = end_flag slot c d _ _ (record { ended = refl })
 hypercall_flag Call slot c d w = begun_flag slot _ _ d
-hypercall_flag Unknown slot c d w = record { ended = refl }
+hypercall_flag _ slot c d w = record { ended = refl }
 
 -- The step.
 
 instruction_flag : (slot : ℕ) (d : Domain) (c : Context) (e : Ran) (w : World) →
     SameFlag d.control (instruction_ended slot d c e w).answer.domain.control
 unfolding instruction_ended
-instruction_flag slot d c ran.Stay w = record { ended = refl }
-instruction_flag slot d c (ran.Loaded address value) w = record { ended = refl }
-instruction_flag slot d c (ran.Trap cause address) w = record { ended = refl }
 instruction_flag slot d c ran.Ecall w = record { ended = (hypercall_flag _ slot c d.control w).ended }
-instruction_flag slot d c ran.Stopped w = record { ended = refl }
+instruction_flag slot d c _ w = record { ended = refl }
 
 copy_flag : (slot : ℕ) (d : Domain) (c : Context) (e : Copied) →
     SameFlag d.control (copy_ended slot d c e).domain.control
 unfolding copy_ended
 copy_flag slot d c copied.Going = record { ended = refl }
-copy_flag slot d c copied.CallReady = record { ended = refl }
-copy_flag slot d c copied.Done = record { ended = refl }
-copy_flag slot d c (copied.Absent cause address) = record { ended = refl }
-copy_flag slot d c copied.Stopped = record { ended = refl }
-copy_flag slot d c copied.Refused = record { ended = refl }
-copy_flag slot d c (copied.Loaded address byte) = record { ended = refl }
+copy_flag slot d c _ = record { ended = refl }
 
 written_flag : (d : Control) (wrote : Option WordPlace) (s : DomainStepped) → SameFlag d s.domain.control →
     SameFlag d (after_write wrote s).domain.control

@@ -10,7 +10,7 @@ use Rattle.cloak_base.specs.declared.names.HartId.{HartId}
 use Rattle.cloak_model.specs.declared.answer.Answer.{Answer}
 use Rattle.cloak_model.specs.declared.answer.Answer.TheVariants as told
 use Rattle.cloak_model.specs.declared.context.Phase.{Phase}
-use Rattle.cloak_model.specs.declared.context.Phase.TheVariants.{Plain, CopyIn, Waiting, CopyOut}
+use Rattle.cloak_model.specs.declared.context.Phase.TheVariants.{Plain, Waiting}
 use Rattle.cloak_model.specs.declared.inside.Begun.{Begun}
 use Rattle.cloak_model.specs.declared.inside.Begun.TheVariants as begun
 use Rattle.cloak_model.specs.declared.inside.Ended.{Ended}
@@ -67,10 +67,8 @@ stays_kept slot c d keeps here idle =
     slot_kept d slot c keeps (record { steady = here.steady; waiting = idle; hart = here.hart; space = here.space })
 
 idle_off : (phase : Phase) → WaitsOnNoHart phase None
-idle_off Plain = tt
-idle_off (CopyIn done) = tt
 idle_off Waiting = refl
-idle_off (CopyOut done total) = tt
+idle_off _ = tt
 
 off_steady : (c : Context) → IsSteady c → IsSteady (suspended c)
 off_steady c s =
@@ -239,9 +237,7 @@ fork_cleared_kept : (domain : ℕ) (c : Context) (slot new : ℕ) (r : Resources
 unfolding fork_cleared
 fork_cleared_kept domain c slot new r contexts told.Ok w plain s keeps low room =
     forked_kept c slot new r contexts plain s keeps low room
-fork_cleared_kept domain c slot new r contexts (told.Absent cause) w plain s keeps low room = keeps
-fork_cleared_kept domain c slot new r contexts (told.Word value) w plain s keeps low room = keeps
-fork_cleared_kept domain c slot new r contexts told.Stopped w plain s keeps low room = keeps
+fork_cleared_kept domain c slot new r contexts _ w plain s keeps low room = keeps
 
 fits_room : (t : Bool) (u : Unit {0}) → cond t (Ok tt) (Err fault.Full) ≡ Ok u → t ≡ true
 fits_room true u is = refl
@@ -286,9 +282,7 @@ forked_used : (domain : ℕ) (c : Context) (slot new : ℕ) (r : Resources) (con
     IsInUse (fork_cleared domain c slot new r contexts a w).answer.spaces.resources k
 unfolding fork_cleared
 forked_used domain c slot new r contexts told.Ok w k used later = later new
-forked_used domain c slot new r contexts (told.Absent cause) w k used later = used
-forked_used domain c slot new r contexts (told.Word value) w k used later = used
-forked_used domain c slot new r contexts told.Stopped w k used later = used
+forked_used domain c slot new r contexts _ w k used later = used
 
 copied_used : (c : Context) (slot n : ℕ) (r : Resources) (contexts : List (Option Context)) (k : ℕ) → IsInUse r k →
     IsInUse (forked c slot n r contexts).resources k
@@ -379,9 +373,8 @@ end_kept domain slot space r contexts w keeps = end_if_kept _ domain slot space 
 end_told_kept : (slot : ℕ) (c : Context) (d : Control) (e : Ended) (d' : Control) → KeepsLimits d → KeepsLimits d' →
     KeepsLimits (end_told slot c d e d').control
 unfolding end_told
-end_told_kept slot c d ends.Kept d' keeps later = later
-end_told_kept slot c d (ends.SpaceGone space) d' keeps later = later
 end_told_kept slot c d ends.Stopped d' keeps later = keeps
+end_told_kept slot c d _ d' keeps later = later
 
 pub exit_kept : (slot : ℕ) (c : Context) (d : Control) (w : World) → KeepsLimits d →
     KeepsLimits (exit_call slot c d w).answer.control

@@ -9,7 +9,7 @@ use Rattle.cloak_model.specs.declared.inside.Went.{Went}
 use Rattle.cloak_model.specs.declared.inside.Went.TheVariants as went
 use Rattle.cloak_model.specs.declared.item.Item.{Item}
 use Rattle.cloak_model.specs.declared.outcome.Kernel.{Kernel}
-use Rattle.cloak_model.specs.declared.outcome.Kernel.TheVariants.{Stay, Put, Halt, Resume, Trapped}
+use Rattle.cloak_model.specs.declared.outcome.Kernel.TheVariants.{Stay, Resume}
 use Rattle.cloak_model.specs.Ahead.{settle_while, settle_found, settle_touched, settled_step, made_after, is_owed}
 use Rattle.cloak_model.specs.AskPages.{ask_copy, ask_forget}
 use Rattle.cloak_model.specs.Asking.{Told}
@@ -47,9 +47,8 @@ use Rattle.limit_law.proofs.Owed.{Keeps, settle_once, offer_once}
 -- A step of a program.
 
 abbrev OnceIn : World → Type 0
-OnceIn (Flat ram) = Unit {0}
 OnceIn (Cloaked c) = Keeps c.memory
-OnceIn (Alone h) = Unit {0}
+OnceIn _ = Unit {0}
 
 record StaysOnce (w v : World) : Type 0 where
   pub by : OnceIn w → OnceIn v
@@ -119,9 +118,8 @@ abbrev JointOnce : Joint → Type 0
 JointOnce j = Keeps j.memory
 
 memory_once : (w : World) (m : CloakedMemory) → OnceIn w → Keeps m → Keeps (memory_of w m)
-memory_once (Flat ram) m here once = once
 memory_once (Cloaked c) m here once = here
-memory_once (Alone h) m here once = once
+memory_once _ m here once = once
 
 root_once : (j : Joint) (satp ctx reply : ℕ) (was : Domain) (control : Control) (admitted : Admitted)
     (answer : Result (Unit {0}) ResumeFault) → JointOnce j →
@@ -150,11 +148,8 @@ resume_once j hart satp ctx reply once = domain_once j hart satp ctx reply _ onc
 ended_once : (j : Joint) (number : ℕ) (items : List Item) (e : Kernel) → JointOnce j →
     JointOnce (outside_ended j number items e).joint
 unfolding outside_ended
-ended_once j number items Stay once = once
-ended_once j number items Trapped once = once
-ended_once j number items (Put b) once = once
-ended_once j number items (Halt value) once = once
 ended_once j number items (Resume ctx reply) once = resume_once j number _ ctx reply once
+ended_once j number items _ once = once
 
 found_once : (o : Option ℕ) (next : CloakedMemory → AfterSettling) (m : CloakedMemory) → Keeps m →
     ((x : CloakedMemory) → Keeps x → Keeps (next x).memory) → Keeps (settle_found o next m).memory
@@ -186,10 +181,7 @@ went_once : (j : Joint) (number : ℕ) (h : Hart) (d : ℕ) (w : World) (how : W
     JointOnce (domain_ended j number h d w how).joint
 unfolding domain_ended
 went_once j number h d w went.Stay once = once
-went_once j number h d w went.Stopped once = once
-went_once j number h d w (went.Remapped space) once = once
-went_once j number h d w (went.Leave s) once = once
-went_once j number h d w (went.SpaceGone space s) once = once
+went_once j number h d w _ once = once
 
 stepped_once : (j : Joint) (number : ℕ) (h : Hart) (d : ℕ) (told : Told DomainStepped) → JointOnce j →
     OnceIn told.world → JointOnce (after_domain_step j number h d told).joint
@@ -201,10 +193,7 @@ interrupted_once : (j : Joint) (number : ℕ) (h : Hart) (items : List Item) (ho
     JointOnce (interrupt_ended j number h items how).joint
 unfolding interrupt_ended
 interrupted_once j number h items went.Stay once = once
-interrupted_once j number h items went.Stopped once = once
-interrupted_once j number h items (went.Remapped space) once = once
-interrupted_once j number h items (went.Leave s) once = once
-interrupted_once j number h items (went.SpaceGone space s) once = once
+interrupted_once j number h items _ once = once
 
 left_once : (j : Joint) (number : ℕ) (h : Hart) (d : ℕ) (was : Domain) (step : Stepped) → JointOnce j →
     JointOnce (after_interrupt j number h d was step).joint

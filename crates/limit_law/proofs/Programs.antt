@@ -6,7 +6,7 @@ use Rattle.cloak_model.specs.declared.inside.Went.{Went}
 use Rattle.cloak_model.specs.declared.inside.Went.TheVariants as went
 use Rattle.cloak_model.specs.declared.item.Item.{Item}
 use Rattle.cloak_model.specs.declared.outcome.Kernel.{Kernel}
-use Rattle.cloak_model.specs.declared.outcome.Kernel.TheVariants.{Stay, Put, Halt, Resume, Trapped}
+use Rattle.cloak_model.specs.declared.outcome.Kernel.TheVariants.{Stay, Resume}
 use Rattle.cloak_model.specs.Asking.{Told}
 use Rattle.cloak_model.specs.Contexts.{Admitted, domain_of, slot_of}
 use Rattle.cloak_model.specs.DomainState.{Control, Domain}
@@ -79,11 +79,8 @@ module _ (K Q : Domain → Type 0) (k : KeptInside K Q) where
   ended_all : (j : Joint) (number : ℕ) (items : List Item) (e : Kernel) → number < 4 → AllOf Q j.domains →
       AllOf Q (outside_ended j number items e).joint.domains
   unfolding outside_ended
-  ended_all j number items Stay low all = all
-  ended_all j number items Trapped low all = all
-  ended_all j number items (Put b) low all = all
-  ended_all j number items (Halt value) low all = all
   ended_all j number items (Resume ctx reply) low all = resume_all j number _ ctx reply low all
+  ended_all j number items _ low all = all
 
   outside_all : (j : Joint) (number : ℕ) (h : Hart) → number < 4 → AllOf Q j.domains →
       AllOf Q (outside_step j number h).joint.domains
@@ -96,10 +93,7 @@ module _ (K Q : Domain → Type 0) (k : KeptInside K Q) where
       AllOf Q (domain_ended j number h d w how).joint.domains
   unfolding domain_ended
   went_all j number h d w went.Stay all = all
-  went_all j number h d w went.Stopped all = all
-  went_all j number h d w (went.Remapped space) all = all
-  went_all j number h d w (went.Leave s) all = all
-  went_all j number h d w (went.SpaceGone space s) all = all
+  went_all j number h d w _ all = all
 
   stepped_all : (j : Joint) (number : ℕ) (h : Hart) (d : ℕ) (told : Told DomainStepped) → AllOf Q j.domains →
       Q told.answer.domain → AllOf Q (after_domain_step j number h d told).joint.domains
@@ -111,10 +105,7 @@ module _ (K Q : Domain → Type 0) (k : KeptInside K Q) where
       AllOf Q (interrupt_ended j number h items how).joint.domains
   unfolding interrupt_ended
   interrupted_all j number h items went.Stay all = all
-  interrupted_all j number h items went.Stopped all = all
-  interrupted_all j number h items (went.Remapped space) all = all
-  interrupted_all j number h items (went.Leave s) all = all
-  interrupted_all j number h items (went.SpaceGone space s) all = all
+  interrupted_all j number h items _ all = all
 
   left_all : (j : Joint) (number : ℕ) (h : Hart) (d : ℕ) (was : Domain) (step : Stepped) → AllOf Q j.domains →
       Q (record was { control = step.control }) → AllOf Q (after_interrupt j number h d was step).joint.domains

@@ -13,7 +13,7 @@ use Rattle.cloak_model.specs.declared.inside.Went.{Went}
 use Rattle.cloak_model.specs.declared.inside.Went.TheVariants as went
 use Rattle.cloak_model.specs.declared.item.Item.{Item}
 use Rattle.cloak_model.specs.declared.outcome.Kernel.{Kernel}
-use Rattle.cloak_model.specs.declared.outcome.Kernel.TheVariants.{Stay, Put, Halt, Resume, Trapped}
+use Rattle.cloak_model.specs.declared.outcome.Kernel.TheVariants.{Stay, Resume}
 use Rattle.cloak_model.specs.Ahead.{settle_while, settle_found, settle_touched, settled_step, made_after, is_owed}
 use Rattle.cloak_model.specs.Asking.{Told}
 use Rattle.cloak_model.specs.Bundle.{IsInGrammar}
@@ -34,7 +34,7 @@ use Rattle.cloak_model.specs.Parts.{Joint}
 use Rattle.cloak_model.specs.Resources.{Resources}
 use Rattle.cloak_model.specs.Resuming.{space_of, by_root, by_context, by_domain, resume}
 use Rattle.cloak_model.specs.StoredFiles.{FileContents}
-use Rattle.cloak_model.specs.World.{World, Flat, Cloaked, Alone}
+use Rattle.cloak_model.specs.World.{World, Cloaked}
 use Rattle.resource_map.specs.Kept.{IsInUse}
 use Rattle.script_fold.specs.Tables.{recorded_tables}
 use Rattle.kernel_isolation.proofs.FilesAdded.{IsGiven, given_keeps}
@@ -176,11 +176,8 @@ resume_rooted j hart satp ctx reply all rooted =
 ended_rooted : (j : Joint) (number : ℕ) (items : List Item) (e : Kernel) → AllKeep j.domains → JointRooted j →
     JointRooted (outside_ended j number items e).joint
 unfolding outside_ended
-ended_rooted j number items Stay all rooted = rooted
-ended_rooted j number items Trapped all rooted = rooted
-ended_rooted j number items (Put b) all rooted = rooted
-ended_rooted j number items (Halt value) all rooted = rooted
 ended_rooted j number items (Resume ctx reply) all rooted = resume_rooted j number _ ctx reply all rooted
+ended_rooted j number items _ all rooted = rooted
 
 found_root : (o : Option ℕ) (next : CloakedMemory → AfterSettling) (m : CloakedMemory) →
     ((x : CloakedMemory) → (next x).memory.ledger.root ≡ x.ledger.root) →
@@ -214,9 +211,8 @@ kernel_rooted j number h all rooted = outside_by j number h _ (touched_root h j.
 -- A hart inside.
 
 memory_root : (w : World) (m : CloakedMemory) → recorded_tables w ≡ m.ledger.root → (memory_of w m).ledger.root ≡ m.ledger.root
-memory_root (Flat ram) m same = refl
 memory_root (Cloaked c) m same = same
-memory_root (Alone h) m same = refl
+memory_root _ m same = refl
 
 forget_by : (t : Bool) (old : Option ℕ) (P : Type 0) → (t ≡ false → is_some old ≡ true → P) →
     is_some (cond t None old) ≡ true → P
@@ -228,14 +224,6 @@ went_rooted : (j : Joint) (number : ℕ) (h : Hart) (d : ℕ) (w : World) (how :
     LeavesUsed was.control.resources how new.control.resources → Rooted j.memory.ledger.root domains →
     JointRooted (domain_ended j number h d w how).joint
 unfolding domain_ended
-went_rooted j number h d w went.Stay domains was new set is used rooted =
-    subst (Rooted j.memory.ledger.root) (sym set) (rooted_set j.memory.ledger.root domains d was new is used rooted)
-went_rooted j number h d w went.Stopped domains was new set is used rooted =
-    subst (Rooted j.memory.ledger.root) (sym set) (rooted_set j.memory.ledger.root domains d was new is used rooted)
-went_rooted j number h d w (went.Remapped space) domains was new set is used rooted =
-    subst (Rooted j.memory.ledger.root) (sym set) (rooted_set j.memory.ledger.root domains d was new is used rooted)
-went_rooted j number h d w (went.Leave s) domains was new set is used rooted =
-    subst (Rooted j.memory.ledger.root) (sym set) (rooted_set j.memory.ledger.root domains d was new is used rooted)
 went_rooted j number h d w (went.SpaceGone space s) domains was new set is used rooted =
     subst (Rooted (with_space j.memory.ledger.root (record { domain = d; number = space }) None)) (sym set)
     (λ x some. forget_by (same_space x (record { domain = d; number = space })) (j.memory.ledger.root x)
@@ -244,6 +232,8 @@ went_rooted j number h d w (went.SpaceGone space s) domains was new set is used 
     (λ own here. used x.number (λ number. false≢true (sym other
     ∙ and_from (nat_eq x.domain d) (nat_eq x.number space) (eq-eqb x.domain d own) (eq-eqb x.number space number))) here)
     (rooted x old)) some)
+went_rooted j number h d w _ domains was new set is used rooted =
+    subst (Rooted j.memory.ledger.root) (sym set) (rooted_set j.memory.ledger.root domains d was new is used rooted)
 
 stepped_rooted : (j : Joint) (number : ℕ) (h : Hart) (d : ℕ) (told : Told DomainStepped) (was : Domain) →
     slice_get j.domains d ≡ Some was →
@@ -259,10 +249,7 @@ interrupted_rooted : (j : Joint) (number : ℕ) (h : Hart) (items : List Item) (
     JointRooted (interrupt_ended j number h items how).joint
 unfolding interrupt_ended
 interrupted_rooted j number h items went.Stay rooted = rooted
-interrupted_rooted j number h items went.Stopped rooted = rooted
-interrupted_rooted j number h items (went.Remapped space) rooted = rooted
-interrupted_rooted j number h items (went.Leave s) rooted = rooted
-interrupted_rooted j number h items (went.SpaceGone space s) rooted = rooted
+interrupted_rooted j number h items _ rooted = rooted
 
 pub interrupt_same : (o : Option Context) (slot : ℕ) (d : Control) → (interrupt_if o slot d).control.resources ≡ d.resources
 unfolding interrupt_if

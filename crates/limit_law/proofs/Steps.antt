@@ -43,29 +43,23 @@ ended_kept : (slot : ℕ) (d : Domain) (c : Context) (a : AfterInstruction) (e :
     AfterOne c a → KeepsLimits d.control → IsRunning d.control.resources c →
     KeepsLimits (instruction_ended slot d a.context e w).answer.domain.control
 unfolding instruction_ended
-ended_kept slot d c a ran.Stay w is one keeps here =
-    stays_kept slot a.context d.control keeps (moved _ c a.context here one.steady one.space one.on)
-    (idle_plain a.context one.phase)
-ended_kept slot d c a (ran.Loaded address value) w is one keeps here =
-    stays_kept slot a.context d.control keeps (moved _ c a.context here one.steady one.space one.on)
-    (idle_plain a.context one.phase)
 ended_kept slot d c a (ran.Trap cause address) w is one keeps here =
     leaves_kept slot a.context d.control keeps (moved _ c a.context here one.steady one.space one.on)
 ended_kept slot d c a ran.Ecall w is one keeps here =
     hypercall_kept _ slot a.context d.control w one.phase keeps
     (moved _ c a.context here one.steady one.space one.on)
 ended_kept slot d c a ran.Stopped w is one keeps here = keeps
+ended_kept slot d c a _ w is one keeps here =
+    stays_kept slot a.context d.control keeps (moved _ c a.context here one.steady one.space one.on)
+    (idle_plain a.context one.phase)
 
 copied_kept : (slot : ℕ) (d : Domain) (c k : Context) (e : Copied) → IsRunning d.control.resources k → StaysIdle e k →
     KeepsLimits d.control → KeepsLimits (copy_ended slot d k e).domain.control
 unfolding copy_ended
-copied_kept slot d c k copied.Going here idle keeps = stays_kept slot k d.control keeps here idle
 copied_kept slot d c k copied.CallReady here idle keeps = leaves_kept slot k d.control keeps here
-copied_kept slot d c k copied.Done here idle keeps = stays_kept slot k d.control keeps here idle
 copied_kept slot d c k (copied.Absent cause address) here idle keeps = leaves_kept slot k d.control keeps here
 copied_kept slot d c k copied.Stopped here idle keeps = keeps
-copied_kept slot d c k copied.Refused here idle keeps = stays_kept slot k d.control keeps here idle
-copied_kept slot d c k (copied.Loaded address byte) here idle keeps = stays_kept slot k d.control keeps here idle
+copied_kept slot d c k _ here idle keeps = stays_kept slot k d.control keeps here idle
 
 copy_kept : (slot : ℕ) (d : Domain) (c : Context) (k : Copy) → AfterCopy c k → KeepsLimits d.control →
     IsRunning d.control.resources c → KeepsLimits (copy_ended slot d k.context k.ending).domain.control
@@ -164,18 +158,6 @@ interrupt_kept slot d keeps = interrupt_if_kept _ slot d keeps (keeps.contexts s
 answer_is_context : (phase : Phase) (answer : ℕ) (r : Resources) (c : Context) → c.phase ≡ phase → IsRunning r c →
     IsContext r (answer_in phase answer c)
 unfolding answer_in
-answer_is_context Plain answer r c is here = record {
-  steady = here.steady;
-  waiting = subst (λ (p : Phase). WaitsOnNoHart p c.on) (sym is) tt;
-  hart = here.hart;
-  space = here.space;
-}
-answer_is_context (CopyIn done) answer r c is here = record {
-  steady = here.steady;
-  waiting = subst (λ (p : Phase). WaitsOnNoHart p c.on) (sym is) tt;
-  hart = here.hart;
-  space = here.space;
-}
 answer_is_context Waiting answer r c is here =
     let one = finish_one c here.steady answer (at_phase c Waiting is here.steady) in
     record {
@@ -184,7 +166,7 @@ answer_is_context Waiting answer r c is here =
       hart = subst (λ (o : Option HartId). IfSome o (λ hart. hart.0 < 4)) (sym one.on) here.hart;
       space = subst (IsInUse r) (sym one.space) here.space;
     }
-answer_is_context (CopyOut done total) answer r c is here = record {
+answer_is_context _ answer r c is here = record {
   steady = here.steady;
   waiting = subst (λ (p : Phase). WaitsOnNoHart p c.on) (sym is) tt;
   hart = here.hart;

@@ -5,7 +5,7 @@ use Rattle.cloak_model.specs.declared.inside.Went.{Went}
 use Rattle.cloak_model.specs.declared.inside.Went.TheVariants as went
 use Rattle.cloak_model.specs.declared.item.Item.{Item}
 use Rattle.cloak_model.specs.declared.outcome.Kernel.{Kernel}
-use Rattle.cloak_model.specs.declared.outcome.Kernel.TheVariants.{Stay, Put, Halt, Resume, Trapped}
+use Rattle.cloak_model.specs.declared.outcome.Kernel.TheVariants.{Stay, Put, Resume}
 use Rattle.cloak_model.specs.Asking.{Told}
 use Rattle.cloak_model.specs.Contexts.{Admitted, domain_of, slot_of}
 use Rattle.cloak_model.specs.DomainState.{Control, Domain}
@@ -74,11 +74,9 @@ resume_leaves j hart satp ctx reply = domain_leaves j hart satp ctx reply _ refl
 ended_leaves : (j : Joint) (number : ℕ) (items : List Item) (e : Kernel) →
     LeavesEnded j (outside_ended j number items e).joint
 unfolding outside_ended
-ended_leaves j number items Stay = none_left j
-ended_leaves j number items Trapped = none_left j
 ended_leaves j number items (Put b) = record { ended = refl; refused = refl; flags = refl }
-ended_leaves j number items (Halt value) = none_left j
 ended_leaves j number items (Resume ctx reply) = resume_leaves j number _ ctx reply
+ended_leaves j number items _ = none_left j
 
 outside_leaves : (j : Joint) (number : ℕ) (h : Hart) → LeavesEnded j (outside_step j number h).joint
 unfolding outside_step after_outside
@@ -91,10 +89,7 @@ went_leaves : (j : Joint) (number : ℕ) (h : Hart) (d : ℕ) (w : World) (how :
     LeavesEnded j (domain_ended j number h d w how).joint
 unfolding domain_ended
 went_leaves j number h d w went.Stay = record { ended = refl; refused = refl; flags = refl }
-went_leaves j number h d w went.Stopped = record { ended = refl; refused = refl; flags = refl }
-went_leaves j number h d w (went.Remapped space) = record { ended = refl; refused = refl; flags = refl }
-went_leaves j number h d w (went.Leave s) = record { ended = refl; refused = refl; flags = refl }
-went_leaves j number h d w (went.SpaceGone space s) = record { ended = refl; refused = refl; flags = refl }
+went_leaves j number h d w _ = record { ended = refl; refused = refl; flags = refl }
 
 stepped_leaves : (j : Joint) (number : ℕ) (h : Hart) (d : ℕ) (told : Told DomainStepped) (was : Domain) →
     slice_get j.domains d ≡ Some was → SameFlag was.control told.answer.domain.control →
@@ -112,10 +107,7 @@ interrupted_leaves : (j : Joint) (number : ℕ) (h : Hart) (items : List Item) (
     LeavesEnded j (interrupt_ended j number h items how).joint
 unfolding interrupt_ended
 interrupted_leaves j number h items went.Stay = record { ended = refl; refused = refl; flags = refl }
-interrupted_leaves j number h items went.Stopped = record { ended = refl; refused = refl; flags = refl }
-interrupted_leaves j number h items (went.Remapped space) = record { ended = refl; refused = refl; flags = refl }
-interrupted_leaves j number h items (went.Leave s) = record { ended = refl; refused = refl; flags = refl }
-interrupted_leaves j number h items (went.SpaceGone space s) = record { ended = refl; refused = refl; flags = refl }
+interrupted_leaves j number h items _ = record { ended = refl; refused = refl; flags = refl }
 
 left_leaves : (j : Joint) (number : ℕ) (h : Hart) (d : ℕ) (was : Domain) (step : Stepped) →
     slice_get j.domains d ≡ Some was → SameFlag was.control step.control →

@@ -52,19 +52,17 @@ either P true x y here there = here
 either P false x y here there = there
 
 pub quiet_settled : (f : ℕ) (w : World) → IsQuiet w → IsQuiet (settled f w)
-quiet_settled f (Flat seen) q = q
 quiet_settled f (Cloaked c) q = record {
   form = refl;
   left = left_append c.items (cipher_items (settle f c.memory).ciphers) (none_left (settle f c.memory).ciphers)
       ∙ q.left;
   met = q.met;
 }
-quiet_settled f (Alone h) q = q
+quiet_settled f _ q = q
 
 quiet_noted : (events : List Event) (w : World) → IsQuiet w → IsQuiet (noted events w)
-quiet_noted events (Flat seen) q = q
 quiet_noted events (Cloaked c) q = record { form = refl; left = q.left; met = q.met }
-quiet_noted events (Alone h) q = q
+quiet_noted events _ q = q
 
 quiet_stored : (pa width value : ℕ) (w : World) → IsQuiet w → IsQuiet (stored_at pa width value w)
 quiet_stored pa width value (Flat seen) q = absurd (false≢true q.form)
@@ -72,13 +70,12 @@ quiet_stored pa width value (Cloaked c) q = record { form = refl; left = q.left;
 quiet_stored pa width value (Alone h) q = q
 
 quiet_written : (i : Item) (w : World) → left_by i ≡ [] → IsQuiet w → IsQuiet (written i w)
-quiet_written i (Flat seen) none q = q
 quiet_written i (Cloaked c) none q = record {
   form = refl;
   left = left_append c.items (i ∷ []) (ap (λ (l : List Shown). l ++ []) none) ∙ q.left;
   met = q.met;
 }
-quiet_written i (Alone h) none q = q
+quiet_written i _ none q = q
 
 quiet_opened : (satp : ℕ) (a : Access) (pa : ℕ) (w : World) → IsQuiet w → IsQuiet (opened satp a pa w)
 quiet_opened satp a pa w q = quiet_noted _ _ (quiet_settled (frame_of pa) w q)
@@ -293,8 +290,7 @@ SaysTold page kind t = Says page kind t.answer t.world
 
 missed_written : (i : Item) (w : World) → is_missed (written i w) ≡ is_missed w
 missed_written i (Flat seen) = refl
-missed_written i (Cloaked c) = refl
-missed_written i (Alone h) = refl
+missed_written i _ = refl
 
 says_missing : (page : Option PageId) (kind : Kind) (w : World) → IsQuiet w → is_missed w ≡ true →
     SaysTold page kind (replies told.Stopped w)
@@ -373,16 +369,14 @@ table_says q va kind w quiet =
 pub reach_says : (q : PageId) (va : ℕ) (kind : Kind) (w : World) → IsQuiet w →
     SaysTold (Some q) kind (ask_reach q va kind w)
 unfolding ask_reach
-reach_says q va kind (Flat seen) quiet = absurd (false≢true quiet.form)
 reach_says q va kind (Cloaked c) quiet = table_says q va kind (Cloaked c) quiet
-reach_says q va kind (Alone h) quiet = absurd (false≢true quiet.form)
+reach_says q va kind _ quiet = absurd (false≢true quiet.form)
 
 -- A byte is put in memory that the kernel sees.
 
 missed_stored : (pa width value : ℕ) (w : World) → is_missed (stored_at pa width value w) ≡ is_missed w
 missed_stored pa width value (Flat seen) = refl
-missed_stored pa width value (Cloaked c) = refl
-missed_stored pa width value (Alone h) = refl
+missed_stored pa width value _ = refl
 
 put_at_says : (pa width value : ℕ) (w : World) → IsQuiet w → is_missed w ≡ false →
     SaysTold None Store (put_at pa width value w)
@@ -415,6 +409,5 @@ put_table_says va width value w quiet =
 
 pub put_says : (va width value : ℕ) (w : World) → IsQuiet w → SaysTold None Store (ask_put va width value w)
 unfolding ask_put
-put_says va width value (Flat seen) quiet = absurd (false≢true quiet.form)
 put_says va width value (Cloaked c) quiet = put_table_says va width value (Cloaked c) quiet
-put_says va width value (Alone h) quiet = absurd (false≢true quiet.form)
+put_says va width value _ quiet = absurd (false≢true quiet.form)

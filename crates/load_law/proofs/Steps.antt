@@ -24,14 +24,16 @@ use Rattle.cloak_model.specs.declared.outcome.Effect.{Effect}
 use Rattle.cloak_model.specs.declared.outcome.Effect.TheVariants as does
 use Rattle.cloak_model.specs.Asking.{Told, Asking, answered, then_ask}
 use Rattle.cloak_model.specs.AskPages.{answer_item, ask_read, ask_write}
-use Rattle.cloak_model.specs.Calls.{Copy, buffer, area, call_length, byte_address, is_cloaked, in_put, in_reached, in_placed, in_step, copy_in_step}
+use Rattle.cloak_model.specs.Calls.{Copy, buffer, area, call_length, byte_address, is_cloaked, copy_in_step}
+use Rattle.cloak_model.proofs.CallParts.{in_put, in_reached, in_placed, in_step}
 use Rattle.cloak_model.specs.Contexts.{Context, context_at, with_context, suspended}
 use Rattle.cloak_model.specs.DomainState.{Control, Domain}
 use Rattle.cloak_model.specs.DomainStep.{DomainStepped, instruction_ended, copy_ended, after_write, phase_step, step_if, domain_step}
 use Rattle.cloak_model.specs.Effect.{effect}
 use Rattle.cloak_model.specs.Halves.{inward_half}
 use Rattle.cloak_model.specs.Hypercalls.{shown_of}
-use Rattle.cloak_model.specs.InsideStep.{AfterInstruction, loaded_inside, load_reached, load_inside, atomic_granted, atomic_reached, atomic_placed, traps, atomic_inside, done_inside, decoded_inside, executed_inside, fetched_inside, fetch, instruction_inside}
+use Rattle.cloak_model.specs.InsideStep.{AfterInstruction, load_inside, atomic_granted, atomic_placed, traps, atomic_inside, done_inside, decoded_inside, fetch, instruction_inside}
+use Rattle.cloak_model.proofs.InsideParts.{loaded_inside, load_reached, atomic_reached, executed_inside, fetched_inside}
 use Rattle.cloak_model.specs.KernelStep.{atomic_kind, misaligned}
 use Rattle.cloak_model.specs.Memory.{value_in}
 use Rattle.cloak_model.specs.Resources.{page_at}
@@ -140,7 +142,7 @@ load_reached_goes : (slot : ℕ) (d : Domain) (plain : PageId → List ℕ) (c :
     (signed : Bool) (a : Answer) (w : World) → q.domain ≡ d.control.number → Says (Some q) Load a w →
     Heard d.control.number plain (second_answer d.control.number a) w →
     StepGoes slot d c (load_by c p Load q va width) (ended slot d (load_reached c q rd va width signed a) w)
-unfolding load_reached loaded_inside ask_read instruction_ended
+unfolding ask_read instruction_ended
 load_reached_goes slot d plain c p q rd va width signed told.Ok w own says heard =
     completed slot d plain c (load_by c p Load q va width) _ w refl says heard
 load_reached_goes slot d plain c p q rd va width signed (told.Absent cause) w own says heard =
@@ -181,8 +183,7 @@ done_goes slot d plain c p i _ due w is fine heard = absurd cc
 missed_plain : (domain : ℕ) (plain : PageId → List ℕ) (w : World) →
     is_missed (with_plain domain plain w) ≡ is_missed w
 missed_plain domain plain (Flat seen) = refl
-missed_plain domain plain (Cloaked c) = refl
-missed_plain domain plain (Alone h) = refl
+missed_plain domain plain _ = refl
 
 fine_plain : (domain : ℕ) (plain : PageId → List ℕ) (w : World) → IsFine w → IsFine (with_plain domain plain w)
 fine_plain domain plain (Flat seen) fine = fine
@@ -215,7 +216,7 @@ atomic_reached_goes : (slot : ℕ) (d : Domain) (plain : PageId → List ℕ) (c
     q.domain ≡ d.control.number → atomic_load c p op va (Some q) ≡ Some due → Says (Some q) (atomic_kind op) a w →
     Heard d.control.number plain (second_answer d.control.number a) w →
     StepGoes slot d c due (ended slot d (atomic_reached c rd op q va operand a) w)
-unfolding atomic_reached instruction_ended
+unfolding instruction_ended
 atomic_reached_goes slot d plain c p rd op q va operand due told.Ok w own is says heard =
     granted_goes slot d plain c p rd op q va operand due w is says heard
 atomic_reached_goes slot d plain c p rd op q va operand due (told.Absent cause) w own is says heard =
@@ -286,7 +287,6 @@ executed_goes : (slot : ℕ) (d : Domain) (plain : PageId → List ℕ) (c : Con
     (due : DueLoad) (w : World) → word_due d.control c p word (instruction word) ≡ Some due → IsFine w →
     Heard d.control.number plain (item.Ok d.control.number ∷ []) w →
     StepGoes slot d c due (ended slot d (executed_inside d.control.number d.control.resources c word) w)
-unfolding executed_inside
 executed_goes slot d plain c p word due w is fine heard =
     decoded_goes slot d plain c p word (instruction word) due w is fine heard
 
@@ -335,7 +335,7 @@ fetched_goes : (slot : ℕ) (d : Domain) (history : List Move) (plain : PageId �
     fetched_due history d.control c (Some p) ≡ Some due → Says (Some p) Fetch a w →
     Heard d.control.number plain (first_answer d.control.number a) w →
     StepGoes slot d c due (ended slot d (fetched_inside d.control.number d.control.resources c p a) w)
-unfolding fetched_inside fetched_due ask_read instruction_ended
+unfolding fetched_due ask_read instruction_ended
 fetched_goes slot d history plain c p due told.Ok w own agrees is says heard =
     let word : ℕ = value_in (plain_of w p) (c.pc % 4096) 4 in
     let same : word ≡ latest_value history p (c.pc % 4096) 4 =
@@ -395,7 +395,7 @@ byte_by c done q = record {
 in_put_goes : (slot : ℕ) (d : Domain) (plain : PageId → List ℕ) (c : Context) (q : PageId) (done byte : ℕ)
     (a : Answer) (w : World) → Says None Store a w → Heard d.control.number plain (second_answer d.control.number a) w →
     StepGoes slot d c (byte_by c done q) (copied slot d (in_put c done byte a) w)
-unfolding in_put copy_ended
+unfolding copy_ended
 in_put_goes slot d plain c q done byte told.Ok w says heard =
     completed slot d plain c (byte_by c done q) _ w refl says heard
 in_put_goes slot d plain c q done byte (told.Absent cause) w says heard =
@@ -408,7 +408,7 @@ in_reached_goes : (slot : ℕ) (d : Domain) (plain : PageId → List ℕ) (c : C
     (a : Answer) (w : World) → q.domain ≡ d.control.number → Says (Some q) Load a w →
     Heard d.control.number plain (first_answer d.control.number a) w →
     StepGoes slot d c (byte_by c done q) (copied slot d (in_reached c q done a) w)
-unfolding in_reached ask_read copy_ended
+unfolding ask_read copy_ended
 in_reached_goes slot d plain c q done told.Ok w own says heard =
     let byte : ℕ = value_in (plain_of w q) (byte_address (buffer c) done % 4096) 1 in
     let question = Put (byte_address (area c) done) 1 byte (byte_aligned (byte_address (area c) done)) in
@@ -425,7 +425,6 @@ in_placed_goes : (slot : ℕ) (d : Domain) (plain : PageId → List ℕ) (c : Co
     (cloaked : Bool) (due : DueLoad) (w : World) → IsOwn d.control.number place →
     byte_load (byte_address (buffer c) done) (byte_address (area c) done) place cloaked ≡ Some due → IsFine w →
     Heard d.control.number plain [] w → StepGoes slot d c due (copied slot d (in_placed c done place cloaked) w)
-unfolding in_placed
 in_placed_goes slot d plain c done None cloaked due w own is fine heard = absurd cc
 in_placed_goes slot d plain c done (Some q) true due w own is fine heard = absurd cc
 in_placed_goes slot d plain c done (Some q) false due w own is fine heard =
@@ -443,7 +442,6 @@ in_step_goes : (all : Bool) (slot : ℕ) (d : Domain) (plain : PageId → List �
     (is_cloaked d.control.resources c (byte_address (area c) done))) ≡ Some due →
     IsFine w → Heard d.control.number plain [] w →
     StepGoes slot d c due (copied slot d (in_step all d.control.number d.control.resources c done) w)
-unfolding in_step
 in_step_goes true slot d plain c done due w is fine heard = absurd cc
 in_step_goes false slot d plain c done due w is fine heard =
     in_placed_goes slot d plain c done _ _ due w

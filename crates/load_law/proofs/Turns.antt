@@ -29,7 +29,7 @@ use Rattle.cloak_model.specs.Hart.{Hart}
 use Rattle.cloak_model.specs.Joint.{Moment, Turn, next_hart, cloak_of, pages_for, memory_of, domain_ended, with_domain, after_domain_step, by_interrupt, by_running, inside_step, turn_of, end_domain, ends_asked, answers_violation, step_before_end, joint_step, stop_of, stop_without_miss}
 use Rattle.cloak_model.specs.KernelStep.{ticked}
 use Rattle.cloak_model.specs.Parts.{Joint}
-use Rattle.cloak_model.specs.World.{World, Flat, Cloaked, Alone, items_of, is_missed, owed_of}
+use Rattle.cloak_model.specs.World.{World, Cloaked, items_of, is_missed, owed_of}
 use Rattle.domain_isolation.proofs.Endings.{end_world, end_leaves}
 use Rattle.domain_isolation.proofs.InOrder.{get_set_same}
 use Rattle.script_fold.proofs.InstructionScripts.{IsOwn}
@@ -186,9 +186,8 @@ quiet_for d f (suc n) w q = quiet_for d (f + 1) n _ (quiet_marked d all_marked f
 
 quiet_forget : (d resource : ℕ) (w : World) → IsQuiet w → IsQuiet (ask_forget d resource w).world
 unfolding ask_forget
-quiet_forget d resource (Flat seen) q = absurd (false≢true q.form)
 quiet_forget d resource (Cloaked c) q = record { form = refl; left = q.left; met = q.met }
-quiet_forget d resource (Alone h) q = absurd (false≢true q.form)
+quiet_forget d resource _ q = absurd (false≢true q.form)
 
 quiet_forgets : (d : ℕ) (list : List ℕ) (w : World) → IsQuiet w → IsQuiet (ask_forgets d list w).world
 unfolding ask_forgets
@@ -308,9 +307,8 @@ whole_step m s =
 
 memory_missed : (w : World) (m : CloakedMemory) → is_cloaked w ≡ true →
     (memory_of w m).ledger.missed ≡ is_missed w
-memory_missed (Flat seen) m form = absurd (false≢true form)
 memory_missed (Cloaked c) m form = refl
-memory_missed (Alone h) m form = absurd (false≢true form)
+memory_missed _ m form = absurd (false≢true form)
 
 whole_number : (n ctx : ℕ) → n ≡ domain_of ctx → context_number n (slot_of ctx) ≡ ctx
 whole_number n ctx own = omega (arith, own)

@@ -23,7 +23,8 @@ use Rattle.cloak_model.specs.declared.item.Item.TheVariants as item
 use Rattle.cloak_model.specs.declared.outcome.Effect.{Effect}
 use Rattle.cloak_model.specs.declared.outcome.Effect.TheVariants as does
 use Rattle.cloak_model.specs.declared.resource.MapFault.{MapFault}
-use Rattle.cloak_model.specs.Calls.{buffer, area, call_length, byte_address, is_cloaked, in_placed, in_step, copy_in_step}
+use Rattle.cloak_model.specs.Calls.{buffer, area, call_length, byte_address, is_cloaked, copy_in_step}
+use Rattle.cloak_model.proofs.CallParts.{in_placed, in_step}
 use Rattle.cloak_model.specs.Contexts.{Context, context_at, domain_of, slot_of, word_of_page, is_reserved}
 use Rattle.cloak_model.specs.Csr.{interrupt_due}
 use Rattle.cloak_model.specs.DomainAlone.{runs_on}
@@ -212,9 +213,7 @@ phase_were (CopyOut done total) earlier d c told load more is quiet =
 untold_none : (p : Phase) (earlier : List Move) (d : Control) (c : Context) → HasNone (phase_moves p earlier d c [])
 unfolding phase_moves
 untold_none Plain earlier d c = refl
-untold_none (CopyIn done) earlier d c = refl
-untold_none Waiting earlier d c = refl
-untold_none (CopyOut done total) earlier d c = refl
+untold_none _ earlier d c = refl
 
 timer_none : (own : Bool) (e : ℕ) (p : Phase) (earlier : List Move) (d : Control) (c : Context) →
     HasNone (phase_moves p earlier d c (cond own (item.Timer e ∷ []) []))
@@ -236,26 +235,19 @@ timer_half : (j : Joint) (number : ℕ) (h : Hart) (e : ℕ) (g : Went) →
     inward_half e (interrupt_ended j number h (item.Timer e ∷ []) g).items ≡ cond (e == e) (item.Timer e ∷ []) []
 unfolding interrupt_ended
 timer_half j number h e went.Stay = refl
-timer_half j number h e went.Stopped = refl
-timer_half j number h e (went.Remapped space) = refl
-timer_half j number h e (went.Leave s) = refl
-timer_half j number h e (went.SpaceGone space s) = refl
+timer_half j number h e _ = refl
 
 timer_calm : (j : Joint) (number : ℕ) (h : Hart) (e : ℕ) (g : Went) →
     (interrupt_ended j number h (item.Timer e ∷ []) g).violation ≡ None
 unfolding interrupt_ended
 timer_calm j number h e went.Stay = refl
-timer_calm j number h e went.Stopped = refl
-timer_calm j number h e (went.Remapped space) = refl
-timer_calm j number h e (went.Leave s) = refl
-timer_calm j number h e (went.SpaceGone space s) = refl
+timer_calm j number h e _ = refl
 
 -- A byte that is not to be loaded.
 
 placed_stays : (slot : ℕ) (d : Domain) (c : Context) (done : ℕ) (place : Option PageId) (cloaked : Bool) (w : World) →
     byte_load (byte_address (buffer c) done) (byte_address (area c) done) place cloaked ≡ None →
     (copied slot d (in_placed c done place cloaked) w).world ≡ w
-unfolding in_placed
 placed_stays slot d c done None cloaked w is = refl
 placed_stays slot d c done (Some q) true w is = refl
 placed_stays slot d c done (Some q) false w is = absurd cc
@@ -265,7 +257,6 @@ in_stays : (all : Bool) (slot : ℕ) (d : Domain) (c : Context) (done : ℕ) (w 
     (page_for d.control c (byte_address (buffer c) done))
     (is_cloaked d.control.resources c (byte_address (area c) done))) ≡ None →
     (copied slot d (in_step all d.control.number d.control.resources c done) w).world ≡ w
-unfolding in_step
 in_stays true slot d c done w is = refl
 in_stays false slot d c done w is = placed_stays slot d c done _ _ w is
 

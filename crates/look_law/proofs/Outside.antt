@@ -74,9 +74,6 @@ looks_or_trap h disk va (Ok x) next w on = on x
 pub looks_carried : (h : Hart) (disk : List ℕ) (word : ℕ) (i : Instr) (e : Effect) (w : World) →
     Looks 1 w (carried_out h disk word i e w).world
 unfolding carried_out
-looks_carried h disk word i (does.Write rd value) w = none w
-looks_carried h disk word i (does.Jump rd link target) w = none w
-looks_carried h disk word i (does.Go target) w = none w
 looks_carried h disk word i (does.Load rd va width signed) w =
     let told = ask_load (satp_of h.csrs) (access h Load va) width w in
     then_still w told.world _ (asks_load (satp_of h.csrs) (access h Load va) width w)
@@ -90,8 +87,7 @@ looks_carried h disk word i (does.Store va width value) w =
     (λ done. none told.world))
 looks_carried h disk word i does.System w =
     one_of (is_ecall i) (ecall h disk) (ends disk (system h word i)) w (at_most_one _ _ (looks_ecall h disk w)) (none w)
-looks_carried h disk word i does.Nothing w = none w
-looks_carried h disk word i (does.Raise cause value) w = none w
+looks_carried h disk word i _ w = none w
 
 -- an operation
 pub looks_operation : (h : Hart) (disk : List ℕ) (a : Atomic) (op : AtomicOp) (va operand : ℕ) (w : World) →

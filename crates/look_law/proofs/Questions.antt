@@ -63,39 +63,32 @@ few_then n es fs few = let both = looks_then es fs in omega (arith, both, few)
 -- Memory.
 
 pub events_noted : (n : ℕ) (events : List Event) (w : World) → looks_in events ≤ n → Looks n w (noted events w)
-events_noted n events (Flat ram) few = record { few = omega arith }
 events_noted n events (Cloaked c) few = record { few = few_then n c.events events few }
-events_noted n events (Alone h) few = record { few = omega arith }
+events_noted n events _ few = record { few = omega arith }
 
 pub still_settled : (f : ℕ) (w : World) → Looks 0 w (settled f w)
-still_settled f (Flat ram) = record { few = omega arith }
 still_settled f (Cloaked c) = record { few = few_then 0 c.events (Touch f ∷ []) (omega arith) }
-still_settled f (Alone h) = record { few = omega arith }
+still_settled f _ = record { few = omega arith }
 
 pub still_stored : (pa width value : ℕ) (w : World) → Looks 0 w (stored_at pa width value w)
-still_stored pa width value (Flat ram) = record { few = omega arith }
 still_stored pa width value (Cloaked c) = record { few = few_then 0 c.events (Write (frame_of pa) ∷ []) (omega arith) }
-still_stored pa width value (Alone h) = record { few = omega arith }
+still_stored pa width value _ = record { few = omega arith }
 
 pub still_filled : (f : ℕ) (bytes : List ℕ) (w : World) → Looks 0 w (filled_frame f bytes w)
-still_filled f bytes (Flat ram) = record { few = omega arith }
 still_filled f bytes (Cloaked c) = record { few = few_then 0 c.events (Write f ∷ []) (omega arith) }
-still_filled f bytes (Alone h) = record { few = omega arith }
+still_filled f bytes _ = record { few = omega arith }
 
 pub still_written : (i : Item) (w : World) → Looks 0 w (written i w)
 still_written i (Flat ram) = record { few = omega arith }
-still_written i (Cloaked c) = record { few = omega arith }
-still_written i (Alone h) = record { few = omega arith }
+still_written i _ = record { few = omega arith }
 
 pub still_plain : (domain : ℕ) (plain : PageId → List ℕ) (w : World) → Looks 0 w (with_plain domain plain w)
 still_plain domain plain (Flat ram) = record { few = omega arith }
-still_plain domain plain (Cloaked c) = record { few = omega arith }
-still_plain domain plain (Alone h) = record { few = omega arith }
+still_plain domain plain _ = record { few = omega arith }
 
 pub still_marks : (marks : List (Option ℕ)) (w : World) → Looks 0 w (with_marks marks w)
 still_marks marks (Flat seen) = record { few = omega arith }
-still_marks marks (Cloaked c) = record { few = omega arith }
-still_marks marks (Alone h) = record { few = omega arith }
+still_marks marks _ = record { few = omega arith }
 
 -- a birth is no look
 pub births_quiet : (satp : ℕ) (a : Access) (cloaked : Option PageId) (walk : Walk) →
@@ -215,9 +208,8 @@ missed_quiet true q g = omega arith
 missed_quiet false q g = omega arith
 
 offer_quiet : (q : PageId) (g : ℕ) (m : CloakedMemory) (o : Offer) → looks_in (offer_events q g m o) ≤ 0
-offer_quiet q g m Ready = omega arith
-offer_quiet q g m Mismatch = omega arith
 offer_quiet q g m Missed = missed_quiet (settle g m).missed q g
+offer_quiet q g m _ = omega arith
 
 pub still_offered : (q : PageId) (va : ℕ) (kind : Kind) (g : ℕ) (o : Offer) (w : World) →
     Looks 0 w (offered_by q va kind g o w).world
@@ -299,8 +291,7 @@ asks_clear domain marked (Alone h) = still_next _ h.answers h
 pub still_copy : (domain from to : ℕ) (w : World) → Looks 0 w (ask_copy domain from to w).world
 unfolding ask_copy
 still_copy domain from to (Flat ram) = still (Flat ram)
-still_copy domain from to (Cloaked c) = record { few = omega arith }
-still_copy domain from to (Alone h) = record { few = omega arith }
+still_copy domain from to _ = record { few = omega arith }
 
 pub still_forget : (domain resource : ℕ) (w : World) → Looks 0 w (ask_forget domain resource w).world
 unfolding ask_forget

@@ -79,6 +79,8 @@ impl Shelf for NeverShelf {
 
     ghost reading_faults = { λ _. 0 };
 
+    ghost unread = { λ _. None };
+
     ghost writing_faults = { λ _. 0 };
 
     ghost is_settled = { λ _. Unit {0} };

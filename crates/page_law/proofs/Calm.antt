@@ -7,7 +7,7 @@ use Rattle.cloak_model.specs.declared.inside.Went.{Went}
 use Rattle.cloak_model.specs.declared.inside.Went.TheVariants as went
 use Rattle.cloak_model.specs.declared.item.Item.{Item}
 use Rattle.cloak_model.specs.declared.outcome.Kernel.{Kernel}
-use Rattle.cloak_model.specs.declared.outcome.Kernel.TheVariants.{Stay, Put, Halt, Resume, Trapped}
+use Rattle.cloak_model.specs.declared.outcome.Kernel.TheVariants.{Stay, Resume}
 use Rattle.cloak_model.specs.Ahead.{settled_step, made_after}
 use Rattle.cloak_model.specs.Asking.{Told}
 use Rattle.cloak_model.specs.Contexts.{Admitted, domain_of, slot_of}
@@ -65,11 +65,8 @@ resume_keeps j hart satp ctx reply = domain_keeps j hart satp ctx reply _
 ended_keeps : (j : Joint) (number : ℕ) (items : List Item) (k : Kernel) →
     (outside_ended j number items k).joint.memory.plain ≡ j.memory.plain
 unfolding outside_ended
-ended_keeps j number items Stay = refl
-ended_keeps j number items Trapped = refl
-ended_keeps j number items (Put b) = refl
-ended_keeps j number items (Halt value) = refl
 ended_keeps j number items (Resume ctx answer) = resume_keeps j number _ ctx answer
+ended_keeps j number items _ = refl
 
 pub outside_keeps : (j : Joint) (number : ℕ) (h : Hart) → (outside_step j number h).joint.memory.plain ≡ j.memory.plain
 unfolding outside_step after_outside settled_step made_after
@@ -80,9 +77,7 @@ outside_keeps j number h = ended_keeps _ number _ _ ∙ (touched_draws {count = 
 stop_gives : {d : ℕ} {A : Type 0} (e : EndClaims A) (s : Script d A) (w : World) → IsStop e s → e.stopped (played s w).answer
 unfolding IsStop
 stop_gives e (Gives a) w is = is
-stop_gives e (Asks question more) w is = absurd is
-stop_gives e (Reads q own at width more) w is = absurd is
-stop_gives e (Changes change more) w is = absurd is
+stop_gives e _ w is = absurd is
 
 met_by : {d : ℕ} {A : Type 0} (e : EndClaims A) (question : Question d) (more : Answer → Script d A) (w : World) →
     is_cloaked w ≡ true → violation_of w ≡ None → IsStop e (more told.Stopped) → (o : Option Violation) →
@@ -116,19 +111,13 @@ domain_ended_plain : (j : Joint) (number : ℕ) (h : Hart) (e : ℕ) (w : World)
     (domain_ended j number h e w how).joint.memory.plain ≡ j.memory.plain
 unfolding domain_ended
 domain_ended_plain j number h e w went.Stay = refl
-domain_ended_plain j number h e w went.Stopped = refl
-domain_ended_plain j number h e w (went.Remapped space) = refl
-domain_ended_plain j number h e w (went.Leave s) = refl
-domain_ended_plain j number h e w (went.SpaceGone space s) = refl
+domain_ended_plain j number h e w _ = refl
 
 interrupt_ended_plain : (j : Joint) (number : ℕ) (h : Hart) (items : List Item) (how : Went) →
     (interrupt_ended j number h items how).joint.memory.plain ≡ j.memory.plain
 unfolding interrupt_ended
 interrupt_ended_plain j number h items went.Stay = refl
-interrupt_ended_plain j number h items went.Stopped = refl
-interrupt_ended_plain j number h items (went.Remapped space) = refl
-interrupt_ended_plain j number h items (went.Leave s) = refl
-interrupt_ended_plain j number h items (went.SpaceGone space s) = refl
+interrupt_ended_plain j number h items _ = refl
 
 told_stopped : (slot : ℕ) (was : Domain) (w : World) → is_cloaked w ≡ true → violation_of w ≡ None →
     is_some (violation_of (domain_step slot was w).world) ≡ true → (domain_step slot was w).answer.went ≡ went.Stopped

@@ -7,7 +7,7 @@ use Rattle.cloak_model.specs.declared.inside.Went.{Went}
 use Rattle.cloak_model.specs.declared.inside.Went.TheVariants as went
 use Rattle.cloak_model.specs.declared.item.Item.{Item}
 use Rattle.cloak_model.specs.declared.outcome.Kernel.{Kernel}
-use Rattle.cloak_model.specs.declared.outcome.Kernel.TheVariants.{Stay, Put, Halt, Resume, Trapped}
+use Rattle.cloak_model.specs.declared.outcome.Kernel.TheVariants.{Stay, Resume}
 use Rattle.cloak_model.specs.Asking.{Told}
 use Rattle.cloak_model.specs.Contexts.{Admitted, domain_of, slot_of}
 use Rattle.cloak_model.specs.DomainState.{Control, Domain}
@@ -49,11 +49,8 @@ resume_counts j hart satp ctx reply = domain_counts j hart satp ctx reply _
 ended_counts : (j : Joint) (number : ℕ) (items : List Item) (k : Kernel) →
     KeepsCount j (outside_ended j number items k).joint
 unfolding outside_ended
-ended_counts j number items Stay = refl
-ended_counts j number items Trapped = refl
-ended_counts j number items (Put b) = refl
-ended_counts j number items (Halt value) = refl
 ended_counts j number items (Resume ctx answer) = resume_counts j number _ ctx answer
+ended_counts j number items _ = refl
 
 outside_counts : (j : Joint) (number : ℕ) (h : Hart) → KeepsCount j (outside_step j number h).joint
 unfolding outside_step after_outside
@@ -65,10 +62,7 @@ went_counts : (j : Joint) (number : ℕ) (h : Hart) (d : ℕ) (w : World) (how :
     KeepsCount j (domain_ended j number h d w how).joint
 unfolding domain_ended
 went_counts j number h d w went.Stay = refl
-went_counts j number h d w went.Stopped = refl
-went_counts j number h d w (went.Remapped space) = refl
-went_counts j number h d w (went.Leave s) = refl
-went_counts j number h d w (went.SpaceGone space s) = refl
+went_counts j number h d w _ = refl
 
 told_counts : (j : Joint) (number : ℕ) (h : Hart) (d : ℕ) (told : Told DomainStepped) →
     KeepsCount j (after_domain_step j number h d told).joint
@@ -80,10 +74,7 @@ interrupted_counts : (j : Joint) (number : ℕ) (h : Hart) (items : List Item) (
     KeepsCount j (interrupt_ended j number h items how).joint
 unfolding interrupt_ended
 interrupted_counts j number h items went.Stay = refl
-interrupted_counts j number h items went.Stopped = refl
-interrupted_counts j number h items (went.Remapped space) = refl
-interrupted_counts j number h items (went.Leave s) = refl
-interrupted_counts j number h items (went.SpaceGone space s) = refl
+interrupted_counts j number h items _ = refl
 
 due_counts : (due : Bool) (j : Joint) (number : ℕ) (h : Hart) (d slot : ℕ) (was : Domain) →
     KeepsCount j (by_interrupt due j number h d slot was).joint

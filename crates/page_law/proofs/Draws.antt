@@ -97,18 +97,7 @@ draw_behind-append (i ∷ a) b n = draw_behind-append a b (draw_behind_one i n)
 
 one_counts : (i : Item) (n : ℕ) → draw_behind_one i n ≡ n + cipher_count i
 one_counts (item.Cipher f bytes) n = omega arith
-one_counts (item.Put pa width value) n = omega arith
-one_counts (item.Leave x) n = omega arith
-one_counts (item.Step number) n = omega arith
-one_counts (item.Close steps) n = omega arith
-one_counts item.End n = omega arith
-one_counts (item.Ok domain) n = omega arith
-one_counts (item.Absent domain cause) n = omega arith
-one_counts (item.Word domain value) n = omega arith
-one_counts (item.Timer domain) n = omega arith
-one_counts (item.Resume domain ctx answer) n = omega arith
-one_counts (item.Stopped domain) n = omega arith
-one_counts (item.Ended domain) n = omega arith
+one_counts _ n = omega arith
 
 pub draw_behind_counts : (items : List Item) (n : ℕ) → draw_behind items n ≡ n + ciphers_in items
 draw_behind_counts [] n = omega arith

@@ -14,7 +14,7 @@ use Rattle.cloak_model.specs.declared.inside.Went.{Went}
 use Rattle.cloak_model.specs.declared.inside.Went.TheVariants as went
 use Rattle.cloak_model.specs.declared.item.Item.{Item}
 use Rattle.cloak_model.specs.declared.outcome.Kernel.{Kernel}
-use Rattle.cloak_model.specs.declared.outcome.Kernel.TheVariants.{Stay, Put, Halt, Resume, Trapped}
+use Rattle.cloak_model.specs.declared.outcome.Kernel.TheVariants.{Stay, Resume}
 use Rattle.cloak_model.specs.Asking.{Told}
 use Rattle.cloak_model.specs.Beginning.{opening_from}
 use Rattle.cloak_model.specs.Calls.{Copy, copy_in_step, copy_out_step}
@@ -48,25 +48,17 @@ instruction_loads : (plain : PageId → List ℕ) (slot : ℕ) (d : Domain) (c :
     LoadsIn d.control.number d.control.resources c.space plain t →
     LoadsNewest d plain (instruction_ended slot d t.answer.context e t.world).answer.domain
 unfolding instruction_ended
-instruction_loads plain slot d c t ran.Stay is at loads = NoLoad refl
 instruction_loads plain slot d c t (ran.Loaded va value) is at loads =
     OneLoad slot c at va value refl (loads va value is)
-instruction_loads plain slot d c t (ran.Trap cause address) is at loads = NoLoad refl
-instruction_loads plain slot d c t ran.Ecall is at loads = NoLoad refl
-instruction_loads plain slot d c t ran.Stopped is at loads = NoLoad refl
+instruction_loads plain slot d c t _ is at loads = NoLoad refl
 
 copy_loads : (plain : PageId → List ℕ) (slot : ℕ) (d : Domain) (c : Context) (t : Told Copy) (e : Copied) →
     t.answer.ending ≡ e → context_at d.control.contexts slot ≡ Some c →
     CopiesIn d.control.number d.control.resources c.space plain t →
     LoadsNewest d plain (copy_ended slot d t.answer.context e).domain
 unfolding copy_ended
-copy_loads plain slot d c t copied.Going is at loads = NoLoad refl
-copy_loads plain slot d c t copied.CallReady is at loads = NoLoad refl
-copy_loads plain slot d c t copied.Done is at loads = NoLoad refl
-copy_loads plain slot d c t (copied.Absent cause address) is at loads = NoLoad refl
-copy_loads plain slot d c t copied.Stopped is at loads = NoLoad refl
-copy_loads plain slot d c t copied.Refused is at loads = NoLoad refl
 copy_loads plain slot d c t (copied.Loaded va value) is at loads = OneLoad slot c at va value refl (loads va value is)
+copy_loads plain slot d c t _ is at loads = NoLoad refl
 
 -- with the same loads, what is told of them is the same
 loads_stay : (was : Domain) (plain : PageId → List ℕ) (found made : Domain) → made.loads ≡ found.loads →
@@ -167,11 +159,8 @@ resume_load j plain hart satp ctx reply = domain_load j plain hart satp ctx repl
 ended_load : (j : Joint) (plain : PageId → List ℕ) (number : ℕ) (items : List Item) (k : Kernel) →
     DomainsLoad j.domains plain (outside_ended j number items k).joint.domains
 unfolding outside_ended
-ended_load j plain number items Stay = same_load j.domains plain
-ended_load j plain number items Trapped = same_load j.domains plain
-ended_load j plain number items (Put b) = same_load j.domains plain
-ended_load j plain number items (Halt value) = same_load j.domains plain
 ended_load j plain number items (Resume ctx answer) = resume_load j plain number _ ctx answer
+ended_load j plain number items _ = same_load j.domains plain
 
 outside_load : (j : Joint) (plain : PageId → List ℕ) (number : ℕ) (h : Hart) →
     DomainsLoad j.domains plain (outside_step j number h).joint.domains
@@ -182,19 +171,13 @@ domain_ended_same : (j : Joint) (number : ℕ) (h : Hart) (e : ℕ) (w : World) 
     (domain_ended j number h e w how).joint.domains ≡ j.domains
 unfolding domain_ended
 domain_ended_same j number h e w went.Stay = refl
-domain_ended_same j number h e w went.Stopped = refl
-domain_ended_same j number h e w (went.Remapped space) = refl
-domain_ended_same j number h e w (went.Leave s) = refl
-domain_ended_same j number h e w (went.SpaceGone space s) = refl
+domain_ended_same j number h e w _ = refl
 
 interrupt_ended_same : (j : Joint) (number : ℕ) (h : Hart) (items : List Item) (how : Went) →
     (interrupt_ended j number h items how).joint.domains ≡ j.domains
 unfolding interrupt_ended
 interrupt_ended_same j number h items went.Stay = refl
-interrupt_ended_same j number h items went.Stopped = refl
-interrupt_ended_same j number h items (went.Remapped space) = refl
-interrupt_ended_same j number h items (went.Leave s) = refl
-interrupt_ended_same j number h items (went.SpaceGone space s) = refl
+interrupt_ended_same j number h items _ = refl
 
 by_load : (due : Bool) (j : Joint) (number : ℕ) (h : Hart) (e slot : ℕ) (found : Domain) →
     slice_get j.domains e ≡ Some found →

@@ -202,8 +202,7 @@ own_draws b from r places = record { not_key = later; apart = apart }
     later : (place : ItemPlace) (f : ℕ) (bytes : List ℕ) → item_at r place ≡ Some (item.Cipher f bytes) →
         keys ≤ draw_number b from r place f
     later (InOpening at) f bytes is = (within at f bytes is).0
-    later (InStep n at) f bytes is = omega arith
-    later (InClosing at) f bytes is = omega arith
+    later _ f bytes is = omega arith
 
     apart : (place place' : ItemPlace) (f f' : ℕ) (bytes bytes' : List ℕ) →
         item_at r place ≡ Some (item.Cipher f bytes) → item_at r place' ≡ Some (item.Cipher f' bytes') →

@@ -19,7 +19,7 @@ use Rattle.cloak_model.specs.KernelStep.{ticked}
 use Rattle.cloak_model.specs.Opening.{Opened}
 use Rattle.cloak_model.specs.Parts.{Joint, domain_pages}
 use Rattle.cloak_model.specs.Run.{Run, unless_stopped, turns_from, joint_after, first_moment, run_of, closing}
-use Rattle.cloak_model.specs.World.{World, Flat, Cloaked, Alone, plain_of}
+use Rattle.cloak_model.specs.World.{World, Cloaked, plain_of}
 use Rattle.domain_isolation.proofs.Played.{played_serving, played_others}
 use Rattle.script_fold.proofs.StepScripts.{step_scripted}
 use Rattle.domain_isolation.proofs.Answers.{IsServing}
@@ -50,24 +50,17 @@ domain_ended_keeps : (d : ℕ) (j : Joint) (number : ℕ) (h : Hart) (e : ℕ) (
     Keeps d j (domain_ended j number h e w how).joint
 unfolding domain_ended
 domain_ended_keeps d j number h e w went.Stay = refl
-domain_ended_keeps d j number h e w went.Stopped = refl
-domain_ended_keeps d j number h e w (went.Remapped space) = refl
-domain_ended_keeps d j number h e w (went.Leave s) = refl
-domain_ended_keeps d j number h e w (went.SpaceGone space s) = refl
+domain_ended_keeps d j number h e w _ = refl
 
 interrupt_ended_keeps : (d : ℕ) (j : Joint) (number : ℕ) (h : Hart) (items : List Item) (how : Went) →
     Keeps d j (interrupt_ended j number h items how).joint
 unfolding interrupt_ended
 interrupt_ended_keeps d j number h items went.Stay = refl
-interrupt_ended_keeps d j number h items went.Stopped = refl
-interrupt_ended_keeps d j number h items (went.Remapped space) = refl
-interrupt_ended_keeps d j number h items (went.Leave s) = refl
-interrupt_ended_keeps d j number h items (went.SpaceGone space s) = refl
+interrupt_ended_keeps d j number h items _ = refl
 
 pub memory_plain : (w : World) (m : CloakedMemory) → is_cloaked w ≡ true → plain_of w ≡ (memory_of w m).plain
-memory_plain (Flat seen) m form = absurd cc
 memory_plain (Cloaked c) m form = refl
-memory_plain (Alone h) m form = absurd cc
+memory_plain _ m form = absurd cc
 
 -- what a program's step told
 told_keeps : (d : ℕ) (j : Joint) (number : ℕ) (h : Hart) (e : ℕ) (told : Told DomainStepped) →

@@ -20,10 +20,12 @@ use Rattle.cloak_model.specs.declared.outcome.Effect.{Effect}
 use Rattle.cloak_model.specs.declared.outcome.Effect.TheVariants as does
 use Rattle.cloak_model.specs.Asking.{Told}
 use Rattle.cloak_model.specs.AskPages.{ask_reach, ask_read}
-use Rattle.cloak_model.specs.Calls.{Copy, in_put, in_reached, in_placed, in_step, copy_in_step, out_reached, out_got, out_placed, out_step, copy_out_step, byte_address, buffer}
+use Rattle.cloak_model.specs.Calls.{Copy, copy_in_step, copy_out_step, byte_address, buffer}
+use Rattle.cloak_model.proofs.CallParts.{in_put, in_reached, in_placed, in_step, out_reached, out_got, out_placed, out_step}
 use Rattle.cloak_model.specs.Contexts.{Context}
 use Rattle.cloak_model.specs.Effect.{IsWidth, offset, effect, jump, go, branch, load_effect, store_effect}
-use Rattle.cloak_model.specs.InsideStep.{AfterInstruction, loaded_inside, load_reached, load_got, load_inside, store_reached, store_put, store_inside, conditional_inside, atomic_granted, atomic_reached, atomic_placed, atomic_inside, system_inside, done_inside, decoded_inside, executed_inside, fetched_inside, fetch, instruction_inside}
+use Rattle.cloak_model.specs.InsideStep.{AfterInstruction, load_inside, store_inside, atomic_granted, atomic_placed, atomic_inside, system_inside, done_inside, decoded_inside, fetch, instruction_inside}
+use Rattle.cloak_model.proofs.InsideParts.{loaded_inside, load_reached, load_got, store_reached, store_put, conditional_inside, atomic_reached, executed_inside, fetched_inside}
 use Rattle.cloak_model.specs.Memory.{value_in}
 use Rattle.cloak_model.specs.Resources.{Resources, page_at}
 use Rattle.cloak_model.specs.World.{World, Cloak, Cloaked, plain_of}
@@ -117,7 +119,7 @@ LoadsIn n r space plain t =
 loads_reached : (n : ℕ) (r : Resources) (plain : PageId → List ℕ) (c : Context) (q : PageId) (rd va width : ℕ)
     (signed : Bool) (a : Answer) (w : World) → page_at n r c.space va ≡ Some q → IsWidth width → HasPlain plain w →
     LoadsIn n r c.space plain (load_reached c q rd va width signed a w)
-unfolding load_reached loaded_inside ask_read
+unfolding ask_read
 loads_reached n r plain c q rd va width signed told.Ok w lies is has = λ va' value' same.
     let address : va ≡ va' = cc in
     let value = plain_here plain w q has in
@@ -134,11 +136,8 @@ loads_reached n r plain c q rd va width signed told.Stopped w lies is has = λ v
 
 nothing_got : (n : ℕ) (r : Resources) (plain : PageId → List ℕ) (c : Context) (rd va width : ℕ) (signed : Bool)
     (a : Answer) (w : World) → LoadsIn n r c.space plain (load_got c rd va width signed a w)
-unfolding load_got
 nothing_got n r plain c rd va width signed told.Ok w = λ va' value' same. absurd cc
-nothing_got n r plain c rd va width signed (told.Absent cause) w = λ va' value' same. absurd cc
-nothing_got n r plain c rd va width signed (told.Word x) w = λ va' value' same. absurd cc
-nothing_got n r plain c rd va width signed told.Stopped w = λ va' value' same. absurd cc
+nothing_got n r plain c rd va width signed _ w = λ va' value' same. absurd cc
 
 loads_load : (n : ℕ) (r : Resources) (plain : PageId → List ℕ) (c : Context) (rd va width : ℕ) (signed : Bool)
     (place : Option PageId) (w : World) → page_at n r c.space va ≡ place → IsWidth width → HasPlain plain w →
@@ -151,19 +150,13 @@ loads_load n r plain c rd va width signed (Some q) w lies is has =
 
 nothing_stored : (n : ℕ) (r : Resources) (plain : PageId → List ℕ) (c : Context) (q : PageId) (va width value : ℕ)
     (a : Answer) (w : World) → LoadsIn n r c.space plain (store_reached c q va width value a w)
-unfolding store_reached
 nothing_stored n r plain c q va width value told.Ok w = λ va' value' same. absurd cc
-nothing_stored n r plain c q va width value (told.Absent cause) w = λ va' value' same. absurd cc
-nothing_stored n r plain c q va width value (told.Word x) w = λ va' value' same. absurd cc
-nothing_stored n r plain c q va width value told.Stopped w = λ va' value' same. absurd cc
+nothing_stored n r plain c q va width value _ w = λ va' value' same. absurd cc
 
 nothing_put : (n : ℕ) (r : Resources) (plain : PageId → List ℕ) (c : Context) (va : ℕ) (a : Answer) (w : World) →
     LoadsIn n r c.space plain (store_put c va a w)
-unfolding store_put
 nothing_put n r plain c va told.Ok w = λ va' value' same. absurd cc
-nothing_put n r plain c va (told.Absent cause) w = λ va' value' same. absurd cc
-nothing_put n r plain c va (told.Word x) w = λ va' value' same. absurd cc
-nothing_put n r plain c va told.Stopped w = λ va' value' same. absurd cc
+nothing_put n r plain c va _ w = λ va' value' same. absurd cc
 
 loads_store : (n : ℕ) (r : Resources) (plain : PageId → List ℕ) (c : Context) (va width value : ℕ)
     (place : Option PageId) (w : World) → LoadsIn n r c.space plain (store_inside c va width value place w)
@@ -181,15 +174,11 @@ loads_system n r plain c _ w = λ va' value' same. absurd cc
 loads_done : (n : ℕ) (r : Resources) (plain : PageId → List ℕ) (c : Context) (i : Instr) (e : Effect) (w : World) →
     LoadsWidth e → HasPlain plain w → LoadsIn n r c.space plain (done_inside n r c i e w)
 unfolding done_inside
-loads_done n r plain c i (does.Write rd value) w widths has = λ va' value' same. absurd cc
-loads_done n r plain c i (does.Jump rd link target) w widths has = λ va' value' same. absurd cc
-loads_done n r plain c i (does.Go target) w widths has = λ va' value' same. absurd cc
 loads_done n r plain c i (does.Load rd va width signed) w widths has =
     loads_load n r plain c rd va width signed _ w refl (widths.is rd va width signed refl) has
 loads_done n r plain c i (does.Store va width value) w widths has = loads_store n r plain c va width value _ w
 loads_done n r plain c i does.System w widths has = loads_system n r plain c i w
-loads_done n r plain c i does.Nothing w widths has = λ va' value' same. absurd cc
-loads_done n r plain c i (does.Raise cause value) w widths has = λ va' value' same. absurd cc
+loads_done n r plain c i _ w widths has = λ va' value' same. absurd cc
 
 -- An atomic instruction that loads gives the word that stood there.
 
@@ -211,7 +200,6 @@ loads_word n r plain space q va w lies has va' value' same =
 nothing_conditional : (reserved : Bool) (n : ℕ) (r : Resources) (plain : PageId → List ℕ) (c : Context) (rd : ℕ)
     (q : PageId) (va operand : ℕ) (w : World) →
     LoadsIn n r c.space plain (conditional_inside reserved c rd q va operand w)
-unfolding conditional_inside
 nothing_conditional true n r plain c rd q va operand w = λ va' value' same. absurd cc
 nothing_conditional false n r plain c rd q va operand w = λ va' value' same. absurd cc
 
@@ -226,12 +214,9 @@ loads_granted n r plain c rd op q va operand w lies has = loads_word n r plain c
 loads_atomic_reached : (n : ℕ) (r : Resources) (plain : PageId → List ℕ) (c : Context) (rd : ℕ) (op : AtomicOp)
     (q : PageId) (va operand : ℕ) (a : Answer) (w : World) → page_at n r c.space va ≡ Some q → HasPlain plain w →
     LoadsIn n r c.space plain (atomic_reached c rd op q va operand a w)
-unfolding atomic_reached
 loads_atomic_reached n r plain c rd op q va operand told.Ok w lies has =
     loads_granted n r plain c rd op q va operand w lies has
-loads_atomic_reached n r plain c rd op q va operand (told.Absent cause) w lies has = λ va' value' same. absurd cc
-loads_atomic_reached n r plain c rd op q va operand (told.Word x) w lies has = λ va' value' same. absurd cc
-loads_atomic_reached n r plain c rd op q va operand told.Stopped w lies has = λ va' value' same. absurd cc
+loads_atomic_reached n r plain c rd op q va operand _ w lies has = λ va' value' same. absurd cc
 
 loads_atomic_placed : (n : ℕ) (r : Resources) (plain : PageId → List ℕ) (c : Context) (rd : ℕ) (op : AtomicOp)
     (va operand : ℕ) (place : Option PageId) (w : World) → page_at n r c.space va ≡ place → HasPlain plain w →
@@ -260,16 +245,13 @@ loads_decoded n r plain c word (Some i) w has =
 
 loads_executed : (n : ℕ) (r : Resources) (plain : PageId → List ℕ) (c : Context) (word : ℕ) (w : World) →
     HasPlain plain w → LoadsIn n r c.space plain (executed_inside n r c word w)
-unfolding executed_inside
 loads_executed n r plain c word w has = loads_decoded n r plain c word (instruction word) w has
 
 loads_fetched : (n : ℕ) (r : Resources) (plain : PageId → List ℕ) (c : Context) (q : PageId) (a : Answer) (w : World) →
     HasPlain plain w → LoadsIn n r c.space plain (fetched_inside n r c q a w)
-unfolding fetched_inside ask_read
+unfolding ask_read
 loads_fetched n r plain c q told.Ok w has = loads_executed n r plain c _ w has
-loads_fetched n r plain c q (told.Absent cause) w has = λ va' value' same. absurd cc
-loads_fetched n r plain c q (told.Word x) w has = λ va' value' same. absurd cc
-loads_fetched n r plain c q told.Stopped w has = λ va' value' same. absurd cc
+loads_fetched n r plain c q _ w has = λ va' value' same. absurd cc
 
 loads_fetch : (n : ℕ) (r : Resources) (plain : PageId → List ℕ) (c : Context) (place : Option PageId) (w : World) →
     HasPlain plain w → LoadsIn n r c.space plain (fetch n r c place w)
@@ -291,7 +273,6 @@ CopiesIn n r space plain t =
 copies_put : (n : ℕ) (r : Resources) (plain : PageId → List ℕ) (c : Context) (done byte : ℕ) (a : Answer) (w : World) →
     IsLoadOf n r c.space plain (byte_address (buffer c) done) byte →
     CopiesIn n r c.space plain (in_put c done byte a w)
-unfolding in_put
 copies_put n r plain c done byte told.Ok w load = λ va value same.
     let address : byte_address (buffer c) done ≡ va = cc in
     let given : byte ≡ value = cc in
@@ -304,7 +285,7 @@ copies_put n r plain c done byte told.Stopped w load = λ va value same. absurd 
 copies_reached : (n : ℕ) (r : Resources) (plain : PageId → List ℕ) (c : Context) (q : PageId) (done : ℕ) (a : Answer)
     (w : World) → page_at n r c.space (byte_address (buffer c) done) ≡ Some q → HasPlain plain w →
     CopiesIn n r c.space plain (in_reached c q done a w)
-unfolding in_reached ask_read
+unfolding ask_read
 copies_reached n r plain c q done told.Ok w lies has =
     let here = plain_here plain w q has in
     copies_put n r plain c done _ _ _ (record {
@@ -321,7 +302,6 @@ copies_reached n r plain c q done told.Stopped w lies has = λ va value same. ab
 copies_placed : (n : ℕ) (r : Resources) (plain : PageId → List ℕ) (c : Context) (done : ℕ) (place : Option PageId)
     (cloaked : Bool) (w : World) → page_at n r c.space (byte_address (buffer c) done) ≡ place → HasPlain plain w →
     CopiesIn n r c.space plain (in_placed c done place cloaked w)
-unfolding in_placed
 copies_placed n r plain c done None cloaked w lies has = λ va value same. absurd cc
 copies_placed n r plain c done (Some q) true w lies has = λ va value same. absurd cc
 copies_placed n r plain c done (Some q) false w lies has =
@@ -329,7 +309,6 @@ copies_placed n r plain c done (Some q) false w lies has =
 
 copies_in_step : (all : Bool) (n : ℕ) (r : Resources) (plain : PageId → List ℕ) (c : Context) (done : ℕ) (w : World) →
     HasPlain plain w → CopiesIn n r c.space plain (in_step all n r c done w)
-unfolding in_step
 copies_in_step true n r plain c done w has = λ va value same. absurd cc
 copies_in_step false n r plain c done w has = copies_placed n r plain c done _ _ w refl has
 
@@ -340,30 +319,22 @@ copies_in n r plain c done w has = copies_in_step _ n r plain c done w has
 
 none_reached : (n : ℕ) (r : Resources) (plain : PageId → List ℕ) (c : Context) (q : PageId) (done total byte : ℕ)
     (a : Answer) (w : World) → CopiesIn n r c.space plain (out_reached c q done total byte a w)
-unfolding out_reached
 none_reached n r plain c q done total byte told.Ok w = λ va value same. absurd cc
-none_reached n r plain c q done total byte (told.Absent cause) w = λ va value same. absurd cc
-none_reached n r plain c q done total byte (told.Word x) w = λ va value same. absurd cc
-none_reached n r plain c q done total byte told.Stopped w = λ va value same. absurd cc
+none_reached n r plain c q done total byte _ w = λ va value same. absurd cc
 
 none_got : (n : ℕ) (r : Resources) (plain : PageId → List ℕ) (c : Context) (q : PageId) (done total : ℕ) (a : Answer)
     (w : World) → CopiesIn n r c.space plain (out_got c q done total a w)
-unfolding out_got
 none_got n r plain c q done total (told.Word byte) w = none_reached n r plain c q done total byte _ _
-none_got n r plain c q done total (told.Absent cause) w = λ va value same. absurd cc
-none_got n r plain c q done total told.Ok w = λ va value same. absurd cc
-none_got n r plain c q done total told.Stopped w = λ va value same. absurd cc
+none_got n r plain c q done total _ w = λ va value same. absurd cc
 
 none_placed : (n : ℕ) (r : Resources) (plain : PageId → List ℕ) (c : Context) (done total : ℕ) (place : Option PageId)
     (cloaked : Bool) (w : World) → CopiesIn n r c.space plain (out_placed c done total place cloaked w)
-unfolding out_placed
 none_placed n r plain c done total None cloaked w = λ va value same. absurd cc
 none_placed n r plain c done total (Some q) true w = λ va value same. absurd cc
 none_placed n r plain c done total (Some q) false w = none_got n r plain c q done total _ _
 
 none_out_step : (all : Bool) (n : ℕ) (r : Resources) (plain : PageId → List ℕ) (c : Context) (done total : ℕ)
     (w : World) → CopiesIn n r c.space plain (out_step all n r c done total w)
-unfolding out_step
 none_out_step true n r plain c done total w = λ va value same. absurd cc
 none_out_step false n r plain c done total w = none_placed n r plain c done total _ _ w
 

@@ -37,11 +37,10 @@ changes_script : {d : ℕ} {A : Type 0} (C : A → Type 0) (s : Script d A) (w :
     Changed C w (played s w)
 unfolding ChangesOnly
 changes_script C (Gives a) w only = record { only = OnlyChanges-refl w; end = only }
-changes_script C (Asks question more) w only = absurd only
-changes_script C (Reads q own at width more) w only = absurd only
 changes_script C (Changes change more) w only =
     let rest = changes_script C more (changed change w).world only in
     record { only = OnlyChanges-trans _ _ _ (changes_changed change w) rest.only; end = rest.end }
+changes_script C _ w only = absurd only
 
 -- a script shows what it found, and if it was stopped, which no end after a change says, it has changed nothing
 shows_script : {count d : ℕ} {A : Type 0} (C P : A → Type 0) → ((a : A) → C a → P a → ⊥) → (s : Script d A)

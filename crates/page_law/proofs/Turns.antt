@@ -10,7 +10,7 @@ use Rattle.cloak_model.specs.declared.inside.Went.TheVariants as went
 use Rattle.cloak_model.specs.declared.item.Item.{Item}
 use Rattle.cloak_model.specs.declared.item.Item.TheVariants as item
 use Rattle.cloak_model.specs.declared.outcome.Kernel.{Kernel}
-use Rattle.cloak_model.specs.declared.outcome.Kernel.TheVariants.{Stay, Put, Halt, Resume, Trapped}
+use Rattle.cloak_model.specs.declared.outcome.Kernel.TheVariants.{Resume}
 use Rattle.cloak_model.specs.Ahead.{settled_step, made_after}
 use Rattle.cloak_model.specs.Asking.{Told}
 use Rattle.cloak_model.specs.Beginning.{Beginning}
@@ -136,13 +136,10 @@ outside_ends : {count : ℕ} (m : CloakedMemory) (j : Joint) (number : ℕ) (ite
     Uses count m items j.memory →
     let t = outside_ended j number items k in Uses count m t.items t.joint.memory
 unfolding outside_ended
-outside_ends m j number items Stay u = u
-outside_ends m j number items Trapped u = u
-outside_ends m j number items (Put b) u = u
-outside_ends m j number items (Halt value) u = u
 outside_ends m j number items (Resume ctx answer) u =
     let r = resumes_silently j number _ ctx answer in
     uses_more m j.memory _ items _ u r.items r.same
+outside_ends m j number items _ u = u
 
 outside_uses : {count : ℕ} (j : Joint) (number : ℕ) (h : Hart) → TurnUses count j (outside_step j number h)
 unfolding outside_step after_outside settled_step made_after
@@ -158,13 +155,11 @@ silent_leave s = record { counts = λ n. refl; shows = λ programs from plain n.
 domain_ends : {count : ℕ} (m : CloakedMemory) (j : Joint) (number : ℕ) (h : Hart) (d : ℕ) (w : World) (how : Went) →
     Uses count m (items_of w) j.memory → let t = domain_ended j number h d w how in Uses count m t.items t.joint.memory
 unfolding domain_ended
-domain_ends m j number h d w went.Stay u = u
-domain_ends m j number h d w went.Stopped u = u
-domain_ends m j number h d w (went.Remapped space) u = u
 domain_ends m j number h d w (went.Leave s) u =
     uses_more m j.memory _ (items_of w) _ u (silent_leave s) (record { keys = refl; owed = refl; stream = refl })
 domain_ends m j number h d w (went.SpaceGone space s) u =
     uses_more m j.memory _ (items_of w) _ u (silent_leave s) (record { keys = refl; owed = refl; stream = refl })
+domain_ends m j number h d w _ u = u
 
 ended_uses : {count : ℕ} (was : CloakedMemory) (c : Cloak) (v : World) → c.items ≡ [] → ShowsFirstFrom count c v →
     Uses count c.memory (items_of v) (memory_of v was)
@@ -194,12 +189,9 @@ timer_uses m d =
 interrupt_ends : {count : ℕ} (m : CloakedMemory) (j : Joint) (number : ℕ) (h : Hart) (items : List Item) (how : Went) →
     Uses count m items j.memory → let t = interrupt_ended j number h items how in Uses count m t.items t.joint.memory
 unfolding interrupt_ended
-interrupt_ends m j number h items went.Stay u = u
-interrupt_ends m j number h items went.Stopped u = u
-interrupt_ends m j number h items (went.Remapped space) u = u
 interrupt_ends m j number h items (went.Leave s) u =
     uses_more m j.memory _ items _ u (silent_leave s) (record { keys = refl; owed = refl; stream = refl })
-interrupt_ends m j number h items (went.SpaceGone space s) u = u
+interrupt_ends m j number h items _ u = u
 
 after_interrupt_uses : {count : ℕ} (j : Joint) (number : ℕ) (h : Hart) (d : ℕ) (was : Domain) (step : Stepped) →
     TurnUses count j (after_interrupt j number h d was step)

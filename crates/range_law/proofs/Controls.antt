@@ -88,11 +88,9 @@ suspended_fits c fits = record { regs = fits.regs; pc = fits.pc }
 -- How a step ended.
 
 abbrev pub WentFits : Went → Type 0
-WentFits went.Stay = Unit {0}
 WentFits (went.Leave s) = IsItem (item.Leave s)
-WentFits went.Stopped = Unit {0}
 WentFits (went.SpaceGone space s) = IsItem (item.Leave s)
-WentFits (went.Remapped space) = Unit {0}
+WentFits _ = Unit {0}
 
 pub record SteppedFits (s : Stepped) : Type 0 where
   pub control : ControlFits s.control
@@ -116,9 +114,7 @@ stopped_fits d fits = record { control = fits; ended = tt }
 
 fault_fits : (f : MapFault) → IsWord (fault_word f)
 fault_fits fault.Full = omega arith
-fault_fits fault.BadArg = omega arith
-fault_fits fault.Overlap = omega arith
-fault_fits fault.NotFound = omega arith
+fault_fits _ = omega arith
 
 answer_fits : (c : Context) (value : ℕ) → ContextFits c → IsWord value → ContextFits (with_answer c value)
 answer_fits c value fits here = set_word_fits (moved_on c) 10 value (moved_on_fits c fits) here
@@ -276,9 +272,8 @@ forked_fits c slot new r contexts here few slots = let same = copies_count new r
 }
 
 abbrev ForkAnswerFits : Result (Option CtxId) MapFault → Type 0
-ForkAnswerFits (Err f) = Unit {0}
-ForkAnswerFits (Ok None) = Unit {0}
 ForkAnswerFits (Ok (Some ctx)) = IsWord ctx.0
+ForkAnswerFits _ = Unit {0}
 
 record ForkFits (f : Fork) : Type 0 where
   pub answer : ForkAnswerFits f.answer
@@ -426,11 +421,9 @@ exit_fits slot c d low fits here = shown_fits c _ why.Exit here (number_fits d.n
 end_told_fits : (slot : ℕ) (c : Context) (d : Control) (e : Ended) (d' : Control) → slot < 8 → ControlFits d →
     ContextFits c → ControlFits d' → SteppedFits (end_told slot c d e d')
 unfolding end_told
-end_told_fits slot c d ends.Kept d' low fits here fits' =
-    record { control = fits'; ended = exit_fits slot c d low fits here }
-end_told_fits slot c d (ends.SpaceGone space) d' low fits here fits' =
-    record { control = fits'; ended = exit_fits slot c d low fits here }
 end_told_fits slot c d ends.Stopped d' low fits here fits' = stopped_fits d fits
+end_told_fits slot c d _ d' low fits here fits' =
+    record { control = fits'; ended = exit_fits slot c d low fits here }
 
 exit_call_told : (slot : ℕ) (c : Context) (d : Control) (w : World) → slot < 8 → ControlFits d → ContextFits c →
     WorldFits w → ToldFits SteppedFits (exit_call slot c d w)
@@ -527,16 +520,14 @@ instruction_ended_told slot d c ran.Stopped w low fits here e world =
 copy_ended_fits : (slot : ℕ) (d : Domain) (c : Context) (e : Copied) → slot < 8 → ControlFits d.control →
     ContextFits c → CopiedFits e → DomainStepFits (copy_ended slot d c e)
 unfolding copy_ended
-copy_ended_fits slot d c copied.Going low fits here e = step_of d _ (stays_fits slot c d.control fits here)
 copy_ended_fits slot d c copied.CallReady low fits here e =
     step_of d _ (leaves_fits slot c why.Call d.control low fits here tt)
-copy_ended_fits slot d c copied.Done low fits here e = step_of d _ (stays_fits slot c d.control fits here)
 copy_ended_fits slot d c (copied.Absent cause address) low fits here e =
     step_of d _ (leaves_fits slot c (why.Trap cause address) d.control low fits here e)
 copy_ended_fits slot d c copied.Stopped low fits here e = step_of d _ (stopped_fits d.control fits)
-copy_ended_fits slot d c copied.Refused low fits here e = step_of d _ (stays_fits slot c d.control fits here)
 copy_ended_fits slot d c (copied.Loaded address byte) low fits here e =
     step_of (with_load address byte d) _ (stays_fits slot c d.control fits here)
+copy_ended_fits slot d c _ low fits here e = step_of d _ (stays_fits slot c d.control fits here)
 
 -- a word was written in
 
@@ -627,10 +618,8 @@ interrupt_fits slot d low fits = interrupt_if_fits _ slot d low fits (slot_fits 
 answer_in_fits : (phase : Phase) (answer : ℕ) (c : Context) → ContextFits c → IsWord answer →
     ContextFits (answer_in phase answer c)
 unfolding answer_in
-answer_in_fits Plain answer c fits here = fits
-answer_in_fits (CopyIn done) answer c fits here = fits
 answer_in_fits Waiting answer c fits here = finish_call_fits answer c fits here
-answer_in_fits (CopyOut done total) answer c fits here = fits
+answer_in_fits _ answer c fits here = fits
 
 taken_fits : (slot answer : ℕ) (o : Option Context) (d : Control) → ControlFits d → SlotFits o → IsWord answer →
     ControlFits (answer_taken slot answer o d)

@@ -111,9 +111,8 @@ EffectFits (does.Jump rd to target) = IsWord to × IsWord target
 EffectFits (does.Go target) = IsWord target
 EffectFits (does.Load rd va width is_signed) = IsWord va × IsWidth width
 EffectFits (does.Store va width value) = IsWord va × IsWidth width
-EffectFits does.System = Unit {0}
-EffectFits does.Nothing = Unit {0}
 EffectFits (does.Raise cause value) = IsWord cause × IsWord value
+EffectFits _ = Unit {0}
 
 jump_fits : (rd pc target : ℕ) → IsWord target → EffectFits (jump rd pc target)
 jump_fits rd pc target fits = either EffectFits (target % 4 == 0) _ _ (rest_below _, fits) (omega arith, fits)

@@ -147,11 +147,8 @@ ticked_fits h fits =
 -- How a step ended.
 
 abbrev pub EndingFits : Kernel → Type 0
-EndingFits ending.Stay = Unit {0}
-EndingFits ending.Trapped = Unit {0}
-EndingFits (ending.Put b) = Unit {0}
-EndingFits (ending.Halt value) = Unit {0}
 EndingFits (ending.Resume ctx answer) = IsWord ctx × IsWord answer
+EndingFits _ = Unit {0}
 
 pub record MadeFits (m : SteppedHart) : Type 0 where
   pub hart : HartFits m.hart

@@ -29,11 +29,13 @@ use Rattle.cloak_model.specs.declared.outcome.Effect.{Effect}
 use Rattle.cloak_model.specs.declared.outcome.Effect.TheVariants as does
 use Rattle.cloak_model.specs.AskPages.{ask_reach, ask_read, ask_write, ask_get, ask_put}
 use Rattle.cloak_model.specs.Asking.{Asking, answered, then_ask}
-use Rattle.cloak_model.specs.Calls.{buffer, area, call_length, call_number, takes_bytes, gives_bytes, is_in_bounds, is_good, BeginsCall, copy_begin, call_begin, begin_call, Copy, copy_ends, copy_refused, byte_address, in_put, in_reached, in_placed, in_step, copy_in_step, out_reached, out_got, out_placed, out_step, copy_out_step, finish_call, is_cloaked}
+use Rattle.cloak_model.specs.Calls.{buffer, area, call_length, call_number, takes_bytes, gives_bytes, is_good, BeginsCall, begin_call, Copy, copy_ends, copy_refused, byte_address, copy_in_step, copy_out_step, finish_call, is_cloaked}
+use Rattle.cloak_model.proofs.CallParts.{copy_begin, call_begin, in_put, in_reached, in_placed, in_step, out_reached, out_got, out_placed, out_step}
 use Rattle.cloak_model.specs.Contexts.{Context, set_word, moved_on, in_phase, new_context, has_buffer, call_arguments, no_arguments, is_about_address, shown_address, shown, word_of_page}
 use Rattle.cloak_model.specs.Effect.{IsWidth, effect}
 use Rattle.cloak_model.specs.KernelStep.{atomic_kind, misaligned}
-use Rattle.cloak_model.specs.InsideStep.{AfterInstruction, made_writing, ends_as, goes_on, traps, stops, loaded_inside, load_reached, load_got, load_inside, store_reached, store_put, store_inside, system_inside, done_inside, decoded_inside, executed_inside, fetched_inside, fetch, instruction_inside, conditional_inside, atomic_granted, atomic_reached, uncloaked, atomic_placed, atomic_inside}
+use Rattle.cloak_model.specs.InsideStep.{AfterInstruction, made_writing, ends_as, goes_on, traps, stops, load_inside, store_inside, system_inside, done_inside, decoded_inside, fetch, instruction_inside, atomic_granted, uncloaked, atomic_placed, atomic_inside}
+use Rattle.cloak_model.proofs.InsideParts.{loaded_inside, load_reached, load_got, store_reached, store_put, executed_inside, fetched_inside, conditional_inside, atomic_reached}
 use Rattle.cloak_model.specs.Record.{IsItem, IsWord}
 use Rattle.cloak_model.specs.Resources.{Resources, page_at}
 use Rattle.cloak_model.specs.World.{World}
@@ -74,8 +76,7 @@ new_context_fits space pc sp argument p s a = record {
 
 abbrev pub WhyFits : Why → Type 0
 WhyFits (why.Trap cause address) = IsWord cause × IsWord address
-WhyFits why.Call = Unit {0}
-WhyFits why.Exit = Unit {0}
+WhyFits _ = Unit {0}
 
 page_of_fits : (n : ℕ) → IsWord n → IsWord (n / 4096 * 4096)
 page_of_fits n fits = omega (arith, fits)
@@ -111,11 +112,8 @@ shown_fits c ctx why.Exit fits n w =
 -- One instruction.
 
 abbrev pub RanFits : Ran → Type 0
-RanFits ran.Stay = Unit {0}
-RanFits (ran.Loaded address value) = Unit {0}
 RanFits (ran.Trap cause address) = IsWord cause × IsWord address
-RanFits ran.Ecall = Unit {0}
-RanFits ran.Stopped = Unit {0}
+RanFits _ = Unit {0}
 
 pub record InstructionFits (a : AfterInstruction) : Type 0 where
   pub context : ContextFits a.context
@@ -141,7 +139,6 @@ writes_told c e place w fits ends world = record { answer = record { context = f
 
 loaded_told : (c : Context) (rd va width : ℕ) (is_signed : Bool) (value : ℕ) (w : World) → ContextFits c →
     IsWord value → WorldFits w → ToldFits InstructionFits (loaded_inside c rd va width is_signed value w)
-unfolding loaded_inside
 loaded_told c rd va width is_signed value w fits here world =
     ends_told _ (ran.Loaded va value) w
     (moved_on_fits _ (set_word_fits c rd _ fits (extended_below is_signed width value here))) tt world
@@ -149,7 +146,6 @@ loaded_told c rd va width is_signed value w fits here world =
 load_reached_told : (c : Context) (q : PageId) (rd va width : ℕ) (is_signed : Bool) (a : Answer) (w : World) →
     ContextFits c → IsWord va → AnswerFits a → WorldFits w →
     ToldFits InstructionFits (load_reached c q rd va width is_signed a w)
-unfolding load_reached
 load_reached_told c q rd va width is_signed told.Ok w fits at a world =
     then_fits IsWord InstructionFits (ask_read q (va % 4096) width) (loaded_inside c rd va width is_signed) w
     (read_told q (va % 4096) width w world)
@@ -160,12 +156,10 @@ load_reached_told c q rd va width is_signed told.Stopped w fits at a world = sto
 
 load_got_told : (c : Context) (rd va width : ℕ) (is_signed : Bool) (a : Answer) (w : World) → ContextFits c →
     IsWord va → AnswerFits a → WorldFits w → ToldFits InstructionFits (load_got c rd va width is_signed a w)
-unfolding load_got
 load_got_told c rd va width is_signed (told.Word value) w fits at a world =
     goes_told _ w (set_word_fits c rd _ fits (extended_below is_signed width value a)) world
 load_got_told c rd va width is_signed (told.Absent cause) w fits at a world = traps_told c cause va w fits a at world
-load_got_told c rd va width is_signed told.Ok w fits at a world = stops_told c w fits world
-load_got_told c rd va width is_signed told.Stopped w fits at a world = stops_told c w fits world
+load_got_told c rd va width is_signed _ w fits at a world = stops_told c w fits world
 
 load_told : (c : Context) (rd va width : ℕ) (is_signed : Bool) (place : Option PageId) (w : World) → ContextFits c →
     IsWord va → IsWidth width → WorldFits w → ToldFits InstructionFits (load_inside c rd va width is_signed place w)
@@ -180,7 +174,6 @@ load_told c rd va width is_signed None w fits at is world =
 
 store_reached_told : (c : Context) (q : PageId) (va width value : ℕ) (a : Answer) (w : World) → ContextFits c →
     IsWord va → AnswerFits a → WorldFits w → ToldFits InstructionFits (store_reached c q va width value a w)
-unfolding store_reached
 store_reached_told c q va width value told.Ok w fits at a world =
     then_fits Anything InstructionFits (ask_write q (va % 4096) width value)
     (λ done. answered (made_writing (moved_on c) ran.Stay (word_of_page q va))) w
@@ -192,11 +185,9 @@ store_reached_told c q va width value told.Stopped w fits at a world = stops_tol
 
 store_put_told : (c : Context) (va : ℕ) (a : Answer) (w : World) → ContextFits c → IsWord va → AnswerFits a →
     WorldFits w → ToldFits InstructionFits (store_put c va a w)
-unfolding store_put
 store_put_told c va told.Ok w fits at a world = goes_told c w fits world
 store_put_told c va (told.Absent cause) w fits at a world = traps_told c cause va w fits a at world
-store_put_told c va (told.Word value) w fits at a world = stops_told c w fits world
-store_put_told c va told.Stopped w fits at a world = stops_told c w fits world
+store_put_told c va _ w fits at a world = stops_told c w fits world
 
 store_told : (c : Context) (va width value : ℕ) (place : Option PageId) (w : World) → ContextFits c → IsWord va →
     IsWidth width → WorldFits w → ToldFits InstructionFits (store_inside c va width value place w)
@@ -215,7 +206,6 @@ marked_fits c mark fits = record { regs = fits.regs; pc = fits.pc }
 
 conditional_told : (reserved : Bool) (c : Context) (rd : ℕ) (q : PageId) (va operand : ℕ) (w : World) → ContextFits c →
     WorldFits w → ToldFits InstructionFits (conditional_inside reserved c rd q va operand w)
-unfolding conditional_inside
 conditional_told true c rd q va operand w fits world =
     let c' : Context = record (set_word c rd 0) { mark = None } in
     let fits' = marked_fits (set_word c rd 0) None (set_word_fits c rd 0 fits (omega arith)) in
@@ -261,12 +251,10 @@ granted_told c rd op q va operand w fits world = combined_told c rd op q va oper
 atomic_reached_told : (c : Context) (rd : ℕ) (op : AtomicOp) (q : PageId) (va operand : ℕ) (a : Answer) (w : World) →
     ContextFits c → IsWord va → AnswerFits a → WorldFits w →
     ToldFits InstructionFits (atomic_reached c rd op q va operand a w)
-unfolding atomic_reached
 atomic_reached_told c rd op q va operand told.Ok w fits at a world = granted_told c rd op q va operand w fits world
 atomic_reached_told c rd op q va operand (told.Absent cause) w fits at a world =
     traps_told c cause va w fits a at world
-atomic_reached_told c rd op q va operand (told.Word value) w fits at a world = stops_told c w fits world
-atomic_reached_told c rd op q va operand told.Stopped w fits at a world = stops_told c w fits world
+atomic_reached_told c rd op q va operand _ w fits at a world = stops_told c w fits world
 
 uncloaked_fits : (op : AtomicOp) → IsWord (uncloaked op)
 uncloaked_fits Lr = omega arith
@@ -326,13 +314,11 @@ decoded_told domain r c word (Some i) w fits f world =
 
 executed_told : (domain : ℕ) (r : Resources) (c : Context) (word : ℕ) (w : World) → ContextFits c → WorldFits w →
     ToldFits InstructionFits (executed_inside domain r c word w)
-unfolding executed_inside
 executed_told domain r c word w fits world =
     decoded_told domain r c word (instruction word) w fits (instruction_fits word) world
 
 fetched_told : (domain : ℕ) (r : Resources) (c : Context) (q : PageId) (a : Answer) (w : World) → ContextFits c →
     AnswerFits a → WorldFits w → ToldFits InstructionFits (fetched_inside domain r c q a w)
-unfolding fetched_inside
 fetched_told domain r c q told.Ok w fits a world =
     then_fits IsWord InstructionFits (ask_read q (c.pc % 4096) 4) (executed_inside domain r c) w
     (read_told q (c.pc % 4096) 4 w world) (λ word v here there. executed_told domain r c word v fits there)
@@ -356,13 +342,8 @@ instruction_told domain r c w fits world = fetch_told domain r c (page_at domain
 -- One byte of a call.
 
 abbrev pub CopiedFits : Copied → Type 0
-CopiedFits copied.Going = Unit {0}
-CopiedFits copied.CallReady = Unit {0}
-CopiedFits copied.Done = Unit {0}
 CopiedFits (copied.Absent cause address) = IsWord cause × IsWord address
-CopiedFits copied.Stopped = Unit {0}
-CopiedFits copied.Refused = Unit {0}
-CopiedFits (copied.Loaded address byte) = Unit {0}
+CopiedFits _ = Unit {0}
 
 pub record CopyFits (a : Copy) : Type 0 where
   pub context : ContextFits a.context
@@ -378,7 +359,6 @@ refused_told c w fits world =
 
 in_put_told : (c : Context) (done byte : ℕ) (a : Answer) (w : World) → ContextFits c → AnswerFits a → WorldFits w →
     ToldFits CopyFits (in_put c done byte a w)
-unfolding in_put
 in_put_told c done byte told.Ok w fits a world =
     copy_told _ (copied.Loaded (byte_address (buffer c) done) byte) w (in_phase_fits (CopyIn (done + 1)) c fits) tt world
 in_put_told c done byte (told.Absent cause) w fits a world =
@@ -388,7 +368,6 @@ in_put_told c done byte told.Stopped w fits a world = copy_told c copied.Stopped
 
 in_reached_told : (c : Context) (q : PageId) (done : ℕ) (a : Answer) (w : World) → ContextFits c → AnswerFits a →
     WorldFits w → ToldFits CopyFits (in_reached c q done a w)
-unfolding in_reached
 in_reached_told c q done told.Ok w fits a world =
     let at : ℕ = byte_address (buffer c) done % 4096 in
     let to : ℕ = byte_address (area c) done in
@@ -403,7 +382,6 @@ in_reached_told c q done told.Stopped w fits a world = copy_told c copied.Stoppe
 
 in_placed_told : (c : Context) (done : ℕ) (place : Option PageId) (cloaked : Bool) (w : World) → ContextFits c →
     WorldFits w → ToldFits CopyFits (in_placed c done place cloaked w)
-unfolding in_placed
 in_placed_told c done None cloaked w fits world = refused_told c w fits world
 in_placed_told c done (Some q) true w fits world = refused_told c w fits world
 in_placed_told c done (Some q) false w fits world =
@@ -412,7 +390,6 @@ in_placed_told c done (Some q) false w fits world =
 
 in_step_told : (over : Bool) (domain : ℕ) (r : Resources) (c : Context) (done : ℕ) (w : World) → ContextFits c →
     WorldFits w → ToldFits CopyFits (in_step over domain r c done w)
-unfolding in_step
 in_step_told true domain r c done w fits world =
     copy_told _ copied.CallReady w (in_phase_fits Waiting c fits) tt world
 in_step_told false domain r c done w fits world =
@@ -426,7 +403,6 @@ copy_in_told domain r c done w fits world = in_step_told (nat_le (call_length c)
 
 out_reached_told : (c : Context) (q : PageId) (done total byte : ℕ) (a : Answer) (w : World) → ContextFits c →
     AnswerFits a → WorldFits w → ToldFits CopyFits (out_reached c q done total byte a w)
-unfolding out_reached
 out_reached_told c q done total byte told.Ok w fits a world =
     let at : ℕ = byte_address (buffer c) done % 4096 in
     let made : Copy = record {
@@ -446,18 +422,15 @@ out_reached_told c q done total byte told.Stopped w fits a world = copy_told c c
 
 out_got_told : (c : Context) (q : PageId) (done total : ℕ) (a : Answer) (w : World) → ContextFits c → AnswerFits a →
     WorldFits w → ToldFits CopyFits (out_got c q done total a w)
-unfolding out_got
 out_got_told c q done total (told.Word byte) w fits a world =
     then_fits AnswerFits CopyFits (ask_reach q (byte_address (buffer c) done) Store) (out_reached c q done total byte) w
     (reach_told q _ Store w world) (λ b v here there. out_reached_told c q done total byte b v fits here there)
 out_got_told c q done total (told.Absent cause) w fits a world =
     copy_told c (copied.Absent cause (byte_address (area c) done)) w fits (a, rest_below _) world
-out_got_told c q done total told.Ok w fits a world = copy_told c copied.Stopped w fits tt world
-out_got_told c q done total told.Stopped w fits a world = copy_told c copied.Stopped w fits tt world
+out_got_told c q done total _ w fits a world = copy_told c copied.Stopped w fits tt world
 
 out_placed_told : (c : Context) (done total : ℕ) (place : Option PageId) (cloaked : Bool) (w : World) →
     ContextFits c → WorldFits w → ToldFits CopyFits (out_placed c done total place cloaked w)
-unfolding out_placed
 out_placed_told c done total None cloaked w fits world = refused_told c w fits world
 out_placed_told c done total (Some q) true w fits world = refused_told c w fits world
 out_placed_told c done total (Some q) false w fits world =
@@ -466,7 +439,6 @@ out_placed_told c done total (Some q) false w fits world =
 
 out_step_told : (over : Bool) (domain : ℕ) (r : Resources) (c : Context) (done total : ℕ) (w : World) →
     ContextFits c → WorldFits w → ToldFits CopyFits (out_step over domain r c done total w)
-unfolding out_step
 out_step_told true domain r c done total w fits world = copy_told _ copied.Done w (in_phase_fits Plain c fits) tt world
 out_step_told false domain r c done total w fits world =
     out_placed_told c done total (page_at domain r c.space (byte_address (buffer c) done))
@@ -483,16 +455,14 @@ abbrev BeginsFit : BeginsCall → Type 0
 BeginsFit b = ContextFits b.context
 
 copy_begin_fits : (good : Bool) (c : Context) → ContextFits c → BeginsFit (copy_begin good c)
-unfolding copy_begin
 copy_begin_fits false c fits = fits
 copy_begin_fits true c fits =
     either BeginsFit (takes_bytes (call_number c)) _ _ (in_phase_fits (CopyIn 0) c fits) (in_phase_fits Waiting c fits)
 
 call_begin_fits : (with_buffer : Bool) (r : Resources) (c : Context) → ContextFits c →
     BeginsFit (call_begin with_buffer r c)
-unfolding call_begin
 call_begin_fits false r c fits = in_phase_fits Waiting c fits
-call_begin_fits true r c fits = copy_begin_fits (is_good (is_in_bounds c) r c) c fits
+call_begin_fits true r c fits = copy_begin_fits (is_good r c) c fits
 
 pub begin_call_fits : (r : Resources) (c : Context) → ContextFits c → ContextFits (begin_call r c).context
 unfolding begin_call

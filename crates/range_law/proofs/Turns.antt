@@ -32,7 +32,7 @@ use Rattle.cloak_model.specs.Leaving.{leave}
 use Rattle.cloak_model.specs.Parts.{Joint}
 use Rattle.cloak_model.specs.Record.{IsItem, IsWord}
 use Rattle.cloak_model.specs.Resuming.{AfterResume, with_roots, by_root, by_context, by_domain, resume}
-use Rattle.cloak_model.specs.World.{World, Cloak, Flat, Cloaked, Alone, items_of}
+use Rattle.cloak_model.specs.World.{World, Cloak, Flat, Cloaked, items_of}
 use Rattle.settling_ahead.proofs.Touching.{writes_touched_alone}
 use Rattle.kernel_isolation.proofs.Accounts.{is_joint, ram_seen}
 use Rattle.kernel_isolation.proofs.StepAccounts.{accounts_domain_step}
@@ -202,12 +202,6 @@ root_gone s m fits =
 went_fits : (j : Joint) (number : ℕ) (h : Hart) (d : ℕ) (w : World) (how : Went) → JointFits j → HartFits h →
     AllByRecursion IsItem (items_of w) → WentFits how → TurnFits (domain_ended j number h d w how)
 unfolding domain_ended
-went_fits j number h d w went.Stay fits here all ends =
-    record { joint = with_hart_fits number h j fits here; items = all }
-went_fits j number h d w went.Stopped fits here all ends =
-    record { joint = with_hart_fits number h j fits here; items = all }
-went_fits j number h d w (went.Remapped space) fits here all ends =
-    record { joint = with_hart_fits number h j fits here; items = all }
 went_fits j number h d w (went.Leave s) fits here all ends = record {
   joint = left_joint number (leave h s) j fits (leave_fits h s here ends.1);
   items = left_fits j number h (items_of w) s fits here all ends;
@@ -222,16 +216,16 @@ went_fits j number h d w (went.SpaceGone space s) fits here all ends = record {
       }) (leave_fits h s here ends.1);
   items = left_fits j number h (items_of w) s fits here all ends;
 }
+went_fits j number h d w _ fits here all ends =
+    record { joint = with_hart_fits number h j fits here; items = all }
 
 memory_of_fits : (w : World) (m : CloakedMemory) → is_joint w ≡ true → WorldFits w → MemoryFits (memory_of w m)
-memory_of_fits (Flat ram) m form fits = absurd (false≢true form)
 memory_of_fits (Cloaked c) m form fits = fits.memory
-memory_of_fits (Alone h) m form fits = absurd (false≢true form)
+memory_of_fits _ m form fits = absurd (false≢true form)
 
 items_of_fits : (w : World) → WorldFits w → AllByRecursion IsItem (items_of w)
-items_of_fits (Flat ram) fits = tt
 items_of_fits (Cloaked c) fits = fits.items
-items_of_fits (Alone h) fits = tt
+items_of_fits _ fits = tt
 
 told_fits : (j : Joint) (number : ℕ) (h : Hart) (d : ℕ) (told : Told DomainStepped) → JointFits j → HartFits h →
     ToldFits DomainStepFits told → is_joint told.world ≡ true → TurnFits (after_domain_step j number h d told)
@@ -247,17 +241,11 @@ told_fits j number h d told fits here made form =
 interrupted_fits : (j : Joint) (number : ℕ) (h : Hart) (items : List Item) (how : Went) → JointFits j → HartFits h →
     AllByRecursion IsItem items → WentFits how → TurnFits (interrupt_ended j number h items how)
 unfolding interrupt_ended
-interrupted_fits j number h items went.Stay fits here all ends =
-    record { joint = with_hart_fits number h j fits here; items = all }
-interrupted_fits j number h items went.Stopped fits here all ends =
-    record { joint = with_hart_fits number h j fits here; items = all }
-interrupted_fits j number h items (went.Remapped space) fits here all ends =
-    record { joint = with_hart_fits number h j fits here; items = all }
 interrupted_fits j number h items (went.Leave s) fits here all ends = record {
   joint = left_joint number (leave h s) j fits (leave_fits h s here ends.1);
   items = left_fits j number h items s fits here all ends;
 }
-interrupted_fits j number h items (went.SpaceGone space s) fits here all ends =
+interrupted_fits j number h items _ fits here all ends =
     record { joint = with_hart_fits number h j fits here; items = all }
 
 after_interrupt_fits : (j : Joint) (number : ℕ) (h : Hart) (d : ℕ) (was : Domain) (step : Stepped) → JointFits j →

@@ -135,13 +135,11 @@ written_fits i (Alone h) fits here = absurd fits
 
 access_fault_fits : (kind : Kind) → IsWord (access_fault kind)
 access_fault_fits Fetch = omega arith
-access_fault_fits Load = omega arith
-access_fault_fits Store = omega arith
+access_fault_fits _ = omega arith
 
 page_fault_fits : (kind : Kind) → IsWord (page_fault kind)
 page_fault_fits Fetch = omega arith
-page_fault_fits Load = omega arith
-page_fault_fits Store = omega arith
+page_fault_fits _ = omega arith
 
 abbrev CauseFits : Walk → Type 0
 CauseFits (Ok walked) = Unit {0}
@@ -396,16 +394,14 @@ fill_told f bytes w fits here = record { answer = tt; world = filled_fits f byte
 -- Answers to a program.
 
 abbrev pub AnswerFits : Answer → Type 0
-AnswerFits answer.Ok = Unit {0}
 AnswerFits (answer.Absent cause) = IsWord cause
 AnswerFits (answer.Word value) = IsWord value
-AnswerFits answer.Stopped = Unit {0}
+AnswerFits _ = Unit {0}
 
 answer_item_fits : (d : ℕ) (a : Answer) → AnswerFits a → IsItem (answer_item d a)
-answer_item_fits d answer.Ok fits = tt
 answer_item_fits d (answer.Absent cause) fits = fits
 answer_item_fits d (answer.Word value) fits = fits
-answer_item_fits d answer.Stopped fits = tt
+answer_item_fits d _ fits = tt
 
 replies_told : (a : Answer) (w : World) → AnswerFits a → WorldFits w → ToldFits AnswerFits (replies a w)
 unfolding replies

@@ -26,16 +26,7 @@ view_refused : {S O : Type 0} (asked : spec.Asked) (r : Refusal) (before after :
 view_refused asked (refusal.BadBundle fault) before after is refused = refused
 view_refused asked refusal.ReadFault before after is refused = inl refused
 view_refused asked refusal.NoMemory before after is refused = refused
-view_refused asked (refusal.Usage fault) before after is refused = absurd is
-view_refused asked refusal.NoKey before after is refused = absurd is
-view_refused asked refusal.NoPageDraw before after is refused = absurd is
-view_refused asked refusal.NoSuchDomain before after is refused = absurd is
-view_refused asked refusal.ShortSecret before after is refused = absurd is
-view_refused asked (refusal.BadStore fault) before after is refused = absurd is
-view_refused asked (refusal.NoRoom domain) before after is refused = absurd is
-view_refused asked (refusal.BadState fault) before after is refused = absurd is
-view_refused asked (refusal.ChangedDomain domain) before after is refused = absurd is
-view_refused asked (refusal.ChangedFrame frame) before after is refused = absurd is
+view_refused asked _ before after is refused = absurd is
 
 pub view_refuses : {S O : Type 0} {asked : spec.Asked} {r : Refusal} {before after : Outside S O} {given : Status} →
     IsUnread r → NoRun asked r before.files after.files → before.output.faults < 2 ^ 64 - 1 →
@@ -60,16 +51,7 @@ pub unread_or_none : (r : Refusal) → IsUnread r → IsUnreadOrNone r
 unread_or_none (refusal.BadBundle fault) is = tt
 unread_or_none refusal.ReadFault is = tt
 unread_or_none refusal.NoMemory is = tt
-unread_or_none (refusal.Usage fault) is = absurd is
-unread_or_none refusal.NoKey is = absurd is
-unread_or_none refusal.NoPageDraw is = absurd is
-unread_or_none refusal.ShortSecret is = absurd is
-unread_or_none (refusal.BadStore fault) is = absurd is
-unread_or_none (refusal.NoRoom domain) is = absurd is
-unread_or_none (refusal.BadState fault) is = absurd is
-unread_or_none (refusal.ChangedDomain domain) is = absurd is
-unread_or_none (refusal.ChangedFrame frame) is = absurd is
-unread_or_none refusal.NoSuchDomain is = absurd is
+unread_or_none _ is = absurd is
 
 solo_refused : {S O : Type 0} (asked : spec.Asked) (r : Refusal) (before after : Outside S O) → IsUnreadOrNone r →
     IsRefused asked (status_of_refusal r) before after → SoloAnswers asked before after (status_of_refusal r)
@@ -77,15 +59,7 @@ solo_refused asked (refusal.BadBundle fault) before after is refused = refused
 solo_refused asked refusal.ReadFault before after is refused = inl refused
 solo_refused asked refusal.NoMemory before after is refused = refused
 solo_refused asked refusal.NoSuchDomain before after is refused = refused
-solo_refused asked (refusal.Usage fault) before after is refused = absurd is
-solo_refused asked refusal.NoKey before after is refused = absurd is
-solo_refused asked refusal.NoPageDraw before after is refused = absurd is
-solo_refused asked refusal.ShortSecret before after is refused = absurd is
-solo_refused asked (refusal.BadStore fault) before after is refused = absurd is
-solo_refused asked (refusal.NoRoom domain) before after is refused = absurd is
-solo_refused asked (refusal.BadState fault) before after is refused = absurd is
-solo_refused asked (refusal.ChangedDomain domain) before after is refused = absurd is
-solo_refused asked (refusal.ChangedFrame frame) before after is refused = absurd is
+solo_refused asked _ before after is refused = absurd is
 
 pub solo_refuses : {S O : Type 0} {asked : spec.Asked} {r : Refusal} {before after : Outside S O} {given : Status} →
     IsUnreadOrNone r → NoRun asked r before.files after.files → before.output.faults < 2 ^ 64 - 1 →
@@ -137,17 +111,13 @@ breaks_since {S} {O} {unfit} {text} {name} before mid after held reading output 
 
 view_has : {S O : Type 0} (asked : spec.Asked) (before after : Outside S O) (e : Ending) →
     HasView asked (status_of_ending e) before after → ViewAnswers asked before after (status_of_ending e)
-view_has asked before after ending.Whole has = has
-view_has asked before after (ending.Unfit step) has = has
-view_has asked before after (ending.Fault fault) has = has
 view_has asked before after ending.Unread has = inr has
+view_has asked before after _ has = has
 
 solo_has : {S O : Type 0} (asked : spec.Asked) (before after : Outside S O) (e : Ending) →
     HasSolo asked (status_of_ending e) before after → SoloAnswers asked before after (status_of_ending e)
-solo_has asked before after ending.Whole has = has
-solo_has asked before after (ending.Unfit step) has = has
-solo_has asked before after (ending.Fault fault) has = has
 solo_has asked before after ending.Unread has = inr has
+solo_has asked before after _ has = has
 
 pub view_answers : {S O : Type 0} {asked : spec.Asked} {name : List ℕ} {bundle : Bundle} {before mid after : Outside S O}
     {given : Status} → AsksView asked before.files.held name bundle → SameFiles before.files.held mid.files.held →

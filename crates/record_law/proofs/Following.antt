@@ -31,34 +31,13 @@ pub record Succeeds (s : Stage) (i : Item) : Type 0 where
 
 -- the number that is read is the item's
 pub numbered_same : (s : Stage) (i : Item) (n : ℕ) → IsNumbered i n → is_numbered s (tag_at i) n ≡ is_numbered s (tag_at i) (number_of i)
-numbered_same s (item.Cipher frame bytes) n e = refl
-numbered_same s (item.Put address width value) n e = refl
-numbered_same s (item.Leave x) n e = refl
 numbered_same s (item.Step number) n e = rw e refl
 numbered_same s (item.Close steps) n e = rw e refl
-numbered_same s item.End n e = refl
-numbered_same s (item.Ok domain) n e = refl
-numbered_same s (item.Absent domain cause) n e = refl
-numbered_same s (item.Word domain value) n e = refl
-numbered_same s (item.Timer domain) n e = refl
-numbered_same s (item.Resume domain ctx answer) n e = refl
-numbered_same s (item.Stopped domain) n e = refl
-numbered_same s (item.Ended domain) n e = refl
+numbered_same s _ n e = refl
 
 pub tag_again : (t : Tag) → tag_of (byte_of t) ≡ Some t
 tag_again tag.Cipher = refl
-tag_again tag.Put = refl
-tag_again tag.Leave = refl
-tag_again tag.Step = refl
-tag_again tag.Close = refl
-tag_again tag.End = refl
-tag_again tag.Ok = refl
-tag_again tag.Absent = refl
-tag_again tag.Word = refl
-tag_again tag.Timer = refl
-tag_again tag.Resume = refl
-tag_again tag.Stopped = refl
-tag_again tag.Ended = refl
+tag_again _ = refl
 
 abbrev some : Tag → Option Tag
 some t = Some t
@@ -82,10 +61,8 @@ tag_known b t e =
 
 wrong_here : (s : Stage) (t : Tag) (b : ℕ) (fields : List ℕ) → may_stand s t ≡ true → wrong_behind s (b ∷ fields) ≡ wrong_item s (tag_of b) fields
 unfolding wrong_behind
-wrong_here Opening t b fields e = refl
-wrong_here (Steps n) t b fields e = refl
-wrong_here Closing t b fields e = refl
 wrong_here Over t b fields e = absurd cc
+wrong_here _ t b fields e = refl
 
 right_item : (s : Stage) (t : Tag) (fields : List ℕ) → may_stand s t ≡ true → has_bad_width t fields ≡ false → size_of t ≤ length fields → is_numbered s t (number fields 0) ≡ true → wrong_item s (Some t) fields ≡ None
 right_item s t fields may width whole numbered =

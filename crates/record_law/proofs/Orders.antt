@@ -62,9 +62,6 @@ of_step_follows : (n : ℕ) (i : Item) → IsOfStep i → Succeeds (Steps n) i �
 of_step_follows n (item.Cipher frame bytes) is = (follows _ (item.Cipher frame bytes) refl refl, refl)
 of_step_follows n (item.Put address width value) is = (follows _ (item.Put address width value) refl refl, refl)
 of_step_follows n (item.Leave x) is = (follows _ (item.Leave x) refl refl, refl)
-of_step_follows n (item.Step number) is = absurd cc
-of_step_follows n (item.Close steps) is = absurd cc
-of_step_follows n item.End is = absurd cc
 of_step_follows n (item.Ok domain) is = (follows _ (item.Ok domain) refl refl, refl)
 of_step_follows n (item.Absent domain cause) is = (follows _ (item.Absent domain cause) refl refl, refl)
 of_step_follows n (item.Word domain value) is = (follows _ (item.Word domain value) refl refl, refl)
@@ -72,6 +69,7 @@ of_step_follows n (item.Timer domain) is = (follows _ (item.Timer domain) refl r
 of_step_follows n (item.Resume domain ctx answer) is = (follows _ (item.Resume domain ctx answer) refl refl, refl)
 of_step_follows n (item.Stopped domain) is = (follows _ (item.Stopped domain) refl refl, refl)
 of_step_follows n (item.Ended domain) is = (follows _ (item.Ended domain) refl refl, refl)
+of_step_follows n _ is = absurd cc
 
 step_ends : (n : ℕ) (step items : List Item) → AllByRecursion IsOfStep step → Ends (Steps n) items → Ends (Steps n) (step ++ items)
 step_ends n [] items all e = e

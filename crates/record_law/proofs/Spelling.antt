@@ -95,18 +95,7 @@ fields_of (item.Ended domain) = domain ∷ []
 pub item_bytes-parts : (i : Item) → item_bytes i ≡ byte_of (tag_at i) ∷ fields_of i
 unfolding item_bytes fields_of
 item_bytes-parts (item.Cipher frame bytes) = refl
-item_bytes-parts (item.Put address width value) = refl
-item_bytes-parts (item.Leave s) = refl
-item_bytes-parts (item.Step number) = refl
-item_bytes-parts (item.Close steps) = refl
-item_bytes-parts item.End = refl
-item_bytes-parts (item.Ok domain) = refl
-item_bytes-parts (item.Absent domain cause) = refl
-item_bytes-parts (item.Word domain value) = refl
-item_bytes-parts (item.Timer domain) = refl
-item_bytes-parts (item.Resume domain ctx answer) = refl
-item_bytes-parts (item.Stopped domain) = refl
-item_bytes-parts (item.Ended domain) = refl
+item_bytes-parts _ = refl
 
 abbrev again : (n : ℕ) → n < 2 ^ 32 → from_le_bytes w32 (to_le_bytes w32 n) ≡ n
 again n lt = from_le_bytes-to_le_bytes_4 n lt
@@ -138,12 +127,7 @@ leave_is c c' v v' x x' n n' a a' b b' d d' e e' f f' g g' p1 p2 p3 p4 p5 p6 p7 
 
 leave_read : (c v x n : ℕ) (args rest : List ℕ) → length args ≡ 6 → AllByRecursion IsWord (c ∷ v ∷ x ∷ n ∷ args) → Reads (leave_of c v x n args) (fields_of (leave_of c v x n args) ++ rest) rest
 unfolding fields_of item_in
-leave_read c v x n [] rest len fits = absurd (omega arith)
 leave_read c v x n (a ∷ []) rest len fits = absurd (omega arith)
-leave_read c v x n (a ∷ b ∷ []) rest len fits = absurd (omega arith)
-leave_read c v x n (a ∷ b ∷ d ∷ []) rest len fits = absurd (omega arith)
-leave_read c v x n (a ∷ b ∷ d ∷ e ∷ []) rest len fits = absurd (omega arith)
-leave_read c v x n (a ∷ b ∷ d ∷ e ∷ f ∷ []) rest len fits = absurd (omega arith)
 leave_read c v x n (a ∷ b ∷ d ∷ e ∷ f ∷ g ∷ []) rest len fits = record {
   width = refl;
   whole = omega arith;
@@ -152,7 +136,7 @@ leave_read c v x n (a ∷ b ∷ d ∷ e ∷ f ∷ g ∷ []) rest len fits = reco
       (again d fits.1.1.1.1.1.1.0) (again e fits.1.1.1.1.1.1.1.0) (again f fits.1.1.1.1.1.1.1.1.0) (again g fits.1.1.1.1.1.1.1.1.1.0);
   behind = refl;
 }
-leave_read c v x n (a ∷ b ∷ d ∷ e ∷ f ∷ g ∷ h ∷ args) rest len fits = absurd (omega arith)
+leave_read c v x n _ rest len fits = absurd (omega arith)
 
 pub fields_read : (i : Item) (rest : List ℕ) → IsItem i → Reads i (fields_of i ++ rest) rest
 unfolding fields_of item_in
@@ -173,14 +157,10 @@ fields_read (item.Put address width value) rest fits = record {
 fields_read (item.Leave s) rest fits = leave_read s.cause s.stval s.ctx s.number s.args rest fits.0 fits.1
 fields_read (item.Step number) rest fits = record { width = refl; whole = omega arith; number = again number fits; item = ap (λ n. item.Step n) (again number fits); behind = refl }
 fields_read (item.Close steps) rest fits = record { width = refl; whole = omega arith; number = again steps fits; item = ap (λ n. item.Close n) (again steps fits); behind = refl }
-fields_read item.End rest fits = record { width = refl; whole = omega arith; number = tt; item = refl; behind = refl }
-fields_read (item.Ok domain) rest fits = record { width = refl; whole = omega arith; number = tt; item = refl; behind = refl }
 fields_read (item.Absent domain cause) rest fits = record { width = refl; whole = omega arith; number = tt; item = ap (λ n. item.Absent domain n) (again cause fits); behind = refl }
 fields_read (item.Word domain value) rest fits = record { width = refl; whole = omega arith; number = tt; item = ap (λ n. item.Word domain n) (again value fits); behind = refl }
-fields_read (item.Timer domain) rest fits = record { width = refl; whole = omega arith; number = tt; item = refl; behind = refl }
 fields_read (item.Resume domain ctx answer) rest fits = record { width = refl; whole = omega arith; number = tt; item = resume_is domain _ ctx _ answer (again ctx fits.0) (again answer fits.1); behind = refl }
-fields_read (item.Stopped domain) rest fits = record { width = refl; whole = omega arith; number = tt; item = refl; behind = refl }
-fields_read (item.Ended domain) rest fits = record { width = refl; whole = omega arith; number = tt; item = refl; behind = refl }
+fields_read _ rest fits = record { width = refl; whole = omega arith; number = tt; item = refl; behind = refl }
 
 -- ---- what is read is spelled
 
@@ -250,18 +230,6 @@ fields_spelled tag.Step fields bytes le width = record { spelled = piece 0 field
 fields_spelled tag.Close fields bytes le width = record { spelled = piece 0 fields bytes le; fits = (number_takes 0 fields bytes le).1; tag = refl; number = refl }
 fields_spelled tag.End fields bytes le width = record { spelled = refl; fits = tt; tag = refl; number = tt }
 fields_spelled tag.Ok fields bytes le width = record { spelled = cell 0 fields le; fits = tt; tag = refl; number = tt }
-fields_spelled tag.Absent fields bytes le width = record {
-  spelled = ap (λ t. get_or fields 0 0 ∷ t) (piece 1 fields bytes le) ∙ cell 0 fields (omega arith);
-  fits = (number_takes 1 fields bytes le).1;
-  tag = refl;
-  number = tt;
-}
-fields_spelled tag.Word fields bytes le width = record {
-  spelled = ap (λ t. get_or fields 0 0 ∷ t) (piece 1 fields bytes le) ∙ cell 0 fields (omega arith);
-  fits = (number_takes 1 fields bytes le).1;
-  tag = refl;
-  number = tt;
-}
 fields_spelled tag.Timer fields bytes le width = record { spelled = cell 0 fields le; fits = tt; tag = refl; number = tt }
 fields_spelled tag.Resume fields bytes le width = record {
   spelled = ap (λ t. get_or fields 0 0 ∷ (word (number fields 1) ++ t)) (piece 5 fields bytes le) ∙ ap (λ t. get_or fields 0 0 ∷ t) (piece 1 fields bytes (omega arith)) ∙ cell 0 fields (omega arith);
@@ -271,3 +239,9 @@ fields_spelled tag.Resume fields bytes le width = record {
 }
 fields_spelled tag.Stopped fields bytes le width = record { spelled = cell 0 fields le; fits = tt; tag = refl; number = tt }
 fields_spelled tag.Ended fields bytes le width = record { spelled = cell 0 fields le; fits = tt; tag = refl; number = tt }
+fields_spelled _ fields bytes le width = record {
+  spelled = ap (λ t. get_or fields 0 0 ∷ t) (piece 1 fields bytes le) ∙ cell 0 fields (omega arith);
+  fits = (number_takes 1 fields bytes le).1;
+  tag = refl;
+  number = tt;
+}

@@ -5,10 +5,10 @@ use Rattle.std.proofs.lemmas.Bool.{cases_lt, le-ltb}
 use Rattle.std.proofs.lemmas.List.{drop_at, drop-drop, take-append-drop, length-take, take_all}
 use Rattle.cloak_model.specs.declared.item.Item.{Item}
 use Rattle.cloak_model.specs.declared.record.Stage.{Stage}
-use Rattle.cloak_model.specs.declared.record.Stage.TheVariants.{Opening, Steps, Closing, Over}
+use Rattle.cloak_model.specs.declared.record.Stage.TheVariants.{Opening, Over}
 use Rattle.cloak_model.specs.declared.record.Tag.{Tag}
 use Rattle.cloak_model.specs.declared.record.Wrong.{Wrong}
-use Rattle.cloak_model.specs.declared.record.Wrong.TheVariants.{Cut, NoTag, NoNumber, More}
+use Rattle.cloak_model.specs.declared.record.Wrong.TheVariants.{Cut}
 use Rattle.cloak_model.specs.declared.fault.RecordFault.{RecordFault}
 use Rattle.cloak_model.specs.declared.fault.RecordFault.TheVariants.{Short}
 use Rattle.cloak_model.specs.Exchange.{item_bytes, record_magic, record_of}
@@ -75,9 +75,7 @@ here_inside file front from s h =
 
 sized : (size size' at at' : ℕ) (e : Wrong) → (e ≡ Cut → size ≡ size') → at ≡ at' → fault_of size at e ≡ fault_of size' at' e
 sized size size' at at' Cut same is = ap (λ k. Short k) (same refl)
-sized size size' at at' NoTag same is = rw is refl
-sized size size' at at' NoNumber same is = rw is refl
-sized size size' at at' More same is = rw is refl
+sized size size' at at' _ same is = rw is refl
 
 here_wrong : (file : List ℕ) (front : List Item) (from : ℕ) (s : Stage) (bytes : List ℕ) (e : Wrong) → Here file front from s → IsWindow file from bytes → Err e ≡ judged s bytes → HasFaultAt file front (fault_of (from + length bytes) from e)
 here_wrong file front from s bytes e h window j =
@@ -98,10 +96,8 @@ here_wrong file front from s bytes e h window j =
 -- after a stage at which something may stand
 open_item : (s : Stage) (b : ℕ) (fields : List ℕ) → wrong_behind s (b ∷ fields) ≡ None → wrong_item s (tag_of b) fields ≡ None
 unfolding wrong_behind
-open_item Opening b fields e = e
-open_item (Steps n) b fields e = e
-open_item Closing b fields e = e
 open_item Over b fields e = absurd cc
+open_item _ b fields e = e
 
 no_tag_wrong : (s : Stage) (o : Option Tag) (fields : List ℕ) → o ≡ None → wrong_item s o fields ≡ None → ⊥
 unfolding wrong_item
@@ -114,10 +110,8 @@ end_empty s (b ∷ fields) right none = absurd (no_tag_wrong s (tag_of b) fields
 
 end_over : (s : Stage) → wrong_behind s [] ≡ None → s ≡ Over
 unfolding wrong_behind
-end_over Opening e = absurd cc
-end_over (Steps n) e = absurd cc
-end_over Closing e = absurd cc
 end_over Over e = refl
+end_over _ e = absurd cc
 
 -- the end of the record
 here_end : (file : List ℕ) (front : List Item) (from : ℕ) (s : Stage) (bytes : List ℕ) → Here file front from s → IsWindow file from bytes → Ok None ≡ judged s bytes → IsRecord file front

@@ -45,18 +45,7 @@ width_front tag.Put k fields le =
     ]) in
     let four : get_or (take k fields) 4 0 ≡ get_or fields 4 0 = get_or-take k fields 4 0 (omega arith) in
     rw (long, four) refl
-width_front tag.Cipher k fields le = refl
-width_front tag.Leave k fields le = refl
-width_front tag.Step k fields le = refl
-width_front tag.Close k fields le = refl
-width_front tag.End k fields le = refl
-width_front tag.Ok k fields le = refl
-width_front tag.Absent k fields le = refl
-width_front tag.Word k fields le = refl
-width_front tag.Timer k fields le = refl
-width_front tag.Resume k fields le = refl
-width_front tag.Stopped k fields le = refl
-width_front tag.Ended k fields le = refl
+width_front _ k fields le = refl
 
 abbrev some : Tag → Option Tag
 some t = Some t
@@ -67,18 +56,7 @@ some_same a b e = cc
 -- bytes that have the whole item have its fields
 fields_fit : (n : ℕ) (o : Option Tag) → 41 ≤ n → (o ≡ Some tag.Cipher → 4101 ≤ n) → (t : Tag) → o ≡ Some t → size_of t < n
 fields_fit n o long cipher tag.Cipher e = (let c = cipher e in omega arith)
-fields_fit n o long cipher tag.Put e = omega arith
-fields_fit n o long cipher tag.Leave e = omega arith
-fields_fit n o long cipher tag.Step e = omega arith
-fields_fit n o long cipher tag.Close e = omega arith
-fields_fit n o long cipher tag.End e = omega arith
-fields_fit n o long cipher tag.Ok e = omega arith
-fields_fit n o long cipher tag.Absent e = omega arith
-fields_fit n o long cipher tag.Word e = omega arith
-fields_fit n o long cipher tag.Timer e = omega arith
-fields_fit n o long cipher tag.Resume e = omega arith
-fields_fit n o long cipher tag.Stopped e = omega arith
-fields_fit n o long cipher tag.Ended e = omega arith
+fields_fit n o long cipher _ e = omega arith
 
 item_front : (s : Stage) (o : Option Tag) (k : ℕ) (fields : List ℕ) → 40 ≤ k → ((t : Tag) → o ≡ Some t → size_of t < suc k) → wrong_item s o (take k fields) ≡ wrong_item s o fields
 unfolding wrong_item
@@ -175,10 +153,8 @@ judged_ok (Some e) f x j = absurd cc
 
 wrong_cons : (s : Stage) (b : ℕ) (fields : List ℕ) → is_over s ≡ false → wrong_behind s (b ∷ fields) ≡ wrong_item s (tag_of b) fields
 unfolding wrong_behind
-wrong_cons Opening b fields e = refl
-wrong_cons (Steps n) b fields e = refl
-wrong_cons Closing b fields e = refl
 wrong_cons Over b fields e = absurd cc
+wrong_cons _ b fields e = refl
 
 -- the tests of an item, one after another
 

@@ -1,7 +1,9 @@
 //! The next item of a record, or how reading ended. All tools read records by this call.
 ghost use Rattle.std.specs.Prelude.{◌≡◌, ◌<◌, ◌^◌, List, IfOk};
 ghost use Rattle.cloak_model.specs.declared.item.Item.{Item};
+ghost use Rattle.cloak_model.specs.Record.{IsItem};
 ghost use Rattle.io_traits.specs.Told.{SameFiles};
+ghost use Rattle.record_reader.specs.Kept.{kept_item};
 ghost use Rattle.record_reader.specs.Reading.{reader_offset};
 ghost use Rattle.record_text.specs.Reading.{CountsFound, Finds, StandsAt, found_item};
 
@@ -20,6 +22,7 @@ pub fn next_item<S: Shelf>(
     requires { S.is_settled shelf.old }
     ensures next { (items : List Item) → StandsAt (S.held shelf.old reader.old.name.now) reader.old items →
         Finds (S.held shelf.old reader.old.name.now) reader.new items (found_item result kept.new) }
+    ensures item { IfOk result (λ t. IsItem (kept_item t kept.new)) }
     ensures counts { CountsFound (S.reading_faults shelf.old) (S.reading_faults shelf.new) result }
     ensures moves { IfOk result (λ t. reader_offset reader.old < reader_offset reader.new) }
     ensures within { reader_offset reader.new < 2 ^ 64 }

@@ -27,17 +27,7 @@ keeps_item (item.Cipher f bytes) s within size = keeps_filled f bytes s size
 keeps_item (item.Put pa width value) s within size =
     let both = both_are (is_in_ram s.ram pa) (pa % width == 0) within in
     keeps_stored pa width value s (in_ram_low s.ram pa both.0) (eqb-true (pa % width) 0 both.1) size
-keeps_item (item.Leave x) s within size = keeps_all s
-keeps_item (item.Step number) s within size = keeps_all s
-keeps_item (item.Close steps) s within size = keeps_all s
-keeps_item item.End s within size = keeps_all s
-keeps_item (item.Ok domain) s within size = keeps_all s
-keeps_item (item.Absent domain cause) s within size = keeps_all s
-keeps_item (item.Word domain value) s within size = keeps_all s
-keeps_item (item.Timer domain) s within size = keeps_all s
-keeps_item (item.Resume domain ctx answer) s within size = keeps_all s
-keeps_item (item.Stopped domain) s within size = keeps_all s
-keeps_item (item.Ended domain) s within size = keeps_all s
+keeps_item _ s within size = keeps_all s
 
 pub keeps_items : (items : List Item) (s : Seen) → AreWithin s.ram items → HaveSizes items →
     Keeps (items_extents items) s (with_items items s)
@@ -60,17 +50,7 @@ keeps_shown ciphers s frames sizes =
 inward_extent : (i : Item) → is_outward i ≡ false → item_extents i ≡ []
 inward_extent (item.Cipher f bytes) is = absurd cc
 inward_extent (item.Put pa width value) is = absurd cc
-inward_extent (item.Leave x) is = refl
-inward_extent (item.Step number) is = refl
-inward_extent (item.Close steps) is = refl
-inward_extent item.End is = refl
-inward_extent (item.Ok domain) is = refl
-inward_extent (item.Absent domain cause) is = refl
-inward_extent (item.Word domain value) is = refl
-inward_extent (item.Timer domain) is = refl
-inward_extent (item.Resume domain ctx answer) is = refl
-inward_extent (item.Stopped domain) is = refl
-inward_extent (item.Ended domain) is = refl
+inward_extent _ is = refl
 
 inward_extents : (items : List Item) → AreInward items → items_extents items ≡ []
 inward_extents [] all = refl

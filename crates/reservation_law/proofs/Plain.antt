@@ -459,16 +459,13 @@ does_ecall h s disk =
 does_done : (h : Hart) (s : Seen) (disk : List ℕ) (w : ℕ) (i : Instr) (e : Effect) → StoresAligned e →
     Does (effect_deed h s disk i e) h.id s (plan_done (length s.ram) h disk w i e)
 unfolding effect_deed
-does_done h s disk w i (does.Write rd value) at = does_gives h.id s _ refl
-does_done h s disk w i (does.Jump rd link target) at = does_gives h.id s _ refl
-does_done h s disk w i (does.Go target) at = does_gives h.id s _ refl
 does_done h s disk w i (does.Load rd va width signed) at = does_load h s disk rd va width signed
 does_done h s disk w i (does.Store va width value) at = does_store h s disk va width value at.0 at.1
 does_done h s disk w i does.System at =
     does_if (read_deed h.mode h s.ram disk) Idle h.id s (is_ecall i) (plan_ecall (length s.ram) h disk)
     (Gives (leaves (over disk (system h w i)))) (λ is. does_ecall h s disk) (does_gives h.id s _ (system_id h w i))
-does_done h s disk w i does.Nothing at = does_gives h.id s _ refl
 does_done h s disk w i (does.Raise cause value) at = does_raised h s disk cause value
+does_done h s disk w i _ at = does_gives h.id s _ refl
 
 does_decoded : (h : Hart) (s : Seen) (disk : List ℕ) (w : ℕ) (i : Option Instr) →
     Does (word_deed h s disk w i) h.id s (plan_decoded (length s.ram) h disk w i)

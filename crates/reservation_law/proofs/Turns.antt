@@ -11,7 +11,7 @@ use Rattle.cloak_model.specs.declared.inside.Went.TheVariants as went
 use Rattle.cloak_model.specs.declared.item.Item.{Item}
 use Rattle.cloak_model.specs.declared.item.Item.TheVariants as item
 use Rattle.cloak_model.specs.declared.outcome.Kernel.{Kernel}
-use Rattle.cloak_model.specs.declared.outcome.Kernel.TheVariants.{Stay, Put, Halt, Resume, Trapped}
+use Rattle.cloak_model.specs.declared.outcome.Kernel.TheVariants.{Stay, Halt, Resume}
 use Rattle.cloak_model.specs.Ahead.{settle_touched, settled_step, made_after, with_shown}
 use Rattle.cloak_model.specs.Asking.{Told}
 use Rattle.cloak_model.specs.Cloaking.{CloakedMemory, AfterSettling, seen_in, with_seen}
@@ -238,18 +238,6 @@ ended_done deed number j after items Stay does places stays = record {
   places =
       places;
 }
-ended_done deed number j after items Trapped does places stays = record {
-  done = does;
-  calm =
-      λ pa is. refl;
-  places = places;
-}
-ended_done deed number j after items (Put b) does places stays = record {
-  done = does;
-  calm =
-      λ pa is. refl;
-  places = places;
-}
 ended_done deed number j after items (Halt value) does places stays =
     record { done = does; calm = λ pa is. refl; places = places }
 ended_done deed number j after items (Resume ctx reply) does places stays =
@@ -267,6 +255,12 @@ ended_done deed number j after items (Resume ctx reply) does places stays =
       calm = λ pa is. absurd (other pa is);
       places = ap length u.owed ∙ (places ∙ ap (λ (x : Seen). length x.ram) (sym u.memory));
     }
+ended_done deed number j after items _ does places stays = record {
+  done = does;
+  calm =
+      λ pa is. refl;
+  places = places;
+}
 
 outside_by : (j : Joint) (number : ℕ) (s : AfterSettling) → let h = hart_in j number in
     let deed = deed_of h (seen_in s.memory) j.disk in
@@ -351,14 +345,12 @@ leaving j j' number h items s same reached =
     }
 
 memory_seen : (w : World) (m : CloakedMemory) → is_joint w ≡ true → seen_in (memory_of w m) ≡ seen_of w
-memory_seen (Flat seen) m form = refl
-memory_seen (Cloaked c) m form = refl
 memory_seen (Alone h) m form = absurd (false≢true form)
+memory_seen _ m form = refl
 
 memory_places : (w : World) (m : CloakedMemory) → IsJointWorld w → HasPlaces (memory_of w m)
-memory_places (Flat seen) m joint = absurd (false≢true joint.form)
 memory_places (Cloaked c) m joint = joint.places
-memory_places (Alone h) m joint = absurd (false≢true joint.form)
+memory_places _ m joint = absurd (false≢true joint.form)
 
 domain_done : (j j' : Joint) (number : ℕ) (h : Hart) (d : ℕ) (w : World) (how : Went) → h.id ≡ id_in j.harts number →
     IsReached j j' (items_of w) → TurnDone Idle number j (domain_ended j' number h d w how)
@@ -400,12 +392,10 @@ interrupt_done : (j j' : Joint) (number : ℕ) (h : Hart) (items : List Item) (h
     j.harts number →
     IsReached j j' items → TurnDone Idle number j (interrupt_ended j' number h items how)
 unfolding interrupt_ended
-interrupt_done j j' number h items went.Stay same reached = staying j j' number h items None same reached
-interrupt_done j j' number h items went.Stopped same reached = staying j j' number h items None same reached
-interrupt_done j j' number h items (went.Remapped space) same reached = staying j j' number h items None same reached
 interrupt_done j j' number h items (went.Leave s) same reached = leaving j j' number h items s same reached
 interrupt_done j j' number h items (went.SpaceGone space s) same reached =
     staying j j' number h items None same reached
+interrupt_done j j' number h items _ same reached = staying j j' number h items None same reached
 
 after_interrupt_done : (j : Joint) (number : ℕ) (h : Hart) (d : ℕ) (was : Domain) (step : Stepped) →
     HasPlaces j.memory → h.id ≡ id_in j.harts number → TurnDone Idle number j (after_interrupt j number h d was step)

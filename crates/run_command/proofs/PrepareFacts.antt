@@ -1,12 +1,14 @@
 -- Bytes, and the stream of a file.
 use Rattle.std.proofs.Common.{◌≡◌, ◌<◌, ◌≤◌, ◌+◌, ℕ, zero, suc, List, [], ◌∷◌, length, take, take_all, get_or}
-use Rattle.std.proofs.Common.{Option, Some, None, subst, refl, arith}
+use Rattle.std.proofs.Common.{Option, Some, None, subst, refl, inr, arith}
 use Rattle.std.specs.List.{AllByRecursion}
 use Rattle.cloak_base.specs.Random.{Random, numbered}
 use Rattle.command_words.specs.Command as spec
 use Rattle.io_traits.specs.Told.{SameFiles}
+use Rattle.command_parts.specs.Bundles.{IsSomeBundle}
 use Rattle.command_parts.specs.NoRun.{AsksFile}
-use Rattle.command_parts.specs.Streams.{IsOfFile, IsStream}
+use Rattle.command_parts.specs.Order.{IsNextToRead}
+use Rattle.command_parts.specs.Streams.{IsOfFile, IsStream, IsStreamFile}
 use Rattle.range_law.specs.Writing.{AreBytes, IsStreamOfBytes}
 
 -- What a loop over a slice found of each element so far.
@@ -43,6 +45,13 @@ pub run_named : (bundle_name : List ℕ) (record_name : Option (List ℕ)) (step
     AsksFile (spec.asked_run bundle_name record_name steps from) bundle_name
 run_named bundle_name (Some record_name) steps from = refl
 run_named bundle_name None steps from = refl
+
+-- the file of its random stream is read after the bundle
+pub stream_is_next : (bundle_name : List ℕ) (record_name : Option (List ℕ)) (steps : ℕ) (from : spec.Randomness)
+    (held : List ℕ → Option (List ℕ)) → IsSomeBundle (held bundle_name) → (file : List ℕ) → IsStreamFile from file →
+    IsNextToRead (spec.asked_run bundle_name record_name steps from) held file
+stream_is_next bundle_name (Some record_name) steps from held is file named = inr (is, named)
+stream_is_next bundle_name None steps from held is file named = inr (is, named)
 
 -- a stream of a file that stayed as it was
 pub stream_before : (held now : List ℕ → Option (List ℕ)) (randomness : spec.Randomness) (stream : Random) →

@@ -1,8 +1,9 @@
 //! A run that can begin, from the files that the words name.
-ghost use Rattle.std.specs.Prelude.{◌≡◌, ◌<◌, ◌≤◌, ◌-◌, ◌^◌, ℕ, List, Option, true, IfOk, length};
+ghost use Rattle.std.specs.Prelude.{◌≡◌, ◌<◌, ◌≤◌, ◌-◌, ◌^◌, ℕ, List, Option, true, IfErr, IfOk, length};
 ghost use Rattle.cloak_machine.specs.Standing.{steps_made};
 ghost use Rattle.io_traits.specs.Told.{SameFiles};
 ghost use Rattle.command_parts.specs.Outside.{files};
+ghost use Rattle.command_parts.specs.Streams.{TellsUnreadStream};
 ghost use Rattle.run_command.specs.Preparing.{Prepares, ReadsStream};
 ghost use Rattle.command_words.specs.Command.{asked_run};
 ghost use Rattle.command_words.specs.Request.{randomness_of};
@@ -63,6 +64,7 @@ pub fn open_stream<S: Shelf>(
     requires { S.is_settled shelf.old }
     ensures stream { ReadsStream (S.held shelf.old) (randomness_of randomness.now)
         (S.reading_faults shelf.old) (S.reading_faults shelf.new) result }
+    ensures unread { IfErr result (TellsUnreadStream (S.unread shelf.new) (randomness_of randomness.now)) }
     ensures files { SameFiles (S.held shelf.old) (S.held shelf.new) }
     ensures writing { S.writing_faults shelf.new ≡ S.writing_faults shelf.old }
     ensures settled { S.is_settled shelf.new }
@@ -70,7 +72,10 @@ pub fn open_stream<S: Shelf>(
     match *randomness {
         Randomness::Numbered(number) => Ok(Stream::numbered(number)),
         Randomness::FromFile(name) => {
-            let bytes = read_front(alloc, shelf, name, LONGEST_STREAM)?;
+            let bytes = match read_front(alloc, shelf, name, LONGEST_STREAM) {
+                Ok(bytes) => bytes,
+                Err(refusal) => return Err(refusal),
+            };
             are_bytes(bytes.as_slice());
             Ok(Stream::bytes(bytes))
         }

@@ -1,9 +1,11 @@
 -- What `explain` returns.
-use Rattle.std.proofs.Common.{◌≡◌, ℕ, List, Option, Some, None, IfSome, Err, inl, inr, refl, sym, subst}
+use Rattle.std.proofs.Common.{◌≡◌, ◌≢◌, ℕ, List, ◌++◌, Option, Some, None, IfSome, Err, inl, inr, refl, sym, ap, subst, ◌∙◌, string_bytes}
+use Rattle.io_traits.specs.Told.{Grows}
 use Rattle.cloak_model.specs.declared.image.Bundle.{Bundle}
+use Rattle.cloak_model.specs.declared.item.Item.{Item}
 use Rattle.cloak_model.specs.declared.fault.BundleFault.{BundleFault}
 use Rattle.cloak_model.specs.BundleFault.{bundle_fault}
-use Rattle.command_parts.specs.Bundles.{ReadsBundle, ReadsJudging}
+use Rattle.command_parts.specs.Bundles.{IsInFile, ReadsBundle, ReadsJudging}
 use Rattle.command_parts.specs.Outside.{Outside, Output}
 use Rattle.command_parts.specs.Refusal.{status_of_refusal}
 use Rattle.command_parts.specs.Refusing.{Refuses}
@@ -13,7 +15,15 @@ use Rattle.command_parts.specs.declared.status.Status.{Status}
 use Rattle.command_parts.specs.declared.status.Status.TheVariants as status
 use Rattle.read_back.specs.declared.ending.Ending.{Ending}
 use Rattle.read_back.specs.declared.ending.Ending.TheVariants as ending
-use Rattle.run_story.specs.Answering.{ExplainAnswers, HasBundleFault, LacksStory, ReadingEnds, ShowsEnding, ShowsStory, ShowsUntold}
+use Rattle.replayed_run.specs.Noted.{noted_in}
+use Rattle.replayed_run.specs.Watching.{notes_of}
+use Rattle.replayed_run.specs.declared.notes.Notes.{Notes}
+use Rattle.run_story.specs.Answering.{ExplainAnswers, HasBundleFault, HasStory, LacksStory, ReadingEnds, ShowsEnding, ShowsStory, ShowsUntold, last_sentence}
+use Rattle.run_story.specs.Passages.{summary}
+use Rattle.run_story.specs.Telling.{Tells, story_text}
+use Rattle.run_story.specs.Told.{ended_count, told_in}
+use Rattle.run_story.proofs.StoryMore.{tells_fit}
+use Rattle.run_story.specs.declared.story.Story.{Story}
 use Rattle.run_story.specs.declared.untold.Untold.{Untold}
 use Rattle.run_story.specs.declared.untold.Untold.TheVariants as untold
 
@@ -58,56 +68,97 @@ no_bundle {S} {O} bundle_name record_name before after r answer reads (inl line)
 no_bundle {S} {O} bundle_name record_name before after r answer reads (inr front) =
     answers_so bundle_name record_name before after answer status.WriteFault front.answer front.faults
 
--- a story was shown
-pub shows_story : {S O : Type 0} (bundle_name record_name : List ℕ) (before after : Outside S O) (answer : Status) →
-    ReadingEnds (before.files.held record_name) before.files.reading after.files.reading ending.Whole →
-    ShowsStory before.output.faults after.output.faults answer →
-    ExplainAnswers bundle_name record_name before after answer
-shows_story {S} {O} bundle_name record_name before after status.Done whole shows = (whole, shows)
-shows_story {S} {O} bundle_name record_name before after status.Violation whole shows = absurd shows
-shows_story {S} {O} bundle_name record_name before after status.Usage whole shows = absurd shows
-shows_story {S} {O} bundle_name record_name before after status.BadBundle whole shows = absurd shows
-shows_story {S} {O} bundle_name record_name before after status.ReadFault whole shows = absurd shows
-shows_story {S} {O} bundle_name record_name before after status.WriteFault whole shows = shows
-shows_story {S} {O} bundle_name record_name before after status.NoMemory whole shows = tt
-shows_story {S} {O} bundle_name record_name before after status.NoRandom whole shows = absurd shows
-shows_story {S} {O} bundle_name record_name before after status.BadRecord whole shows = absurd shows
-shows_story {S} {O} bundle_name record_name before after status.BadStore whole shows = absurd shows
-shows_story {S} {O} bundle_name record_name before after status.Frozen whole shows = absurd shows
-shows_story {S} {O} bundle_name record_name before after status.BadState whole shows = absurd shows
+-- what a story shows, by its items
+told_text : (b : Bundle) (items : List Item) (s : Story) → Tells b items s →
+    story_text s ≡ string_bytes s.text ++ last_sentence b items
+told_text b items s tells =
+    ap (λ (n : Notes). string_bytes s.text ++ summary n.step (ended_count s.ended) s.refused) tells.knows.watches.notes
+    ∙ (ap (λ (l : List (Option ℕ)). string_bytes s.text ++ summary (noted_in b items).notes.step (ended_count l) s.refused)
+    tells.knows.ended
+    ∙ ap (λ (n : ℕ). string_bytes s.text
+    ++ summary (noted_in b items).notes.step (ended_count (told_in b items).ended) n) tells.knows.refused)
 
--- the line of an ending was shown
-shows_ending : {S O : Type 0} (bundle_name record_name : List ℕ) (before after : Outside S O) (ended : Ending)
-    (answer : Status) → ReadingEnds (before.files.held record_name) before.files.reading after.files.reading ended →
+-- a story was shown
+pub shows_story : {S O : Type 0} (bundle_name record_name : List ℕ) (before after : Outside S O) (b : Bundle) (s : Story)
+    (answer : Status) → IsInFile (before.files.held bundle_name) b → HasStory b (before.files.held record_name) s →
+    after.files.reading ≡ before.files.reading → ShowsStory (story_text s) before.output after.output answer →
+    ExplainAnswers bundle_name record_name before after answer
+shows_story {S} {O} bundle_name record_name before after b s status.Done file has reading shows = record {
+  bundle = b;
+  file = file;
+  items = has.items;
+  record_file = has.file;
+  fits = tells_fit b has.items s has.tells;
+  reading = reading;
+  passages = string_bytes s.text;
+  told = has.tells.text;
+  shown = subst (λ (text : List ℕ). Grows before.output.taken after.output.taken text)
+      (told_text b has.items s has.tells) shows.0;
+  faults = shows.1;
+}
+shows_story {S} {O} bundle_name record_name before after b s status.Violation file has reading shows = absurd shows
+shows_story {S} {O} bundle_name record_name before after b s status.Usage file has reading shows = absurd shows
+shows_story {S} {O} bundle_name record_name before after b s status.BadBundle file has reading shows = absurd shows
+shows_story {S} {O} bundle_name record_name before after b s status.ReadFault file has reading shows = absurd shows
+shows_story {S} {O} bundle_name record_name before after b s status.WriteFault file has reading shows = shows
+shows_story {S} {O} bundle_name record_name before after b s status.NoMemory file has reading shows = tt
+shows_story {S} {O} bundle_name record_name before after b s status.NoRandom file has reading shows = absurd shows
+shows_story {S} {O} bundle_name record_name before after b s status.BadRecord file has reading shows = absurd shows
+shows_story {S} {O} bundle_name record_name before after b s status.BadStore file has reading shows = absurd shows
+shows_story {S} {O} bundle_name record_name before after b s status.Frozen file has reading shows = absurd shows
+shows_story {S} {O} bundle_name record_name before after b s status.BadState file has reading shows = absurd shows
+
+-- The line of an ending was shown. A whole record has a story, so reading it ends otherwise.
+shows_ending : {S O : Type 0} (bundle_name record_name : List ℕ) (before after : Outside S O) (b : Bundle) (ended : Ending)
+    (answer : Status) → ended ≢ ending.Whole → IsInFile (before.files.held bundle_name) b →
+    ReadingEnds b (before.files.held record_name) before.files.reading after.files.reading ended →
     ShowsEnding ended before.output after.output answer → ExplainAnswers bundle_name record_name before after answer
-shows_ending {S} {O} bundle_name record_name before after ending.Whole answer ends (inl (is, line, faults)) =
-    answers_so bundle_name record_name before after answer status.Done is (ends, faults)
-shows_ending {S} {O} bundle_name record_name before after (ending.Unfit step) answer ends (inl (is, line, faults)) =
-    answers_so bundle_name record_name before after answer status.BadRecord is
-    (record { ended = ending.Unfit step; status = refl; ends = ends; line = line; faults = faults })
-shows_ending {S} {O} bundle_name record_name before after (ending.Fault fault) answer ends (inl (is, line, faults)) =
-    answers_so bundle_name record_name before after answer status.BadRecord is
-    (record { ended = ending.Fault fault; status = refl; ends = ends; line = line; faults = faults })
-shows_ending {S} {O} bundle_name record_name before after ending.Unread answer ends (inl (is, line, faults)) =
+shows_ending {S} {O} bundle_name record_name before after b ending.Whole answer other file ends (inl (is, line, faults)) =
+    absurd (other refl)
+shows_ending {S} {O} bundle_name record_name before after b (ending.Unfit step) answer other file ends
+    (inl (is, line, faults)) =
+    answers_so bundle_name record_name before after answer status.BadRecord is (record {
+      bundle = b;
+      file = file;
+      ended = ending.Unfit step;
+      status = refl;
+      ends = ends;
+      line = line;
+      faults = faults;
+    })
+shows_ending {S} {O} bundle_name record_name before after b (ending.Fault fault) answer other file ends
+    (inl (is, line, faults)) =
+    answers_so bundle_name record_name before after answer status.BadRecord is (record {
+      bundle = b;
+      file = file;
+      ended = ending.Fault fault;
+      status = refl;
+      ends = ends;
+      line = line;
+      faults = faults;
+    })
+shows_ending {S} {O} bundle_name record_name before after b ending.Unread answer other file ends
+    (inl (is, line, faults)) =
     answers_so bundle_name record_name before after answer status.ReadFault is ends
-shows_ending {S} {O} bundle_name record_name before after ended answer ends (inr (is, rose)) =
+shows_ending {S} {O} bundle_name record_name before after b ended answer other file ends (inr (is, rose)) =
     answers_so bundle_name record_name before after answer status.WriteFault is rose
 
 -- there is no story
-pub shows_untold : {S O : Type 0} (bundle_name record_name : List ℕ) (before after : Outside S O) (why : Untold)
-    (answer : Status) → LacksStory (before.files.held record_name) before.files.reading after.files.reading why →
+pub shows_untold : {S O : Type 0} (bundle_name record_name : List ℕ) (before after : Outside S O) (b : Bundle)
+    (why : Untold) (answer : Status) → IsInFile (before.files.held bundle_name) b →
+    LacksStory b (before.files.held record_name) before.files.reading after.files.reading why →
     ShowsUntold why before.output after.output answer → ExplainAnswers bundle_name record_name before after answer
-shows_untold {S} {O} bundle_name record_name before after untold.NoMemory answer lacks (inl line) =
+shows_untold {S} {O} bundle_name record_name before after b untold.NoMemory answer file lacks (inl line) =
     answers_so bundle_name record_name before after answer status.NoMemory line.answer tt
-shows_untold {S} {O} bundle_name record_name before after untold.NoMemory answer lacks (inr front) =
+shows_untold {S} {O} bundle_name record_name before after b untold.NoMemory answer file lacks (inr front) =
     answers_so bundle_name record_name before after answer status.WriteFault front.answer front.faults
-shows_untold {S} {O} bundle_name record_name before after (untold.Ended ended) answer lacks shows =
-    shows_ending bundle_name record_name before after ended answer lacks shows
+shows_untold {S} {O} bundle_name record_name before after b (untold.Ended ended) answer file lacks shows =
+    shows_ending bundle_name record_name before after b ended answer lacks.0 file lacks.1 shows
 
 -- there was no memory for the story
-pub shows_want : {O : Type 0} (before after : Output O) (answer : Status) → Refuses before after refusal.NoMemory answer →
-    ShowsStory before.faults after.faults answer
-shows_want {O} before after answer (inl line) =
-    subst (λ (s : Status). ShowsStory before.faults after.faults s) (sym line.answer) tt
-shows_want {O} before after answer (inr front) =
-    subst (λ (s : Status). ShowsStory before.faults after.faults s) (sym front.answer) front.faults
+pub shows_want : {O : Type 0} (text : List ℕ) (before after : Output O) (answer : Status) →
+    Refuses before after refusal.NoMemory answer → ShowsStory text before after answer
+shows_want {O} text before after answer (inl line) =
+    subst (λ (s : Status). ShowsStory text before after s) (sym line.answer) tt
+shows_want {O} text before after answer (inr front) =
+    subst (λ (s : Status). ShowsStory text before after s) (sym front.answer) front.faults

@@ -1,90 +1,104 @@
 -- How far a record is read, and how that ends.
-use Rattle.std.proofs.Common.{◌≡◌, ℕ, List, [], ◌∷◌, ◌++◌, Option, Some, None, IfErr, IfSome, Result, Ok, Err, subst}
+use Rattle.std.proofs.Common.{◌≡◌, ◌≢◌, ℕ, List, [], ◌∷◌, ◌++◌, Option, Some, None, IfOk, IfSome, Result, Ok, Err, string_bytes, sym, subst}
+use Rattle.cloak_model.specs.declared.image.Bundle.{Bundle}
 use Rattle.cloak_model.specs.declared.item.Item.{Item}
-use Rattle.cloak_model.specs.Record.{IsRecord}
+use Rattle.cloak_model.specs.declared.fault.RecordFault.{RecordFault}
 use Rattle.record_reader.specs.Ahead.{readable}
-use Rattle.record_reader.specs.Reading.{HasFaultAt}
 use Rattle.record_reader.specs.declared.reader.Reader.{Reader}
-use Rattle.read_back.specs.Reading.{ReadsAs}
+use Rattle.read_back.specs.Reading.{BeginsWith, ReadsAs}
 use Rattle.read_back.specs.declared.ending.Ending.{Ending}
 use Rattle.read_back.specs.declared.ending.Ending.TheVariants as ending
 use Rattle.record_text.specs.Reading.{Finds, StandsAt}
 use Rattle.record_text.proofs.Shown.{finds}
-use Rattle.run_story.specs.Answering.{LacksItem, LacksStory, ReadingEnds, TellsDeeds, TellsStory}
+use Rattle.run_story.specs.Answering.{EndsAfter, LacksStory, TellsItem, TellsPage, TellsStory}
+use Rattle.run_story.specs.Passages.{page_text}
+use Rattle.run_story.specs.Telling.{KeepsStory, LacksNext, Tells, TellsBut, TellsOn}
+use Rattle.run_story.specs.declared.presented.Presented.{Presented}
+use Rattle.run_story.specs.declared.story.Story.{Story}
 use Rattle.run_story.specs.declared.untold.Untold.{Untold}
 use Rattle.run_story.specs.declared.untold.Untold.TheVariants as untold
-
--- a reader stands after some items of a file, if its bytes are told
-pub record StandsSoFar (told : Option (List ℕ)) (reader : Reader) : Type 0 where
-  pub items : List Item
-  pub stands : StandsAt told reader items
-
--- one item more
-pub stands_on : (told now : Option (List ℕ)) (was next : Reader) (i : Item) → now ≡ told →
-    ((items : List Item) → StandsAt now was items → Finds now next items (Ok i)) → StandsSoFar told was →
-    StandsSoFar told next
-stands_on told now was next i same found so_far = record {
-  items = so_far.items ++ i ∷ [];
-  stands = finds told now was next (Ok i) so_far.items same found so_far.stands;
-}
-
-told_some : (told : Option (List ℕ)) (P : List ℕ → List Item → Type 0) (items : List Item) →
-    IfSome told (λ bytes. P bytes items) → IfSome told (λ bytes. (items : List Item) × P bytes items)
-told_some (Some bytes) P items fact = (items, fact)
-told_some None P items fact = tt
-
-ending_is : (told : Option (List ℕ)) (next : Reader) (items : List Item) (ended : Ending) (before now : ℕ) →
-    Finds told next items (Err ended) → ReadsAs before now (Some ended) → ReadingEnds told before now ended
-ending_is told next items ending.Whole before now found counts =
-    (told_some told (λ bytes items. IsRecord (readable bytes) items) items found, counts)
-ending_is told next items (ending.Unfit step) before now found counts = absurd found
-ending_is told next items (ending.Fault fault) before now found counts =
-    (told_some told (λ bytes items. HasFaultAt (readable bytes) items fault) items found, counts)
-ending_is told next items ending.Unread before now found counts = counts
+use Rattle.run_story.proofs.StoryMore.{tells_fit, tells_page}
 
 -- there is no item more
-pub reading_ends : (told now : Option (List ℕ)) (was next : Reader) (ended : Ending) (m n k : ℕ) → now ≡ told → n ≡ m →
-    ((items : List Item) → StandsAt now was items → Finds now next items (Err ended)) → ReadsAs n k (Some ended) →
-    StandsSoFar told was → ReadingEnds told m k ended
-reading_ends told now was next ended m n k same counts found reads so_far =
-    ending_is told next so_far.items ended m k
-    (finds told now was next (Err ended) so_far.items same found so_far.stands)
+ending_is : (told : Option (List ℕ)) (next : Reader) (items : List Item) (ended : Ending) (before now : ℕ) →
+    Finds told next items (Err ended) → ReadsAs before now (Some ended) → EndsAfter told items before now ended
+ending_is told next items ending.Whole before now found counts = (found, counts)
+ending_is told next items (ending.Unfit step) before now found counts = absurd found
+ending_is told next items (ending.Fault fault) before now found counts = (found, counts)
+ending_is told next items ending.Unread before now found counts = counts
+
+pub ends_after : (told now : Option (List ℕ)) (was next : Reader) (ended : Ending) (m n k : ℕ) (items : List Item) →
+    now ≡ told → n ≡ m → ((front : List Item) → StandsAt now was front → Finds now next front (Err ended)) →
+    ReadsAs n k (Some ended) → StandsAt told was items → EndsAfter told items m k ended
+ends_after told now was next ended m n k items same counts found reads stands =
+    ending_is told next items ended m k (finds told now was next (Err ended) items same found stands)
     (subst (λ (x : ℕ). ReadsAs x k (Some ended)) counts reads)
 
--- it ended so since an earlier count
-pub ends_since : (told now : Option (List ℕ)) (m n k : ℕ) (ended : Ending) → now ≡ told → n ≡ m →
-    ReadingEnds now n k ended → ReadingEnds told m k ended
-ends_since told now m n k ended same counts ends =
-    subst (λ (x : ℕ). ReadingEnds told x k ended) counts (subst (λ (t : Option (List ℕ)). ReadingEnds t n k ended) same ends)
+fault_is_not_whole : (fault : RecordFault) → ending.Fault fault ≢ ending.Whole
+fault_is_not_whole fault = λ (same : ending.Fault fault ≡ ending.Whole). cc
 
-pub lacks_since : (told now : Option (List ℕ)) (m n k : ℕ) (why : Untold) → now ≡ told → n ≡ m →
-    LacksStory now n k why → LacksStory told m k why
-lacks_since told now m n k untold.NoMemory same counts lacks = tt
-lacks_since told now m n k (untold.Ended ended) same counts lacks = ends_since told now m n k ended same counts lacks
+unfit_is_not_whole : (step : ℕ) → ending.Unfit step ≢ ending.Whole
+unfit_is_not_whole step = λ (same : ending.Unfit step ≡ ending.Whole). cc
+
+unread_is_not_whole : ending.Unread ≢ ending.Whole
+unread_is_not_whole = λ (same : ending.Unread ≡ ending.Whole). cc
+
+-- what is told of a record whose reading ended so
+
+pub told_fault : (b : Bundle) (told : Option (List ℕ)) (items : List Item) (s : Story) (before now : ℕ)
+    (fault : RecordFault) → Tells b items s → EndsAfter told items before now (ending.Fault fault) →
+    LacksStory b told before now (untold.Ended (ending.Fault fault))
+told_fault b told items s before now fault tells ends =
+    (fault_is_not_whole fault, (record { items = items; file = ends.0; fits = tells_fit b items s tells }, ends.1))
+
+pub told_unread : (b : Bundle) (told : Option (List ℕ)) (items : List Item) (before now : ℕ) →
+    EndsAfter told items before now ending.Unread → LacksStory b told before now (untold.Ended ending.Unread)
+told_unread b told items before now ends = (unread_is_not_whole, ends)
+
+-- an item of a file was not told
+pub lacks_item : (b : Bundle) (told : Option (List ℕ)) (items : List Item) (i : Item) (before now : ℕ) (story : Story)
+    (why : Untold) → IfSome told (λ bytes. BeginsWith (readable bytes) (items ++ i ∷ [])) →
+    TellsItem b items i before now story (Err why) → LacksStory b told before now why
+lacks_item b told items i before now story untold.NoMemory begins lacks = tt
+lacks_item b told items i before now story (untold.Ended (ending.Unfit step)) begins lacks =
+    (unfit_is_not_whole step, (record { items = items; last = i; file = begins; unfit = lacks.0 }, lacks.1))
+lacks_item b told items i before now story (untold.Ended ending.Whole) begins lacks = absurd lacks
+lacks_item b told items i before now story (untold.Ended (ending.Fault fault)) begins lacks = absurd lacks
+lacks_item b told items i before now story (untold.Ended ending.Unread) begins lacks = (unread_is_not_whole, lacks)
 
 -- an item does not fit, or there is no memory, and nothing failed
-pub lacks_item : (told : Option (List ℕ)) (before now : ℕ) (why : Untold) → now ≡ before → LacksItem why →
-    LacksStory told before now why
-lacks_item told before now untold.NoMemory counts lacks = tt
-lacks_item told before now (untold.Ended (ending.Unfit step)) counts lacks = counts
-lacks_item told before now (untold.Ended ending.Whole) counts lacks = absurd lacks
-lacks_item told before now (untold.Ended (ending.Fault fault)) counts lacks = absurd lacks
-lacks_item told before now (untold.Ended ending.Unread) counts lacks = absurd lacks
+pub lacks_next : (b : Bundle) (items : List Item) (i : Item) (before now : ℕ) (story : Story) (why : Untold) →
+    now ≡ before → LacksNext b items i why → TellsItem b items i before now story (Err why)
+lacks_next b items i before now story untold.NoMemory counts lacks = tt
+lacks_next b items i before now story (untold.Ended (ending.Unfit step)) counts lacks = (lacks, counts)
+lacks_next b items i before now story (untold.Ended ending.Whole) counts lacks = absurd lacks
+lacks_next b items i before now story (untold.Ended (ending.Fault fault)) counts lacks = absurd lacks
+lacks_next b items i before now story (untold.Ended ending.Unread) counts lacks = absurd lacks
 
--- what was read of a record, and how that ended
-pub deeds_told : {A : Type 0} (told : Option (List ℕ)) (before now : ℕ) (r : Result A Untold) →
-    TellsStory told before now r → TellsDeeds told before now r
-deeds_told {A} told before now (Ok a) tells = tells.1
-deeds_told {A} told before now (Err why) tells = tells
+-- the page that an item ends with was told, or not
+pub page_of_item : (b : Bundle) (items : List Item) (i : Item) (before now : ℕ) (story : Story)
+    (r : Result (Unit {0}) Untold) → TellsPage b (items ++ i ∷ []) before now story r →
+    TellsItem b items i before now story r
+page_of_item b items i before now story (Ok done) tells = tells
+page_of_item b items i before now story (Err untold.NoMemory) tells = tt
+page_of_item b items i before now story (Err (untold.Ended (ending.Unfit step))) tells = absurd tells
+page_of_item b items i before now story (Err (untold.Ended ending.Whole)) tells = absurd tells
+page_of_item b items i before now story (Err (untold.Ended (ending.Fault fault))) tells = absurd tells
+page_of_item b items i before now story (Err (untold.Ended ending.Unread)) tells = tells
 
--- more was told, and nothing failed
-pub tells_more : {A : Type 0} (told : Option (List ℕ)) (before now : ℕ) (r : Result A Untold) → now ≡ before →
-    IfErr r LacksItem → TellsDeeds told before now r
-tells_more {A} told before now (Ok a) counts lacks = counts
-tells_more {A} told before now (Err why) counts lacks = lacks_item told before now why counts lacks
+-- the page was told that was owed
+pub page_told : (b : Bundle) (items : List Item) (p : Presented) (old new : Story) (more : List ℕ) (before now : ℕ)
+    (r : Result (Unit {0}) Untold) → TellsBut b items p old → KeepsStory old new → TellsOn r →
+    IfOk r (λ done. string_bytes new.text ≡ string_bytes old.text ++ page_text p.step p.hart p.ctx more) →
+    now ≡ before → TellsPage b items before now new r
+page_told b items p old new more before now (Ok done) tells keeps on text counts =
+    (tells_page b items p old new more tells keeps text, counts)
+page_told b items p old new more before now (Err untold.NoMemory) tells keeps on text counts = tt
+page_told b items p old new more before now (Err (untold.Ended ended)) tells keeps on text counts = absurd on
 
 -- a story was told since the bundle was read
-pub tells_behind : {A : Type 0} (told now : Option (List ℕ)) (m n k : ℕ) (r : Result A Untold) → now ≡ told → n ≡ m →
-    TellsStory now n k r → TellsStory told m k r
-tells_behind {A} told now m n k (Ok a) same counts tells = ends_since told now m n k ending.Whole same counts tells
-tells_behind {A} told now m n k (Err why) same counts tells = lacks_since told now m n k why same counts tells
+pub tells_since : (b : Bundle) (told now : Option (List ℕ)) (m n k : ℕ) (r : Result Story Untold) → now ≡ told → n ≡ m →
+    TellsStory b now n k r → TellsStory b told m k r
+tells_since b told now m n k r same counts tells =
+    subst (λ (x : ℕ). TellsStory b told x k r) counts
+    (subst (λ (t : Option (List ℕ)). TellsStory b t n k r) same tells)

@@ -1,2 +1,7 @@
+pub mod Digits
+pub mod Joined
+pub mod ToldMore
+pub mod StoryMore
 pub mod Ends
 pub mod Answered
+pub mod SoFar

@@ -1,1 +1,4 @@
+pub mod Told
+pub mod Passages
+pub mod Telling
 pub mod Answering

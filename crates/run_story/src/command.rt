@@ -1,14 +1,20 @@
 //! The command `explain`.
-ghost use Rattle.std.specs.Prelude.{◌≡◌, ℕ, List, Option, IfErr};
+ghost use Rattle.std.specs.Prelude.{◌≡◌, ℕ, List, Option};
 ghost use Rattle.io_traits.specs.Told.{SameFiles};
 ghost use Rattle.command_parts.specs.Outside.{outside, output};
 ghost use Rattle.cloak_model.specs.Bundle.{IsInGrammar};
-ghost use Rattle.run_story.specs.Answering.{ExplainAnswers, LacksItem, ReadingEnds, ShowsStory, ShowsUntold, TellsDeeds, TellsStory};
+ghost use Rattle.cloak_model.specs.Record.{IsItem};
+ghost use Rattle.cloak_model.specs.declared.image.Bundle.{Bundle};
+ghost use Rattle.cloak_model.specs.declared.item.Item.{Item};
+ghost use Rattle.run_story.specs.Answering.{EndsAfter, ExplainAnswers, ShowsStory, ShowsUntold, TellsDeeds, TellsItem, TellsPage, TellsStory};
+ghost use Rattle.run_story.specs.Telling.{Tells, TellsBut, story_text};
 
 use crate::deeds::Deeds;
 use crate::presented::Presented;
 use crate::story::Story;
+use crate::telling::{PageStory, Passage};
 use crate::untold::Untold;
+use cloak_base::NoMemory;
 use cloak_model::{Bundle, Item};
 use command_parts::{Refusal, Status, read_bundle, refuse};
 use io_traits::{Shelf, Sink, put_all};
@@ -18,38 +24,22 @@ use record_text::next_item;
 use replayed_run::Watch;
 use std::alloc::Global;
 
-/// Takes an item, and notes what it shows of a page and what the kernel's step did that it ends.
-fn note_item(deeds: &mut Deeds, watch: &mut Watch, item: &Item) -> Result<(), Untold>
-    ensures { IfErr result LacksItem }
-{
+/// Takes an item, and notes what it shows of a page and what the kernel's step did that it ends. Returns that there is more to
+/// note.
+fn note_item(deeds: &mut Deeds, watch: &mut Watch, item: &Item) -> Result<bool, NoMemory> {
     let before = match item {
         Item::Step { .. } => deeds.before(watch),
         _ => None,
     };
-    let noted = match watch.take(item) {
-        Ok(Some(showing)) => deeds.note_showing(showing),
-        Ok(None) => Ok(()),
-        Err(unfit) => return Err(Untold::Ended(Ending::Unfit(unfit.step))),
-    };
-    let done = match before {
-        Some(before) => deeds.after(watch, &before),
-        None => Ok(()),
-    };
-    match (noted, done) {
-        (Ok(()), Ok(())) => Ok(()),
-        _ => Err(Untold::NoMemory),
+    match watch.take(item) {
+        Ok(Some(showing)) => deeds.note_showing(showing)?,
+        Ok(None) => {}
+        Err(_) => return Ok(false),
     }
-}
-
-/// What was gathered, if there is no item more.
-fn ended<A: Drop>(gathered: A, ending: Ending) -> Result<A, Untold>
-    ensures { (told : Option (List ℕ)) (before now : ℕ) → ReadingEnds told before now ending →
-        TellsStory told before now result }
-{
-    match ending {
-        Ending::Whole => Ok(gathered),
-        ending => Err(Untold::Ended(ending)),
+    if let Some(before) = before {
+        deeds.after(watch, &before)?;
     }
+    Ok(true)
 }
 
 /// The item is the question that was stopped by this page.
@@ -66,8 +56,7 @@ fn deeds_of<S: Shelf>(
     shelf: &mut S,
 ) -> Result<Deeds, Untold>
     requires { S.is_settled shelf.old }
-    ensures tells { TellsDeeds (S.held shelf.old name.now)
-        (S.reading_faults shelf.old) (S.reading_faults shelf.new) result }
+    ensures tells { TellsDeeds (S.reading_faults shelf.old) (S.reading_faults shelf.new) result }
     ensures files { SameFiles (S.held shelf.old) (S.held shelf.new) }
     ensures writing { S.writing_faults shelf.new ≡ S.writing_faults shelf.old }
     ensures settled { S.is_settled shelf.new }
@@ -78,13 +67,18 @@ fn deeds_of<S: Shelf>(
     loop {
         let item = match next_item(&mut reader, shelf, &mut kept) {
             Ok(tag) => kept.item(tag),
-            Err(ending) => return ended(deeds, ending),
+            Err(Ending::Unread) => return Err(Untold::Ended(Ending::Unread)),
+            Err(Ending::Whole) => return Ok(deeds),
+            Err(Ending::Fault(_)) => return Ok(deeds),
+            Err(Ending::Unfit(_)) => return Ok(deeds),
         };
         if is_stopped(watch, presented, item) {
             return Ok(deeds);
         }
-        if let Err(untold) = note_item(&mut deeds, watch, item) {
-            return Err(untold);
+        match note_item(&mut deeds, watch, item) {
+            Ok(true) => {}
+            Ok(false) => return Ok(deeds),
+            Err(_) => return Err(Untold::NoMemory),
         }
     }
 }
@@ -100,8 +94,8 @@ fn tell_page<S: Shelf>(
 ) -> Result<(), Untold>
     requires settled { S.is_settled shelf.old }
     requires bundle { IsInGrammar bundle.now }
-    ensures tells { TellsDeeds (S.held shelf.old name.now)
-        (S.reading_faults shelf.old) (S.reading_faults shelf.new) result }
+    ensures tells { (b : Bundle) (items : List Item) → TellsBut b items presented.now story.old →
+        TellsPage b items (S.reading_faults shelf.old) (S.reading_faults shelf.new) story.new result }
     ensures files { SameFiles (S.held shelf.old) (S.held shelf.new) }
     ensures writing { S.writing_faults shelf.new ≡ S.writing_faults shelf.old }
     ensures settled { S.is_settled shelf.new }
@@ -109,10 +103,18 @@ fn tell_page<S: Shelf>(
     let Ok(mut watch) = Watch::open(alloc, bundle) else {
         return Err(Untold::NoMemory);
     };
-    match deeds_of(alloc, &mut watch, presented, name, shelf) {
-        Ok(deeds) => story.tell_page(alloc, presented, &deeds),
-        Err(untold) => Err(untold),
-    }
+    let deeds = match deeds_of(alloc, &mut watch, presented, name, shelf) {
+        Ok(deeds) => deeds,
+        Err(untold) => return Err(untold),
+    };
+    let more = PageStory {
+        presented,
+        deeds: &deeds,
+    };
+    let Ok(more) = format!(in alloc; "{more}") else {
+        return Err(Untold::NoMemory);
+    };
+    story.tell(&Passage::Page(presented.step, presented.hart, presented.ctx, more))
 }
 
 /// Takes an item of a record, and tells the violation that it ends with.
@@ -126,8 +128,8 @@ fn tell_item<S: Shelf>(
 ) -> Result<(), Untold>
     requires settled { S.is_settled shelf.old }
     requires bundle { IsInGrammar bundle.now }
-    ensures tells { TellsDeeds (S.held shelf.old name.now)
-        (S.reading_faults shelf.old) (S.reading_faults shelf.new) result }
+    ensures tells { (items : List Item) → IsItem item.now → Tells bundle.now items story.old →
+        TellsItem bundle.now items item.now (S.reading_faults shelf.old) (S.reading_faults shelf.new) story.new result }
     ensures files { SameFiles (S.held shelf.old) (S.held shelf.new) }
     ensures writing { S.writing_faults shelf.new ≡ S.writing_faults shelf.old }
     ensures settled { S.is_settled shelf.new }
@@ -136,6 +138,19 @@ fn tell_item<S: Shelf>(
         Ok(Some(presented)) => tell_page(alloc, bundle, story, &presented, name, shelf),
         Ok(None) => Ok(()),
         Err(untold) => Err(untold),
+    }
+}
+
+/// The story of a record of which reading ended so.
+fn told_whole(story: Story, ended: Ending) -> Result<Story, Untold>
+    ensures { (b : Bundle) (told : Option (List ℕ)) (items : List Item) (before now : ℕ) → Tells b items story →
+        EndsAfter told items before now ended → TellsStory b told before now result }
+{
+    match ended {
+        Ending::Whole => Ok(story),
+        Ending::Unfit(step) => Err(Untold::Ended(Ending::Unfit(step))),
+        Ending::Fault(fault) => Err(Untold::Ended(Ending::Fault(fault))),
+        Ending::Unread => Err(Untold::Ended(Ending::Unread)),
     }
 }
 
@@ -148,7 +163,7 @@ fn tell<S: Shelf>(
 ) -> Result<Story, Untold>
     requires settled { S.is_settled shelf.old }
     requires bundle { IsInGrammar bundle.now }
-    ensures tells { TellsStory (S.held shelf.old name.now)
+    ensures tells { TellsStory bundle.now (S.held shelf.old name.now)
         (S.reading_faults shelf.old) (S.reading_faults shelf.new) result }
     ensures files { SameFiles (S.held shelf.old) (S.held shelf.new) }
     ensures writing { S.writing_faults shelf.new ≡ S.writing_faults shelf.old }
@@ -161,7 +176,7 @@ fn tell<S: Shelf>(
     loop {
         let item = match next_item(&mut reader, shelf, &mut kept) {
             Ok(tag) => kept.item(tag),
-            Err(ending) => return ended(story, ending),
+            Err(ended) => return told_whole(story, ended),
         };
         match tell_item(alloc, bundle, &mut story, item, name, shelf) {
             Ok(()) => {}
@@ -172,7 +187,7 @@ fn tell<S: Shelf>(
 
 /// Shows a story.
 fn show_story<O: Sink>(alloc: Global, story: &Story, out: &mut O) -> Status
-    ensures { ShowsStory (O.faults out.old) (O.faults out.new) result }
+    ensures { ShowsStory (story_text story.now) (output O.Sink out.old) (output O.Sink out.new) result }
 {
     let Ok(text) = format!(in alloc; "{story}") else {
         return refuse(out, &Refusal::NoMemory);

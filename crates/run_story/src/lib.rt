@@ -3,8 +3,12 @@
 //! The run is made again from the record (`replayed_run`). `Target` is what was presented in a step, and `PageDeed` is what was
 //! done before to a page and its frames. The record itself says that a violation was met: a program ended, or a hart asked for
 //! a context and there is neither a resume nor a program left. The record is read once for these, and once more up to each page
-//! that was presented, for the deeds; so nothing is kept of it but the text. `explain_command` is the command `explain`. That
-//! its text is the right one is tested, and no clause says it.
+//! that was presented, for the deeds; so nothing is kept of it but the text. `explain_command` is the command `explain`.
+//!
+//! The layer above may rely on this: which violations items tell is a definition (`specs/Told`), and so are their sentences
+//! (`specs/Passages`). A record is explained exactly if it is one and each item fits. Then a passage was shown for each of the
+//! violations in their order, and the last sentence. Of a page the passage says by definition the step, the hart, the context
+//! and the program; what it says more of it no clause names.
 #![tactic(auto)]
 
 mod command;

@@ -1,4 +1,12 @@
 //! What was presented as a violation was met.
+ghost use Rattle.std.specs.Prelude.{◌≡◌, IfSome, List, ℕ};
+ghost use Rattle.cloak_model.specs.KernelAlone.{kernel_alone, kernel_hart};
+ghost use Rattle.cloak_model.specs.declared.image.Bundle.{Bundle};
+ghost use Rattle.cloak_model.specs.declared.item.Item.{Item};
+ghost use Rattle.replayed_run.specs.Alone.{standing_told, words_of};
+ghost use Rattle.replayed_run.specs.Watching.{Watches, notes_of};
+ghost use Rattle.run_story.specs.Told as spec;
+ghost use Rattle.run_story.specs.Telling.{due_of};
 
 use alone_views::{AskedAccess, KernelPlace};
 use cloak_base::{HartId, Kind, PageId};
@@ -54,7 +62,10 @@ pub enum Target {
 
 /// The page of a program's question that was stopped, and the frame that was presented for it. Nothing is told if that frame
 /// has what was last shown of the page.
-fn presented_page(watch: &Watch, domain: u8, hart: usize, ctx: u32) -> Option<Presented> {
+fn presented_page(watch: &Watch, domain: u8, hart: usize, ctx: u32) -> Option<Presented>
+    ensures hart { IfSome result (λ p. p.hart ≡ hart) }
+    ensures ctx { IfSome result (λ p. p.ctx ≡ ctx) }
+{
     let (page, frame) = watch.presented(domain)?;
     let AskedAccess::Page { address, kind, .. } = watch.last_asked(domain) else {
         return None;
@@ -81,7 +92,9 @@ fn presented_page(watch: &Watch, domain: u8, hart: usize, ctx: u32) -> Option<Pr
 }
 
 /// The question of a context that was stopped.
-fn page_target(watch: &Watch, domain: u8, hart: usize, ctx: u32) -> Target {
+fn page_target(watch: &Watch, domain: u8, hart: usize, ctx: u32) -> Target
+    ensures { due_of result ≡ spec.Question hart ctx }
+{
     match presented_page(watch, domain, hart, ctx) {
         Some(presented) => Target::Page(presented),
         None => Target::Question { hart, ctx },
@@ -89,7 +102,10 @@ fn page_target(watch: &Watch, domain: u8, hart: usize, ctx: u32) -> Target {
 }
 
 /// What was presented as a program's question was stopped.
-pub fn question_target(watch: &Watch, domain: u8) -> Target {
+pub fn question_target(watch: &Watch, domain: u8) -> Target
+    ensures { (b : Bundle) (items : List Item) → Watches b items watch.now →
+        due_of result ≡ spec.question_due (kernel_alone b.kernel items).place }
+{
     match watch.place() {
         KernelPlace::Inside { hart, ctx } => page_target(watch, domain, hart, ctx),
         KernelPlace::Outside { .. } => Target::Nothing,
@@ -99,7 +115,9 @@ pub fn question_target(watch: &Watch, domain: u8) -> Target {
 }
 
 /// A space has another page table than this one.
-fn refused_by_table(satp: u32, first: Option<FirstTable>) -> Option<Refused> {
+fn refused_by_table(satp: u32, first: Option<FirstTable>) -> Option<Refused>
+    ensures { result ≡ spec.refused_by_table satp first }
+{
     match first {
         None => None,
         Some(first) => {
@@ -113,12 +131,9 @@ fn refused_by_table(satp: u32, first: Option<FirstTable>) -> Option<Refused> {
 }
 
 /// Why a context is not resumed under a page table.
-fn refusal(
-    watch: &Watch,
-    ctx: u32,
-    satp: u32,
-    context: Option<StandingContext>,
-) -> Option<Refused> {
+fn refusal(watch: &Watch, ctx: u32, satp: u32, context: Option<StandingContext>) -> Option<Refused>
+    ensures { result ≡ spec.refused_for (notes_of watch.now) ctx satp context }
+{
     match context {
         None => Some(Refused::Gone(watch.told(ctx))),
         Some(StandingContext { space, on }) => match on {
@@ -129,7 +144,9 @@ fn refusal(
 }
 
 /// The context that a hart names is not resumed for this reason.
-fn target_for(asking: AskedResume, refused: Option<Refused>) -> Target {
+fn target_for(asking: AskedResume, refused: Option<Refused>) -> Target
+    ensures { due_of result ≡ spec.due_for asking refused }
+{
     match refused {
         None => Target::Nothing,
         Some(refused) => Target::Context(asking, refused),
@@ -137,7 +154,11 @@ fn target_for(asking: AskedResume, refused: Option<Refused>) -> Target {
 }
 
 /// What is presented as a program ends in a step of a hart outside, which asks to resume a context.
-fn resume_target(watch: &Watch, domain: u32, hart: usize) -> Target {
+fn resume_target(watch: &Watch, domain: u32, hart: usize) -> Target
+    ensures { (b : Bundle) (items : List Item) → Watches b items watch.now →
+        due_of result ≡ spec.resume_due b items (notes_of watch.now) domain hart
+        (words_of (kernel_hart (kernel_alone b.kernel items).kernel hart)) }
+{
     let HartWords { ctx, satp } = watch.words_of(hart);
     if ctx / 8 == domain {
         let asking = AskedResume {
@@ -153,7 +174,9 @@ fn resume_target(watch: &Watch, domain: u32, hart: usize) -> Target {
 }
 
 /// A page that was presented for a question of this program.
-fn own_target(target: Target, domain: u32) -> Target {
+fn own_target(target: Target, domain: u32) -> Target
+    ensures { due_of result ≡ spec.own_due domain (due_of target) }
+{
     match target {
         Target::Page(presented) => {
             if presented.ctx / 8 == domain {
@@ -175,7 +198,11 @@ fn own_target(target: Target, domain: u32) -> Target {
 }
 
 /// By what a program is about to end, if this was presented in the step before.
-pub fn end_target(watch: &Watch, target: Target, domain: u32) -> Target {
+pub fn end_target(watch: &Watch, target: Target, domain: u32) -> Target
+    ensures { (b : Bundle) (items : List Item) → Watches b items watch.now →
+        due_of result ≡ spec.due_at b items (notes_of watch.now) (due_of target) domain
+        (kernel_alone b.kernel items).place }
+{
     match watch.place() {
         KernelPlace::Outside { hart } => resume_target(watch, domain, hart),
         KernelPlace::Between => own_target(target, domain),

@@ -1,11 +1,19 @@
 //! The story of a run, as far as its items were taken.
-ghost use Rattle.std.specs.Prelude.{IfErr};
+ghost use Rattle.std.specs.Prelude.{◌≡◌, ◌++◌, [], ◌∷◌, List, ℕ, Some, None, IfOk, is_some, slice_index_or, slice_set, string_bytes};
+ghost use Rattle.std.specs.List.{count_by};
+ghost use Rattle.std.specs.Fmt.{DisplaysOnOk};
 ghost use Rattle.cloak_model.specs.Bundle.{IsInGrammar};
-ghost use Rattle.run_story.specs.Answering.{LacksItem};
+ghost use Rattle.cloak_model.specs.Record.{IsItem};
+ghost use Rattle.cloak_model.specs.declared.image.Bundle.{Bundle};
+ghost use Rattle.cloak_model.specs.declared.item.Item.{Item};
+ghost use Rattle.cloak_model.specs.KernelAlone.{kernel_alone};
+ghost use Rattle.replayed_run.specs.Watching.{Watches, notes_of};
+ghost use Rattle.run_story.specs.Passages.{no_violation, passage_text, summary, violations_counted};
+ghost use Rattle.run_story.specs.Telling.{AddsOutcome, IsEndTold, KeepsRest, KeepsStory, NotesItem, StoryTakes, Tells, TellsOn, due_of, story_text};
+ghost use Rattle.run_story.specs.Told as spec;
 
-use crate::deeds::Deeds;
 use crate::presented::{AskedResume, Presented, Refused, Target, end_target, question_target};
-use crate::telling::{PageStory, Passage};
+use crate::telling::Passage;
 use crate::untold::Untold;
 use cloak_base::NoMemory;
 use cloak_model::{Bundle, Item};
@@ -29,20 +37,24 @@ pub struct Story {
 
 /// An item does not fit at this step.
 fn unfit(step: u32) -> Untold
-    ensures { LacksItem result }
+    ensures { result ≡ Untold.Ended (Ending.Unfit step) }
 {
     Untold::Ended(Ending::Unfit(step))
 }
 
 /// Notes that a program ended in a step.
-fn set_ended(ended: &mut [Option<u32>; 4], domain: usize, step: u32) {
+fn set_ended(ended: &mut [Option<u32>; 4], domain: usize, step: u32)
+    ensures { ended.new ≡ slice_set ended.old domain (Some step) }
+{
     if domain < ended.len() {
         ended[domain] = Some(step);
     }
 }
 
 /// How many programs ended.
-fn programs_ended(ended: &[Option<u32>; 4]) -> usize {
+fn programs_ended(ended: &[Option<u32>; 4]) -> usize
+    ensures { result ≡ count_by is_some ended.now }
+{
     ended.iter().filter(|ended| ended.is_some()).count()
 }
 
@@ -50,6 +62,7 @@ impl Story {
     /// The story of the run of a bundle before its first item.
     pub fn open(alloc: Global, bundle: &Bundle) -> Result<Story, NoMemory>
         requires { IsInGrammar bundle.now }
+        ensures { IfOk result (Tells bundle.now []) }
     {
         Ok(Story {
             watch: Watch::open(alloc, bundle)?,
@@ -62,7 +75,10 @@ impl Story {
 
     /// Tells more.
     pub fn tell(&mut self, passage: &Passage) -> Result<(), Untold>
-        ensures { IfErr result LacksItem }
+        ensures told { TellsOn result }
+        ensures text { IfOk result
+            (λ done. string_bytes self.new.text ≡ string_bytes self.old.text ++ passage_text passage.now) }
+        ensures same { KeepsStory self.old self.new }
     {
         match write!(self.text, "{passage}") {
             Ok(()) => Ok(()),
@@ -70,24 +86,10 @@ impl Story {
         }
     }
 
-    /// Tells of a page that was presented, with what was done to it before.
-    pub fn tell_page(
-        &mut self,
-        alloc: Global,
-        presented: &Presented,
-        deeds: &Deeds,
-    ) -> Result<(), Untold>
-        ensures { IfErr result LacksItem }
-    {
-        let more = PageStory { presented, deeds };
-        let Ok(more) = format!(in alloc; "{more}") else {
-            return Err(Untold::NoMemory);
-        };
-        self.tell(&Passage::Page(presented.step, presented.hart, presented.ctx, more))
-    }
-
     /// The step in which a program ended.
-    fn ended_at(&self, domain: u32) -> Option<u32> {
+    fn ended_at(&self, domain: u32) -> Option<u32>
+        ensures { result ≡ slice_index_or self.now.ended domain None }
+    {
         let domain = domain as usize;
         if domain < self.ended.len() {
             self.ended[domain]
@@ -98,7 +100,9 @@ impl Story {
 
     /// Tells a violation that is no refused resume.
     fn tell_end(&mut self, passage: &Passage) -> Result<Option<Presented>, Untold>
-        ensures { IfErr result LacksItem }
+        ensures adds { (step : ℕ) (v : spec.Violation) → IsEndTold v (passage_text passage.now) →
+            AddsOutcome (spec.Violated v) step self.old self.new result }
+        ensures same { KeepsRest self.old self.new }
     {
         match self.tell(passage) {
             Ok(()) => Ok(None),
@@ -108,7 +112,9 @@ impl Story {
 
     /// A context was asked for. This was refused, if there is no such program or it ended before.
     fn tell_none(&mut self, step: u32, asked: Asking) -> Result<Option<Presented>, Untold>
-        ensures { IfErr result LacksItem }
+        ensures adds { (b : Bundle) (items : List Item) → Watches b items self.old.watch →
+            AddsOutcome (spec.asked_outcome b step self.old.ended (Some asked)) step self.old self.new result }
+        ensures same { KeepsRest self.old self.new }
     {
         let ended = self.ended_at(asked.ctx / 8);
         if ended.is_none() && self.watch.has_program(asked.ctx / 8) {
@@ -123,7 +129,9 @@ impl Story {
 
     /// A step ended in which no program ended by a resume.
     fn tell_asked(&mut self, step: u32, asked: Option<Asking>) -> Result<Option<Presented>, Untold>
-        ensures { IfErr result LacksItem }
+        ensures adds { (b : Bundle) (items : List Item) → Watches b items self.old.watch →
+            AddsOutcome (spec.asked_outcome b step self.old.ended asked) step self.old self.new result }
+        ensures same { KeepsRest self.old self.new }
     {
         match asked {
             None => Ok(None),
@@ -139,7 +147,8 @@ impl Story {
         why: Refused,
         asked: Option<Asking>,
     ) -> Result<Option<Presented>, Untold>
-        ensures { IfErr result LacksItem }
+        ensures adds { AddsOutcome (spec.resume_outcome asking why asked) step self.old self.new result }
+        ensures same { KeepsRest self.old self.new }
     {
         match asked {
             None => Err(unfit(step)),
@@ -155,7 +164,12 @@ impl Story {
 
     /// A step ended, in which a hart may have asked for a context that it did not get.
     fn note_made(&mut self, step: u32) -> Result<Option<Presented>, Untold>
-        ensures { IfErr result LacksItem }
+        ensures adds { (b : Bundle) (items : List Item) → Watches b items self.old.watch →
+            AddsOutcome (spec.step_outcome b step self.old.ended (due_of self.old.target) (notes_of self.old.watch).asked)
+            step self.old self.new result }
+        ensures target { self.new.target ≡ Target.Nothing }
+        ensures watch { self.new.watch ≡ self.old.watch }
+        ensures ended { self.new.ended ≡ self.old.ended }
     {
         let target = self.target;
         self.target = Target::Nothing;
@@ -170,7 +184,10 @@ impl Story {
 
     /// A program ended. If it was by a resume, that is told as the step ends: then the kernel alone has asked for the context.
     fn note_ended(&mut self, step: u32, domain: u32) -> Result<Option<Presented>, Untold>
-        ensures { IfErr result LacksItem }
+        ensures adds { AddsOutcome (spec.end_outcome step (due_of self.old.target)) step self.old self.new result }
+        ensures watch { self.new.watch ≡ self.old.watch }
+        ensures target { self.new.target ≡ self.old.target }
+        ensures ended { self.new.ended ≡ slice_set self.old.ended domain (Some step) }
     {
         set_ended(&mut self.ended, domain as usize, step);
         match self.target {
@@ -182,19 +199,35 @@ impl Story {
     }
 
     /// Notes what is presented as a program is about to end.
-    fn note_ending(&mut self, item: &Item) {
+    fn note_ending(&mut self, item: &Item)
+        ensures due { (b : Bundle) (items : List Item) → Watches b items self.old.watch →
+            due_of self.new.target ≡ spec.due_met b items (notes_of self.old.watch) (due_of self.old.target) item.now }
+        ensures same { self.new ≡ record self.old { target = self.new.target } }
+    {
         match item {
             Item::Ended { domain } => {
                 let target = self.target;
                 self.target = end_target(&self.watch, target, u32::from(*domain));
             }
-            _ => {}
+            Item::Cipher { .. }
+            | Item::Put { .. }
+            | Item::Leave(_)
+            | Item::End
+            | Item::Ok { .. }
+            | Item::Absent { .. }
+            | Item::Word { .. }
+            | Item::Timer { .. }
+            | Item::Resume { .. }
+            | Item::Step { .. }
+            | Item::Close { .. }
+            | Item::Stopped { .. } => {}
         }
     }
 
     /// Notes an item that the watch took in this step.
     fn note(&mut self, item: &Item, step: u32) -> Result<Option<Presented>, Untold>
-        ensures { IfErr result LacksItem }
+        ensures { (b : Bundle) (items : List Item) → Watches b items self.old.watch →
+            NotesItem b (kernel_alone b.kernel items).place item.now step self.old self.new result }
     {
         match item {
             Item::Stopped { domain } => {
@@ -204,26 +237,37 @@ impl Story {
             Item::Ended { domain } => self.note_ended(step, u32::from(*domain)),
             Item::Step { .. } => self.note_made(step),
             Item::Close { .. } => self.note_made(step),
-            _ => Ok(None),
+            Item::Cipher { .. }
+            | Item::Put { .. }
+            | Item::Leave(_)
+            | Item::End
+            | Item::Ok { .. }
+            | Item::Absent { .. }
+            | Item::Word { .. }
+            | Item::Timer { .. }
+            | Item::Resume { .. } => Ok(None),
         }
     }
 
     /// Takes the next item, and tells the violation that it ends with. A page that was presented is returned: it is told with
     /// what was done to it before.
     pub fn take(&mut self, item: &Item) -> Result<Option<Presented>, Untold>
-        ensures { IfErr result LacksItem }
+        ensures { (b : Bundle) (items : List Item) → IsItem item.now → Tells b items self.old →
+            StoryTakes b items item.now self.new result }
     {
         let step = self.watch.step();
         self.note_ending(item);
-        if let Err(at) = self.watch.take(item) {
-            return Err(unfit(at.step));
+        match self.watch.take(item) {
+            Ok(_) => self.note(item, step),
+            Err(at) => Err(unfit(at.step)),
         }
-        self.note(item, step)
     }
 }
 
 /// The last sentence of a story without a violation.
-fn write_none<W: fmt::Write>(steps: u32, f: &mut fmt::Formatter<W>) -> fmt::Result {
+fn write_none<W: fmt::Write>(steps: u32, f: &mut fmt::Formatter<W>) -> fmt::Result
+    ensures { DisplaysOnOk W.write_str_gives f.old result (Some (no_violation steps)) f.new }
+{
     write!(f, "There was no violation: the run has {steps} steps, ")?;
     f.write_str("and ended by a halt, by its number of steps, or for want of randomness.\n")
 }
@@ -234,7 +278,9 @@ fn write_some<W: fmt::Write>(
     ended: usize,
     refused: u64,
     f: &mut fmt::Formatter<W>,
-) -> fmt::Result {
+) -> fmt::Result
+    ensures { DisplaysOnOk W.write_str_gives f.old result (Some (violations_counted steps ended refused)) f.new }
+{
     write!(
         f,
         "The run has {steps} steps; programs that ended: {ended}; "
@@ -248,7 +294,9 @@ fn write_summary<W: fmt::Write>(
     ended: usize,
     refused: u64,
     f: &mut fmt::Formatter<W>,
-) -> fmt::Result {
+) -> fmt::Result
+    ensures { DisplaysOnOk W.write_str_gives f.old result (Some (summary steps ended refused)) f.new }
+{
     if ended != 0 {
         return write_some(steps, ended, refused, f);
     }
@@ -259,6 +307,8 @@ fn write_summary<W: fmt::Write>(
 }
 
 impl fmt::Display for Story {
+    ghost output = { λ s. Some (story_text s) };
+
     fn fmt<W: fmt::Write>(&self, f: &mut fmt::Formatter<W>) -> fmt::Result {
         f.write_str(&self.text)?;
         write_summary(

@@ -1,5 +1,11 @@
 //! The story in sentences.
 
+ghost use Rattle.std.specs.Prelude.{◌≡◌, Some};
+ghost use Rattle.std.specs.Fmt.{DisplaysOnOk};
+ghost use Rattle.std.specs.Str.{IsUtf8};
+ghost use Rattle.cloak_model.specs.Report.{hexadecimal};
+ghost use Rattle.run_story.specs.Passages as spec;
+
 use crate::deeds::{Deeds, FrameChange, PageDeed, PageEvent};
 use crate::presented::{AskedResume, Presented, Refused};
 use cloak_base::{Kind, PageId};
@@ -236,7 +242,9 @@ fn write_asking<W: fmt::Write>(
     hart: usize,
     ctx: u32,
     f: &mut fmt::Formatter<W>,
-) -> fmt::Result {
+) -> fmt::Result
+    ensures { DisplaysOnOk W.write_str_gives f.old result (Some (spec.asking_text step hart ctx)) f.new }
+{
     write!(
         f,
         "A violation at step {step}: the kernel, on hart {hart}, "
@@ -245,16 +253,17 @@ fn write_asking<W: fmt::Write>(
 }
 
 /// The end of a context's program.
-fn write_end<W: fmt::Write>(ctx: u32, f: &mut fmt::Formatter<W>) -> fmt::Result {
+fn write_end<W: fmt::Write>(ctx: u32, f: &mut fmt::Formatter<W>) -> fmt::Result
+    ensures { DisplaysOnOk W.write_str_gives f.old result (Some (spec.end_text ctx)) f.new }
+{
     let domain = ctx / 8;
     write!(f, "So program {domain} ended.\n")
 }
 
 /// Where a context was resumed.
-fn write_resumed<W: fmt::Write>(
-    told: Option<ToldContext>,
-    f: &mut fmt::Formatter<W>,
-) -> fmt::Result {
+fn write_resumed<W: fmt::Write>(told: Option<ToldContext>, f: &mut fmt::Formatter<W>) -> fmt::Result
+    ensures { DisplaysOnOk W.write_str_gives f.old result (Some (spec.resumed_text told)) f.new }
+{
     match told {
         Some(ToldContext { resumed, .. }) => {
             write!(f, ", where it was resumed at step {resumed}.\n")
@@ -264,7 +273,9 @@ fn write_resumed<W: fmt::Write>(
 }
 
 /// Where a context ended, if it is known.
-fn write_ended<W: fmt::Write>(ended: Option<u32>, f: &mut fmt::Formatter<W>) -> fmt::Result {
+fn write_ended<W: fmt::Write>(ended: Option<u32>, f: &mut fmt::Formatter<W>) -> fmt::Result
+    ensures { DisplaysOnOk W.write_str_gives f.old result (Some (spec.ended_text ended)) f.new }
+{
     match ended {
         Some(step) => write!(f, "it ended at step {step}.\n"),
         None => f.write_str("the record has no such context.\n"),
@@ -272,11 +283,39 @@ fn write_ended<W: fmt::Write>(ended: Option<u32>, f: &mut fmt::Formatter<W>) -> 
 }
 
 /// A context that is not there.
-fn write_gone<W: fmt::Write>(told: Option<ToldContext>, f: &mut fmt::Formatter<W>) -> fmt::Result {
+fn write_gone<W: fmt::Write>(told: Option<ToldContext>, f: &mut fmt::Formatter<W>) -> fmt::Result
+    ensures { DisplaysOnOk W.write_str_gives f.old result (Some (spec.gone_text told)) f.new }
+{
     match told {
         Some(ToldContext { ended, .. }) => write_ended(ended, f),
         None => write_ended(None, f),
     }
+}
+
+/// A text of these bytes, if they are one.
+fn shown_text(bytes: &[u8]) -> &str
+    ensures { IsUtf8 bytes.now → result.now ≡ bytes.now }
+{
+    std::str::from_utf8(bytes).unwrap_or("")
+}
+
+/// The hexadecimal digits of a word.
+fn word_digits(word: u32) -> [u8; 8]
+    ensures { result ≡ hexadecimal word }
+{
+    let mut digits = [0; 8];
+    let Ok(()) = hex::encode_to_slice(word.to_be_bytes().as_slice(), &mut digits) else {
+        unreachable!();
+    };
+    digits
+}
+
+/// A word in eight hexadecimal digits.
+fn write_word<W: fmt::Write>(word: u32, f: &mut fmt::Formatter<W>) -> fmt::Result
+    ensures { DisplaysOnOk W.write_str_gives f.old result (Some (hexadecimal word)) f.new }
+{
+    let digits = word_digits(word);
+    f.write_str(shown_text(&digits))
 }
 
 /// A space that has another page table.
@@ -284,22 +323,28 @@ fn write_mapping<W: fmt::Write>(
     satp: u32,
     first: FirstTable,
     f: &mut fmt::Formatter<W>,
-) -> fmt::Result {
+) -> fmt::Result
+    ensures { DisplaysOnOk W.write_str_gives f.old result (Some (spec.mapping_text satp first)) f.new }
+{
     let FirstTable { satp: was, step } = first;
-    write!(
-        f,
-        "The page table of the hart is {satp:08x} (satp), and the context's space was first resumed under "
-    )?;
-    write!(f, "{was:08x}, at step {step}.\n")
+    f.write_str("The page table of the hart is ")?;
+    write_word(satp, f)?;
+    f.write_str(" (satp), and the context's space was first resumed under ")?;
+    write_word(was, f)?;
+    write!(f, ", at step {step}.\n")
 }
 
 /// The rule on contexts that are resumed.
-fn write_context_rule<W: fmt::Write>(f: &mut fmt::Formatter<W>) -> fmt::Result {
+fn write_context_rule<W: fmt::Write>(f: &mut fmt::Formatter<W>) -> fmt::Result
+    ensures { DisplaysOnOk W.write_str_gives f.old result (Some spec.context_rule) f.new }
+{
     f.write_str("The rule: a context that is resumed is there, and runs on no hart.\n")
 }
 
 /// Why a context was not resumed, and the rule that asking for it broke.
-fn write_why<W: fmt::Write>(satp: u32, why: Refused, f: &mut fmt::Formatter<W>) -> fmt::Result {
+fn write_why<W: fmt::Write>(satp: u32, why: Refused, f: &mut fmt::Formatter<W>) -> fmt::Result
+    ensures { DisplaysOnOk W.write_str_gives f.old result (Some (spec.why_text satp why)) f.new }
+{
     match why {
         Refused::Running(on, told) => {
             let on = on.0;
@@ -326,18 +371,18 @@ fn write_resume<W: fmt::Write>(
     asking: &AskedResume,
     why: Refused,
     f: &mut fmt::Formatter<W>,
-) -> fmt::Result {
+) -> fmt::Result
+    ensures { DisplaysOnOk W.write_str_gives f.old result (Some (spec.resume_text asking.now why)) f.new }
+{
     write_asking(asking.step, asking.hart, asking.ctx, f)?;
     write_why(asking.satp, why, f)?;
     write_end(asking.ctx, f)
 }
 
 /// Why no program was left to end.
-fn write_left<W: fmt::Write>(
-    ctx: u32,
-    ended: Option<u32>,
-    f: &mut fmt::Formatter<W>,
-) -> fmt::Result {
+fn write_left<W: fmt::Write>(ctx: u32, ended: Option<u32>, f: &mut fmt::Formatter<W>) -> fmt::Result
+    ensures { DisplaysOnOk W.write_str_gives f.old result (Some (spec.left_text ctx ended)) f.new }
+{
     let domain = ctx / 8;
     match ended {
         None => write!(f, "there is no program {domain}.\n"),
@@ -351,7 +396,9 @@ fn write_none<W: fmt::Write>(
     asked: Asking,
     ended: Option<u32>,
     f: &mut fmt::Formatter<W>,
-) -> fmt::Result {
+) -> fmt::Result
+    ensures { DisplaysOnOk W.write_str_gives f.old result (Some (spec.none_text step asked ended)) f.new }
+{
     write_asking(step, asked.hart, asked.ctx, f)?;
     f.write_str("The resume was refused: ")?;
     write_left(asked.ctx, ended, f)
@@ -364,7 +411,9 @@ fn write_page<W: fmt::Write>(
     ctx: u32,
     more: &str,
     f: &mut fmt::Formatter<W>,
-) -> fmt::Result {
+) -> fmt::Result
+    ensures { DisplaysOnOk W.write_str_gives f.old result (Some (spec.page_text step hart ctx more.now)) f.new }
+{
     write!(
         f,
         "A violation at step {step}: context {ctx}, on hart {hart}, "
@@ -374,7 +423,9 @@ fn write_page<W: fmt::Write>(
 }
 
 /// A page of which no more is told.
-fn write_question<W: fmt::Write>(step: u32, ctx: u32, f: &mut fmt::Formatter<W>) -> fmt::Result {
+fn write_question<W: fmt::Write>(step: u32, ctx: u32, f: &mut fmt::Formatter<W>) -> fmt::Result
+    ensures { DisplaysOnOk W.write_str_gives f.old result (Some (spec.question_text step ctx)) f.new }
+{
     let domain = ctx / 8;
     write!(
         f,
@@ -385,6 +436,8 @@ fn write_question<W: fmt::Write>(step: u32, ctx: u32, f: &mut fmt::Formatter<W>)
 }
 
 impl fmt::Display for Passage {
+    ghost output = { λ p. Some (spec.passage_text p) };
+
     fn fmt<W: fmt::Write>(&self, f: &mut fmt::Formatter<W>) -> fmt::Result {
         match self {
             Passage::Resume(asking, why) => write_resume(asking, *why, f),

@@ -12,6 +12,7 @@ use Rattle.cloak_model.specs.AskPages.{ask_put}
 use Rattle.cloak_model.specs.Resources.{Resources, page_at}
 use Rattle.cloak_model.specs.Contexts.{Context, in_phase, word_of_page}
 use Rattle.cloak_model.specs.Calls as calls
+use Rattle.cloak_model.proofs.CallParts as call_parts
 use Rattle.script_fold.proofs.Aligned.{byte_aligned}
 use Rattle.script_fold.proofs.Scripts.{Reach, Get, Put, Write, EndClaims, IsStop, Scripted, scripted_gives, scripted_asks, scripted_reads, scripted_changes}
 use Rattle.script_fold.proofs.InstructionScripts.{IsOwn, own_page}
@@ -34,8 +35,7 @@ of_copy c = record {
 }
 
 unfoldable pub in_put_scripted : (d : ℕ) (c : Context) (done byte : ℕ) (a : Answer) →
-    Scripted d (of_copy c) (calls.in_put c done byte a)
-unfolding calls.in_put
+    Scripted d (of_copy c) (call_parts.in_put c done byte a)
 in_put_scripted d c done byte told.Ok = scripted_gives d (of_copy c) _ refl
 in_put_scripted d c done byte (told.Absent cause) = scripted_gives d (of_copy c) _ refl
 in_put_scripted d c done byte (told.Word value) = scripted_gives d (of_copy c) _ refl
@@ -43,36 +43,34 @@ in_put_scripted d c done byte told.Stopped = scripted_gives d (of_copy c) _ refl
 
 pub in_byte_scripted : (d : ℕ) (c : Context) (done byte : ℕ) →
     Scripted d (of_copy c) (then_ask (ask_put (calls.byte_address (calls.area c) done) 1 byte)
-    (calls.in_put c done byte))
+    (call_parts.in_put c done byte))
 unfolding in_put_scripted IsStop
 in_byte_scripted d c done byte =
     let at = calls.byte_address (calls.area c) done in
-    scripted_asks d (of_copy c) (Put at 1 byte (byte_aligned at)) (calls.in_put c done byte)
+    scripted_asks d (of_copy c) (Put at 1 byte (byte_aligned at)) (call_parts.in_put c done byte)
     (in_put_scripted d c done byte) refl
 
 unfoldable pub in_reached_scripted : (d : ℕ) (c : Context) (q : PageId) → q.domain ≡ d → (done : ℕ) (a : Answer) →
-    Scripted d (of_copy c) (calls.in_reached c q done a)
-unfolding calls.in_reached
+    Scripted d (of_copy c) (call_parts.in_reached c q done a)
 in_reached_scripted d c q own done told.Ok =
     scripted_reads d (of_copy c) q own (calls.byte_address (calls.buffer c) done % 4096) 1
-    (λ byte. then_ask (ask_put (calls.byte_address (calls.area c) done) 1 byte) (calls.in_put c done byte))
+    (λ byte. then_ask (ask_put (calls.byte_address (calls.area c) done) 1 byte) (call_parts.in_put c done byte))
     (in_byte_scripted d c done)
 in_reached_scripted d c q own done (told.Absent cause) = scripted_gives d (of_copy c) _ refl
 in_reached_scripted d c q own done (told.Word value) = scripted_gives d (of_copy c) _ refl
 in_reached_scripted d c q own done told.Stopped = scripted_gives d (of_copy c) _ refl
 
 in_placed_scripted : (d : ℕ) (c : Context) (done : ℕ) (o : Option PageId) (cloaked : Bool) → IsOwn d o →
-    Scripted d (of_copy c) (calls.in_placed c done o cloaked)
-unfolding calls.in_placed in_reached_scripted IsStop
+    Scripted d (of_copy c) (call_parts.in_placed c done o cloaked)
+unfolding in_reached_scripted IsStop
 in_placed_scripted d c done None cloaked own = scripted_gives d (of_copy c) _ refl
 in_placed_scripted d c done (Some q) true own = scripted_gives d (of_copy c) _ refl
 in_placed_scripted d c done (Some q) false own =
     scripted_asks d (of_copy c) (Reach q own (calls.byte_address (calls.buffer c) done) Load)
-    (calls.in_reached c q done) (in_reached_scripted d c q own done) refl
+    (call_parts.in_reached c q done) (in_reached_scripted d c q own done) refl
 
 in_step_scripted : (d : ℕ) (all : Bool) (r : Resources) (c : Context) (done : ℕ) →
-    Scripted d (of_copy c) (calls.in_step all d r c done)
-unfolding calls.in_step
+    Scripted d (of_copy c) (call_parts.in_step all d r c done)
 in_step_scripted d true r c done = scripted_gives d (of_copy c) _ refl
 in_step_scripted d false r c done =
     let at = calls.byte_address (calls.buffer c) done in
@@ -86,8 +84,7 @@ copy_in_scripted d r c done = in_step_scripted d (nat_le (calls.call_length c) d
 
 unfoldable pub out_reached_scripted : (d : ℕ) (c : Context) (q : PageId) → q.domain ≡ d →
     (done total byte : ℕ) (a : Answer) →
-    Scripted d (of_copy c) (calls.out_reached c q done total byte a)
-unfolding calls.out_reached
+    Scripted d (of_copy c) (call_parts.out_reached c q done total byte a)
 out_reached_scripted d c q own done total byte told.Ok =
     scripted_changes d (of_copy c) (Write q own (calls.byte_address (calls.buffer c) done % 4096) 1 byte)
     (record {
@@ -100,28 +97,27 @@ out_reached_scripted d c q own done total byte (told.Word value) = scripted_give
 out_reached_scripted d c q own done total byte told.Stopped = scripted_gives d (of_copy c) _ refl
 
 unfoldable pub out_got_scripted : (d : ℕ) (c : Context) (q : PageId) → q.domain ≡ d → (done total : ℕ) (a : Answer) →
-    Scripted d (of_copy c) (calls.out_got c q done total a)
-unfolding calls.out_got out_reached_scripted IsStop
+    Scripted d (of_copy c) (call_parts.out_got c q done total a)
+unfolding out_reached_scripted IsStop
 out_got_scripted d c q own done total (told.Word byte) =
     scripted_asks d (of_copy c) (Reach q own (calls.byte_address (calls.buffer c) done) Store)
-    (calls.out_reached c q done total byte)
+    (call_parts.out_reached c q done total byte)
     (out_reached_scripted d c q own done total byte) refl
 out_got_scripted d c q own done total (told.Absent cause) = scripted_gives d (of_copy c) _ refl
 out_got_scripted d c q own done total told.Ok = scripted_gives d (of_copy c) _ refl
 out_got_scripted d c q own done total told.Stopped = scripted_gives d (of_copy c) _ refl
 
 out_placed_scripted : (d : ℕ) (c : Context) (done total : ℕ) (o : Option PageId) (cloaked : Bool) → IsOwn d o →
-    Scripted d (of_copy c) (calls.out_placed c done total o cloaked)
-unfolding calls.out_placed out_got_scripted IsStop
+    Scripted d (of_copy c) (call_parts.out_placed c done total o cloaked)
+unfolding out_got_scripted IsStop
 out_placed_scripted d c done total None cloaked own = scripted_gives d (of_copy c) _ refl
 out_placed_scripted d c done total (Some q) true own = scripted_gives d (of_copy c) _ refl
 out_placed_scripted d c done total (Some q) false own =
-    scripted_asks d (of_copy c) (Get (calls.byte_address (calls.area c) done) 1) (calls.out_got c q done total)
+    scripted_asks d (of_copy c) (Get (calls.byte_address (calls.area c) done) 1) (call_parts.out_got c q done total)
     (out_got_scripted d c q own done total) refl
 
 out_step_scripted : (d : ℕ) (all : Bool) (r : Resources) (c : Context) (done total : ℕ) →
-    Scripted d (of_copy c) (calls.out_step all d r c done total)
-unfolding calls.out_step
+    Scripted d (of_copy c) (call_parts.out_step all d r c done total)
 out_step_scripted d true r c done total = scripted_gives d (of_copy c) _ refl
 out_step_scripted d false r c done total =
     let at = calls.byte_address (calls.buffer c) done in

@@ -16,6 +16,7 @@ use Rattle.cloak_model.specs.Effect.{effect}
 use Rattle.cloak_model.specs.Resources.{Resources, lookup, page_id, page_at}
 use Rattle.cloak_model.specs.Contexts.{Context, set_word, moved_on, word_of_page}
 use Rattle.cloak_model.specs.InsideStep as inside
+use Rattle.cloak_model.proofs.InsideParts as inside_parts
 use Rattle.script_fold.proofs.Aligned.{IsAligned, StoresAligned, effect_aligned}
 use Rattle.script_fold.proofs.Scripts.{Reach, Get, Put, Write, EndClaims, IsStop, Scripted, scripted_gives, scripted_asks, scripted_reads, scripted_changes}
 use Rattle.cloak_model.specs.Asking.{Asking, answered, then_ask}
@@ -61,24 +62,21 @@ of_instruction c = record {
 }
 
 pub loaded_scripted : (d : ℕ) (c : Context) (rd va width : ℕ) (is_signed : Bool) (value : ℕ) →
-    Scripted d (of_instruction c) (inside.loaded_inside c rd va width is_signed value)
-unfolding inside.loaded_inside
+    Scripted d (of_instruction c) (inside_parts.loaded_inside c rd va width is_signed value)
 loaded_scripted d c rd va width is_signed value = scripted_gives d (of_instruction c) _ refl
 
 unfoldable pub load_reached_scripted : (d : ℕ) (c : Context) (q : PageId) → q.domain ≡ d →
     (rd va width : ℕ) (is_signed : Bool) (a : Answer) →
-    Scripted d (of_instruction c) (inside.load_reached c q rd va width is_signed a)
-unfolding inside.load_reached
+    Scripted d (of_instruction c) (inside_parts.load_reached c q rd va width is_signed a)
 load_reached_scripted d c q own rd va width is_signed told.Ok =
-    scripted_reads d (of_instruction c) q own (va % 4096) width (inside.loaded_inside c rd va width is_signed)
+    scripted_reads d (of_instruction c) q own (va % 4096) width (inside_parts.loaded_inside c rd va width is_signed)
     (loaded_scripted d c rd va width is_signed)
 load_reached_scripted d c q own rd va width is_signed (told.Absent cause) = scripted_gives d (of_instruction c) _ refl
 load_reached_scripted d c q own rd va width is_signed (told.Word value) = scripted_gives d (of_instruction c) _ refl
 load_reached_scripted d c q own rd va width is_signed told.Stopped = scripted_gives d (of_instruction c) _ refl
 
 unfoldable pub load_got_scripted : (d : ℕ) (c : Context) (rd va width : ℕ) (is_signed : Bool) (a : Answer) →
-    Scripted d (of_instruction c) (inside.load_got c rd va width is_signed a)
-unfolding inside.load_got
+    Scripted d (of_instruction c) (inside_parts.load_got c rd va width is_signed a)
 load_got_scripted d c rd va width is_signed (told.Word value) = scripted_gives d (of_instruction c) _ refl
 load_got_scripted d c rd va width is_signed (told.Absent cause) = scripted_gives d (of_instruction c) _ refl
 load_got_scripted d c rd va width is_signed told.Ok = scripted_gives d (of_instruction c) _ refl
@@ -88,16 +86,15 @@ load_scripted : (d : ℕ) (c : Context) (rd va width : ℕ) (is_signed : Bool) (
     Scripted d (of_instruction c) (inside.load_inside c rd va width is_signed o)
 unfolding inside.load_inside load_reached_scripted load_got_scripted IsStop
 load_scripted d c rd va width is_signed (Some q) own =
-    scripted_asks d (of_instruction c) (Reach q own va Load) (inside.load_reached c q rd va width is_signed)
+    scripted_asks d (of_instruction c) (Reach q own va Load) (inside_parts.load_reached c q rd va width is_signed)
     (load_reached_scripted d c q own rd va width is_signed) refl
 load_scripted d c rd va width is_signed None own =
-    scripted_asks d (of_instruction c) (Get va width) (inside.load_got c rd va width is_signed)
+    scripted_asks d (of_instruction c) (Get va width) (inside_parts.load_got c rd va width is_signed)
     (load_got_scripted d c rd va width is_signed) refl
 
 unfoldable pub store_reached_scripted : (d : ℕ) (c : Context) (q : PageId) → q.domain ≡ d →
     (va width value : ℕ) (a : Answer) →
-    Scripted d (of_instruction c) (inside.store_reached c q va width value a)
-unfolding inside.store_reached
+    Scripted d (of_instruction c) (inside_parts.store_reached c q va width value a)
 store_reached_scripted d c q own va width value told.Ok =
     scripted_changes d (of_instruction c) (Write q own (va % 4096) width value)
     (inside.made_writing (moved_on c) ran.Stay (word_of_page q va)) refl tt
@@ -106,8 +103,7 @@ store_reached_scripted d c q own va width value (told.Word other) = scripted_giv
 store_reached_scripted d c q own va width value told.Stopped = scripted_gives d (of_instruction c) _ refl
 
 unfoldable pub store_put_scripted : (d : ℕ) (c : Context) (va : ℕ) (a : Answer) →
-    Scripted d (of_instruction c) (inside.store_put c va a)
-unfolding inside.store_put
+    Scripted d (of_instruction c) (inside_parts.store_put c va a)
 store_put_scripted d c va told.Ok = scripted_gives d (of_instruction c) _ refl
 store_put_scripted d c va (told.Absent cause) = scripted_gives d (of_instruction c) _ refl
 store_put_scripted d c va (told.Word value) = scripted_gives d (of_instruction c) _ refl
@@ -117,10 +113,10 @@ store_scripted : (d : ℕ) (c : Context) (va width value : ℕ) (o : Option Page
     Scripted d (of_instruction c) (inside.store_inside c va width value o)
 unfolding inside.store_inside store_reached_scripted store_put_scripted IsStop
 store_scripted d c va width value (Some q) own at =
-    scripted_asks d (of_instruction c) (Reach q own va Store) (inside.store_reached c q va width value)
+    scripted_asks d (of_instruction c) (Reach q own va Store) (inside_parts.store_reached c q va width value)
     (store_reached_scripted d c q own va width value) refl
 store_scripted d c va width value None own at =
-    scripted_asks d (of_instruction c) (Put va width value at) (inside.store_put c va)
+    scripted_asks d (of_instruction c) (Put va width value at) (inside_parts.store_put c va)
     (store_put_scripted d c va) refl
 
 system_scripted : (d : ℕ) (c : Context) (i : Instr) → Scripted d (of_instruction c) (inside.system_inside c i)
@@ -146,8 +142,7 @@ done_scripted d r c i (does.Raise cause value) at = scripted_gives d (of_instruc
 -- Atomic instructions.
 
 conditional_scripted : (d : ℕ) (reserved : Bool) (c : Context) (rd : ℕ) (q : PageId) → q.domain ≡ d → (va operand : ℕ) →
-    Scripted d (of_instruction c) (inside.conditional_inside reserved c rd q va operand)
-unfolding inside.conditional_inside
+    Scripted d (of_instruction c) (inside_parts.conditional_inside reserved c rd q va operand)
 conditional_scripted d true c rd q own va operand =
     scripted_changes d (of_instruction c) (Write q own (va % 4096) 4 operand)
     (inside.made_writing (moved_on (record (set_word c rd 0) { mark = None })) ran.Stay (word_of_page q va)) refl tt
@@ -185,8 +180,7 @@ granted_scripted d c rd Maxu q own va operand = combine_scripted d c rd Maxu q o
 
 unfoldable pub atomic_reached_scripted : (d : ℕ) (c : Context) (rd : ℕ) (op : AtomicOp) (q : PageId) → q.domain ≡ d →
     (va operand : ℕ) (a : Answer) →
-    Scripted d (of_instruction c) (inside.atomic_reached c rd op q va operand a)
-unfolding inside.atomic_reached
+    Scripted d (of_instruction c) (inside_parts.atomic_reached c rd op q va operand a)
 atomic_reached_scripted d c rd op q own va operand told.Ok = granted_scripted d c rd op q own va operand
 atomic_reached_scripted d c rd op q own va operand (told.Absent cause) = scripted_gives d (of_instruction c) _ refl
 atomic_reached_scripted d c rd op q own va operand (told.Word value) = scripted_gives d (of_instruction c) _ refl
@@ -197,7 +191,7 @@ atomic_placed_scripted : (d : ℕ) (c : Context) (rd : ℕ) (op : AtomicOp) (va 
 unfolding inside.atomic_placed atomic_reached_scripted IsStop
 atomic_placed_scripted d c rd op va operand None own = scripted_gives d (of_instruction c) _ refl
 atomic_placed_scripted d c rd op va operand (Some q) own =
-    scripted_asks d (of_instruction c) (Reach q own va (atomic_kind op)) (inside.atomic_reached c rd op q va operand)
+    scripted_asks d (of_instruction c) (Reach q own va (atomic_kind op)) (inside_parts.atomic_reached c rd op q va operand)
     (atomic_reached_scripted d c rd op q own va operand) refl
 
 either_scripted : (d : ℕ) (c : Context) (test : Bool) (x y : Asking inside.AfterInstruction) →
@@ -225,15 +219,13 @@ decoded_scripted d r c word None = atomic_scripted d r c (atomic_instruction wor
 decoded_scripted d r c word (Some i) = done_scripted d r c i (effect i c.regs c.pc) (effect_aligned i c.regs c.pc)
 
 pub executed_scripted : (d : ℕ) (r : Resources) (c : Context) (word : ℕ) →
-    Scripted d (of_instruction c) (inside.executed_inside d r c word)
-unfolding inside.executed_inside
+    Scripted d (of_instruction c) (inside_parts.executed_inside d r c word)
 executed_scripted d r c word = decoded_scripted d r c word (instruction word)
 
 unfoldable fetched_scripted : (d : ℕ) (r : Resources) (c : Context) (q : PageId) → q.domain ≡ d → (a : Answer) →
-    Scripted d (of_instruction c) (inside.fetched_inside d r c q a)
-unfolding inside.fetched_inside
+    Scripted d (of_instruction c) (inside_parts.fetched_inside d r c q a)
 fetched_scripted d r c q own told.Ok =
-    scripted_reads d (of_instruction c) q own (c.pc % 4096) 4 (inside.executed_inside d r c) (executed_scripted d r c)
+    scripted_reads d (of_instruction c) q own (c.pc % 4096) 4 (inside_parts.executed_inside d r c) (executed_scripted d r c)
 fetched_scripted d r c q own (told.Absent cause) = scripted_gives d (of_instruction c) _ refl
 fetched_scripted d r c q own (told.Word value) = scripted_gives d (of_instruction c) _ refl
 fetched_scripted d r c q own told.Stopped = scripted_gives d (of_instruction c) _ refl
@@ -243,7 +235,7 @@ fetch_scripted : (d : ℕ) (r : Resources) (c : Context) (o : Option PageId) →
 unfolding inside.fetch fetched_scripted IsStop
 fetch_scripted d r c None own = scripted_gives d (of_instruction c) _ refl
 fetch_scripted d r c (Some q) own =
-    scripted_asks d (of_instruction c) (Reach q own c.pc Fetch) (inside.fetched_inside d r c q)
+    scripted_asks d (of_instruction c) (Reach q own c.pc Fetch) (inside_parts.fetched_inside d r c q)
     (fetched_scripted d r c q own) refl
 
 pub instruction_scripted : (d : ℕ) (r : Resources) (c : Context) →

@@ -13,3 +13,4 @@ pub mod Endings
 pub mod KernelWalks
 pub mod Rooted
 pub mod Tables
+pub mod Walks

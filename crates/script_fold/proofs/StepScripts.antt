@@ -22,6 +22,7 @@ use Rattle.cloak_model.specs.Resources.{Resources, first_free}
 use Rattle.cloak_model.specs.Contexts.{Context, context_at, context_number, moved_on, has_buffer, with_context, new_context}
 use Rattle.cloak_model.specs.InsideStep as inside
 use Rattle.cloak_model.specs.Calls as calls
+use Rattle.cloak_model.proofs.CallParts as call_parts
 use Rattle.cloak_model.specs.Fork as forks
 use Rattle.cloak_model.specs.DomainState.{Control, Domain}
 use Rattle.cloak_model.specs.Hypercalls as hyper
@@ -106,13 +107,11 @@ either_on : (test : Bool) (s t : calls.BeginsCall) (c : Context) → s.context.o
 either_on true s t c first second = first
 either_on false s t c first second = second
 
-copy_begin_on : (good : Bool) (c : Context) → (calls.copy_begin good c).context.on ≡ c.on
-unfolding calls.copy_begin
+copy_begin_on : (good : Bool) (c : Context) → (call_parts.copy_begin good c).context.on ≡ c.on
 copy_begin_on false c = refl
 copy_begin_on true c = either_on (calls.takes_bytes (calls.call_number c)) _ _ c refl refl
 
-call_begin_on : (buffer : Bool) (r : Resources) (c : Context) → (calls.call_begin buffer r c).context.on ≡ c.on
-unfolding calls.call_begin
+call_begin_on : (buffer : Bool) (r : Resources) (c : Context) → (call_parts.call_begin buffer r c).context.on ≡ c.on
 call_begin_on false r c = refl
 call_begin_on true r c = copy_begin_on _ c
 

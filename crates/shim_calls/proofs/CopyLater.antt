@@ -4,7 +4,7 @@ use Rattle.cloak_base.specs.declared.names.PageId.{PageId}
 use Rattle.cloak_model.specs.declared.answer.Answer.{Answer}
 use Rattle.cloak_model.specs.World.{World}
 use Rattle.cloak_model.specs.Contexts.{Context}
-use Rattle.cloak_model.specs.Calls.{in_put, in_reached, out_reached, out_got}
+use Rattle.cloak_model.proofs.CallParts.{in_put, in_reached, out_reached, out_got}
 use Rattle.cloak_model.proofs.Later.{IsLater}
 use Rattle.cloak_model.proofs.PagesLater.{later_reach, later_read, later_write, later_get, later_put, HasPage-get}
 use Rattle.script_fold.proofs.CopyScripts.{in_put_scripted, in_reached_scripted, out_reached_scripted, out_got_scripted}

@@ -7,6 +7,7 @@ ghost use Rattle.cloak_model.specs.AskPages.{HasPages};
 ghost use Rattle.cloak_model.specs.Resources as resources;
 ghost use Rattle.cloak_model.specs.Contexts as context;
 ghost use Rattle.cloak_model.specs.Calls as spec;
+ghost use Rattle.cloak_model.proofs.CallParts as parts;
 ghost use Rattle.shim_calls.specs.Copying.{IsMisplaced, NoLongerFits, next_copy};
 ghost use Rattle.shim_calls.specs.Stepping.{after_copy};
 
@@ -50,7 +51,7 @@ fn refuse(c: &mut Context) -> Copied
 }
 
 /// Makes a step of a copy into the area, of which `done` bytes are done.
-#[tactic(auto, using(crate::proofs::CopyLater::copy_laters), unfolding(cloak_model::specs::Calls::copy_in_step, cloak_model::specs::Calls::in_step, cloak_model::specs::Calls::in_placed, cloak_model::specs::Calls::in_reached, cloak_model::specs::Calls::in_put))]
+#[tactic(auto, using(crate::proofs::CopyLater::copy_laters), unfolding(cloak_model::specs::Calls::copy_in_step))]
 fn copy_in_step<M: PageSide>(
     c: &mut Context,
     r: &Resources,
@@ -107,7 +108,7 @@ fn copy_in_step<M: PageSide>(
 }
 
 /// A byte of the area goes to the buffer in page q, which lies at the address of this byte of it.
-#[tactic(auto, using(crate::proofs::CopyLater::copy_laters), unfolding(cloak_model::specs::Calls::out_got, cloak_model::specs::Calls::out_reached))]
+#[tactic(auto, using(crate::proofs::CopyLater::copy_laters))]
 fn store_byte<M: PageSide>(
     c: &mut Context,
     q: PageId,
@@ -121,7 +122,7 @@ fn store_byte<M: PageSide>(
     requires resource { q.resource < 16 }
     requires page { q.page < 1024 }
     ensures follows { FollowsWhere (HasPage (spec.byte_address (spec.buffer c.old) done) q) M.stands_for m.old m.new
-        (after_copy c.new result) (spec.out_got c.old q done total (Answer.Word byte)) }
+        (after_copy c.new result) (parts.out_got c.old q done total (Answer.Word byte)) }
     ensures not_refused { result.ending ≢ Copied.Refused }
     ensures stopped_unchanged { result.ending ≡ Copied.Stopped → c.new ≡ c.old }
     ensures stopped_unwritten { result.ending ≡ Copied.Stopped → result.wrote ≡ None }
@@ -151,7 +152,7 @@ fn store_byte<M: PageSide>(
 }
 
 /// Byte `done` of the area, at this address, goes to the buffer in page q, which lies at its address there.
-#[tactic(auto, using(crate::proofs::CopyLater::copy_laters), unfolding(cloak_model::specs::Calls::out_placed, cloak_model::specs::Calls::out_got))]
+#[tactic(auto, using(crate::proofs::CopyLater::copy_laters))]
 fn copy_out_byte<M: PageSide>(
     c: &mut Context,
     q: PageId,
@@ -166,7 +167,7 @@ fn copy_out_byte<M: PageSide>(
     requires resource { q.resource < 16 }
     requires page { q.page < 1024 }
     ensures follows { FollowsWhere (HasPage (spec.byte_address (spec.buffer c.old) done) q) M.stands_for m.old m.new
-        (after_copy c.new result) (spec.out_placed c.old done total (Some q) false) }
+        (after_copy c.new result) (parts.out_placed c.old done total (Some q) false) }
     ensures not_refused { result.ending ≢ Copied.Refused }
     ensures stopped_unchanged { result.ending ≡ Copied.Stopped → c.new ≡ c.old }
     ensures stopped_unwritten { result.ending ≡ Copied.Stopped → result.wrote ≡ None }
@@ -188,7 +189,7 @@ fn copy_out_byte<M: PageSide>(
 }
 
 /// Makes a step of a copy into the buffer, of which `done` bytes of `total` are done.
-#[tactic(auto, using(crate::proofs::CopyLater::copy_laters), unfolding(cloak_model::specs::Calls::copy_out_step, cloak_model::specs::Calls::out_step, cloak_model::specs::Calls::out_placed, cloak_model::specs::Calls::out_got))]
+#[tactic(auto, using(crate::proofs::CopyLater::copy_laters), unfolding(cloak_model::specs::Calls::copy_out_step))]
 fn copy_out_step<M: PageSide>(
     c: &mut Context,
     r: &Resources,

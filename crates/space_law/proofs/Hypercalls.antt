@@ -31,11 +31,9 @@ use Rattle.space_law.proofs.Regions.{KeepsRegions, page_kept, same_regions, othe
 
 -- a step that ended so says nothing of a space
 abbrev pub Spares : ℕ → Went → Type 0
-Spares space went.Stay = Unit {0}
-Spares space went.Stopped = Unit {0}
 Spares space (went.Remapped changed) = space ≡ changed → ⊥
-Spares space (went.Leave s) = Unit {0}
 Spares space (went.SpaceGone gone s) = space ≡ gone → ⊥
+Spares space _ = Unit {0}
 
 pub record Keeps (was now : Control) (how : Went) : Type 0 where
   pub number : now.number ≡ was.number
@@ -137,9 +135,8 @@ fork_told_keeps slot c d (Ok (Some ctx)) spaces regions = record {
 -- Ends.
 
 abbrev pub SparesEnd : ℕ → Ended → Type 0
-SparesEnd space ends.Kept = Unit {0}
 SparesEnd space (ends.SpaceGone gone) = space ≡ gone → ⊥
-SparesEnd space ends.Stopped = Unit {0}
+SparesEnd space _ = Unit {0}
 
 pub record EndKeeps (r : Resources) (made : End) : Type 0 where
   pub regions : (space : ℕ) → SparesEnd space made.ending → KeepsRegions r made.spaces.resources space
@@ -209,21 +206,13 @@ DomainKeeps d s = Keeps d.control s.domain.control s.went
 pub instruction_keeps : (slot : ℕ) (d : Domain) (c : Context) (e : Ran) (w : World) →
     DomainKeeps d (instruction_ended slot d c e w).answer
 unfolding instruction_ended
-instruction_keeps slot d c ran.Stay w = plain _ _ _ refl refl
-instruction_keeps slot d c (ran.Loaded address value) w = plain _ _ _ refl refl
-instruction_keeps slot d c (ran.Trap cause address) w = plain _ _ _ refl refl
 instruction_keeps slot d c ran.Ecall w = hypercall_keeps _ slot c d.control w
-instruction_keeps slot d c ran.Stopped w = plain _ _ _ refl refl
+instruction_keeps slot d c _ w = plain _ _ _ refl refl
 
 pub copy_keeps : (slot : ℕ) (d : Domain) (c : Context) (e : Copied) → DomainKeeps d (copy_ended slot d c e)
 unfolding copy_ended
 copy_keeps slot d c copied.Going = plain _ _ _ refl refl
-copy_keeps slot d c copied.CallReady = plain _ _ _ refl refl
-copy_keeps slot d c copied.Done = plain _ _ _ refl refl
-copy_keeps slot d c (copied.Absent cause address) = plain _ _ _ refl refl
-copy_keeps slot d c copied.Stopped = plain _ _ _ refl refl
-copy_keeps slot d c copied.Refused = plain _ _ _ refl refl
-copy_keeps slot d c (copied.Loaded address byte) = plain _ _ _ refl refl
+copy_keeps slot d c _ = plain _ _ _ refl refl
 
 -- a write ends reservations alone
 pub after_write_keeps : (d : Domain) (wrote : Option WordPlace) (s : DomainStepped) → DomainKeeps d s →

@@ -1,10 +1,8 @@
 pub mod Births
-pub mod Copying
 pub mod Ended
 pub mod Hypercalls
 pub mod Mapped
 pub mod Outside
 pub mod Questions
 pub mod Regions
-pub mod Running
 pub mod Turns

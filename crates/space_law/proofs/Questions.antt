@@ -11,7 +11,7 @@ use Rattle.cloak_model.specs.declared.item.Item.{Item}
 use Rattle.cloak_model.specs.Ask.{opened}
 use Rattle.cloak_model.specs.AskPages.{answer_item, replies, offer_events, inside_access, put_at, ask_reach, ask_write, ask_get, ask_put, ask_clear, ask_copy, ask_forget}
 use Rattle.cloak_model.specs.Asking.{Told}
-use Rattle.cloak_model.specs.Cloaking.{CloakedMemory, Offer, Ready, Mismatch, Missed, settle, offer}
+use Rattle.cloak_model.specs.Cloaking.{CloakedMemory, Offer, Missed, settle, offer}
 use Rattle.cloak_model.specs.Events.{Event, Look, Touch, Read, Write, Drop, births_by}
 use Rattle.cloak_model.specs.Events.{Offer as offers}
 use Rattle.cloak_model.specs.Fork.{ask_copies, ask_forgets}
@@ -64,41 +64,34 @@ module _ (mapped : SpaceId → ℕ → Option PageId) (s : Option SpaceId) where
   -- Memory.
 
   pub maps_noted : (events : List Event) (w : World) → AreMapped mapped s events → Maps mapped s w (noted events w)
-  maps_noted events (Flat ram) are = record { by = λ all. all }
   maps_noted events (Cloaked c) are = record { by = λ all. are_append c.events events all are }
-  maps_noted events (Alone h) are = record { by = λ all. all }
+  maps_noted events _ are = record { by = λ all. all }
 
   pub maps_settled : (f : ℕ) (w : World) → Maps mapped s w (settled f w)
-  maps_settled f (Flat ram) = record { by = λ all. all }
   maps_settled f (Cloaked c) = record { by = λ all. are_append c.events (Touch f ∷ []) all (tt, tt) }
-  maps_settled f (Alone h) = record { by = λ all. all }
+  maps_settled f _ = record { by = λ all. all }
 
   pub maps_stored : (pa width value : ℕ) (w : World) → Maps mapped s w (stored_at pa width value w)
-  maps_stored pa width value (Flat ram) = record { by = λ all. all }
   maps_stored pa width value (Cloaked c) = record {
     by = λ all. are_append c.events (Write (frame_of pa) ∷ []) all (tt, tt);
   }
-  maps_stored pa width value (Alone h) = record { by = λ all. all }
+  maps_stored pa width value _ = record { by = λ all. all }
 
   pub maps_filled : (f : ℕ) (bytes : List ℕ) (w : World) → Maps mapped s w (filled_frame f bytes w)
-  maps_filled f bytes (Flat ram) = record { by = λ all. all }
   maps_filled f bytes (Cloaked c) = record { by = λ all. are_append c.events (Write f ∷ []) all (tt, tt) }
-  maps_filled f bytes (Alone h) = record { by = λ all. all }
+  maps_filled f bytes _ = record { by = λ all. all }
 
   pub maps_written : (i : Item) (w : World) → Maps mapped s w (written i w)
   maps_written i (Flat ram) = record { by = λ all. all }
-  maps_written i (Cloaked c) = record { by = λ all. all }
-  maps_written i (Alone h) = record { by = λ all. all }
+  maps_written i _ = record { by = λ all. all }
 
   pub maps_plain : (domain : ℕ) (plain : PageId → List ℕ) (w : World) → Maps mapped s w (with_plain domain plain w)
   maps_plain domain plain (Flat ram) = record { by = λ all. all }
-  maps_plain domain plain (Cloaked c) = record { by = λ all. all }
-  maps_plain domain plain (Alone h) = record { by = λ all. all }
+  maps_plain domain plain _ = record { by = λ all. all }
 
   pub maps_marks : (marks : List (Option ℕ)) (w : World) → Maps mapped s w (with_marks marks w)
   maps_marks marks (Flat seen) = record { by = λ all. all }
-  maps_marks marks (Cloaked c) = record { by = λ all. all }
-  maps_marks marks (Alone h) = record { by = λ all. all }
+  maps_marks marks _ = record { by = λ all. all }
 
   -- an entry without a page
   pub births_open : (satp : ℕ) (a : Access) (walk : Walk) → AreMapped mapped s (births_by satp a None walk)
@@ -144,9 +137,8 @@ module _ (mapped : SpaceId → ℕ → Option PageId) (s : Option SpaceId) where
   missed_mapped false q g = (tt, tt)
 
   pub offer_mapped : (q : PageId) (g : ℕ) (m : CloakedMemory) (o : Offer) → AreMapped mapped s (offer_events q g m o)
-  offer_mapped q g m Ready = (tt, tt)
-  offer_mapped q g m Mismatch = (tt, tt)
   offer_mapped q g m Missed = missed_mapped (settle g m).missed q g
+  offer_mapped q g m _ = (tt, tt)
 
   map_offers : (q : PageId) (va : ℕ) → LiesAt mapped s q va → Offers (Maps mapped s) q va
   map_offers q va lies = record {
@@ -188,8 +180,7 @@ module _ (mapped : SpaceId → ℕ → Option PageId) (s : Option SpaceId) where
   pub maps_copy : (domain from to : ℕ) (w : World) → Maps mapped s w (ask_copy domain from to w).world
   unfolding ask_copy
   maps_copy domain from to (Flat ram) = maps_refl (Flat ram)
-  maps_copy domain from to (Cloaked c) = record { by = λ all. all }
-  maps_copy domain from to (Alone h) = record { by = λ all. all }
+  maps_copy domain from to _ = record { by = λ all. all }
 
   pub maps_forget : (domain resource : ℕ) (w : World) → Maps mapped s w (ask_forget domain resource w).world
   unfolding ask_forget

@@ -95,11 +95,8 @@ module _ (s : SpaceId) (va : ℕ) (q : PageId) where
   pub ended_has : (j : Joint) (number : ℕ) (items : List Item) (e : Kernel) → Has j →
       Has (outside_ended j number items e).joint
   unfolding outside_ended
-  ended_has j number items kernel.Stay has = has
-  ended_has j number items kernel.Trapped has = has
-  ended_has j number items (kernel.Put b) has = has
-  ended_has j number items (kernel.Halt value) has = has
   ended_has j number items (kernel.Resume ctx answer) has = resume_has j number _ ctx answer has
+  ended_has j number items _ has = has
 
   pub outside_has : (j : Joint) (number : ℕ) (h : Hart) → Has j → Has (outside_step j number h).joint
   unfolding outside_step after_outside
@@ -114,10 +111,7 @@ module _ (s : SpaceId) (va : ℕ) (q : PageId) where
       Has (domain_ended j number h d w how).joint
   unfolding domain_ended
   domain_ended_has j number h d w went.Stay has = has
-  domain_ended_has j number h d w went.Stopped has = has
-  domain_ended_has j number h d w (went.Remapped space) has = has
-  domain_ended_has j number h d w (went.Leave shown) has = has
-  domain_ended_has j number h d w (went.SpaceGone space shown) has = has
+  domain_ended_has j number h d w _ has = has
 
   pub after_step_has : (j : Joint) (number : ℕ) (h : Hart) (d : ℕ) (was : Domain) (told : Told DomainStepped) →
       slice_get j.domains d ≡ Some was → DomainKeeps was told.answer → (s.domain ≡ d → Spares s.number told.answer.went) →
@@ -134,10 +128,7 @@ module _ (s : SpaceId) (va : ℕ) (q : PageId) where
       Has (interrupt_ended j number h items how).joint
   unfolding interrupt_ended
   interrupt_has j number h items went.Stay has = has
-  interrupt_has j number h items went.Stopped has = has
-  interrupt_has j number h items (went.Remapped space) has = has
-  interrupt_has j number h items (went.Leave shown) has = has
-  interrupt_has j number h items (went.SpaceGone space shown) has = has
+  interrupt_has j number h items _ has = has
 
   -- A step that says of no change of the space spares it.
 
@@ -155,11 +146,9 @@ module _ (s : SpaceId) (va : ℕ) (q : PageId) where
       ∙ same_self changed)
 
   pub spared_by : (d : ℕ) (how : Went) → IsUnchanged (changed_by d how) → s.domain ≡ d → Spares s.number how
-  spared_by d went.Stay out at = tt
-  spared_by d went.Stopped out at = tt
   spared_by d (went.Remapped space) out at = other_space d space out at
-  spared_by d (went.Leave shown) out at = tt
   spared_by d (went.SpaceGone space shown) out at = other_space d space out at
+  spared_by d _ out at = tt
 
   pub context_runs : (j : Joint) (number : ℕ) (h : Hart) (d slot : ℕ) (was : Domain) (o : Option Context) →
       slice_get j.domains d ≡ Some was → context_at was.control.contexts slot ≡ o →

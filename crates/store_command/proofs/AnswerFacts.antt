@@ -23,19 +23,9 @@ use Rattle.store_command.specs.Recording.{Stores}
 
 answers_refused : {S O : Type 0} (asked : spec.Asked) (r : Refusal) (before after : Outside S O) →
     IsRefused asked (status_of_refusal r) before after → StoreAnswers asked before after (status_of_refusal r)
-answers_refused asked (refusal.Usage fault) before after refused = refused
-answers_refused asked (refusal.BadBundle fault) before after refused = refused
-answers_refused asked refusal.ReadFault before after refused = refused
-answers_refused asked refusal.NoMemory before after refused = refused
 answers_refused asked refusal.NoKey before after refused = inl refused
 answers_refused asked refusal.NoPageDraw before after refused = inl refused
-answers_refused asked refusal.NoSuchDomain before after refused = refused
-answers_refused asked refusal.ShortSecret before after refused = refused
-answers_refused asked (refusal.BadStore fault) before after refused = refused
-answers_refused asked (refusal.NoRoom domain) before after refused = refused
-answers_refused asked (refusal.BadState fault) before after refused = refused
-answers_refused asked (refusal.ChangedDomain domain) before after refused = refused
-answers_refused asked (refusal.ChangedFrame frame) before after refused = refused
+answers_refused asked _ before after refused = refused
 
 -- what is returned if there is no run
 pub answers_no_run : {S O : Type 0} {asked : spec.Asked} {r : Refusal} {before after : Outside S O} {given : Status} →
@@ -58,9 +48,8 @@ answers_unless asked before after false run = run
 
 answers_stop : {S O : Type 0} (asked : spec.Asked) (before after : Outside S O) (cause : Stop) (refused : Bool) →
     HasStored asked (status_of cause refused) before after → StoreAnswers asked before after (status_of cause refused)
-answers_stop asked before after (stop.Halt value) refused run = answers_unless asked before after refused run
-answers_stop asked before after stop.Budget refused run = answers_unless asked before after refused run
 answers_stop asked before after stop.NoRandom refused run = inr run
+answers_stop asked before after _ refused run = answers_unless asked before after refused run
 
 answers_some_stop : {S O : Type 0} (asked : spec.Asked) (before after : Outside S O) (given : Status) →
     IsStatusOfStop given → HasStored asked given before after → StoreAnswers asked before after given
@@ -103,16 +92,9 @@ pub same_files : (names : spec.StoreNames) (answer : Status) (held held' : List 
     SameFiles held held' → KeepsFiles names answer held held'
 same_files names status.Done held held' same = λ other one two three. same other
 same_files names status.Violation held held' same = λ other one two three. same other
-same_files names status.Usage held held' same = same
-same_files names status.BadBundle held held' same = same
-same_files names status.ReadFault held held' same = same
 same_files names status.WriteFault held held' same = λ other one two three. same other
-same_files names status.NoMemory held held' same = same
 same_files names status.NoRandom held held' same = λ other one two three. same other
-same_files names status.BadRecord held held' same = same
-same_files names status.BadStore held held' same = same
-same_files names status.Frozen held held' same = same
-same_files names status.BadState held held' same = same
+same_files names _ held held' same = same
 
 keeps_unless : (names : spec.StoreNames) (refused : Bool) (held held' : List ℕ → Option (List ℕ)) →
     OtherThanStored names held held' → KeepsFiles names (unless_refused refused) held held'
@@ -121,9 +103,8 @@ keeps_unless names false held held' others = others
 
 keeps_stop : (names : spec.StoreNames) (cause : Stop) (refused : Bool) (held held' : List ℕ → Option (List ℕ)) →
     OtherThanStored names held held' → KeepsFiles names (status_of cause refused) held held'
-keeps_stop names (stop.Halt value) refused held held' others = keeps_unless names refused held held' others
-keeps_stop names stop.Budget refused held held' others = keeps_unless names refused held held' others
 keeps_stop names stop.NoRandom refused held held' others = others
+keeps_stop names _ refused held held' others = keeps_unless names refused held held' others
 
 -- a run that was made
 pub keeps_stored : {S O : Type 0} {names : spec.StoreNames} {counter steps : ℕ} {s : StoreSources}

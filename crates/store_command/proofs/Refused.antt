@@ -1,5 +1,5 @@
 -- Why there is no run over cloaked files.
-use Rattle.std.proofs.Common.{◌≡◌, ◌<◌, ◌-◌, ◌^◌, ◌∙◌, ℕ, List, Option, IfSome, Err, refl, subst, inl, inr}
+use Rattle.std.proofs.Common.{◌≡◌, ◌≢◌, ◌<◌, ◌-◌, ◌^◌, ◌∙◌, ℕ, List, Option, IfSome, Err, refl, subst, inl, inr}
 use Rattle.io_traits.specs.Told.{SameFiles}
 use Rattle.cloak_base.specs.Random.{Random}
 use Rattle.cloak_machine.specs.Standing.{OpensStored}
@@ -11,13 +11,14 @@ use Rattle.joint_machine.specs.declared.opened.StoredFault.TheVariants as fault
 use Rattle.command_words.specs.Command as spec
 use Rattle.command_parts.specs.declared.refusal.Refusal.{Refusal}
 use Rattle.command_parts.specs.declared.refusal.Refusal.TheVariants as refusal
+use Rattle.command_parts.specs.Files.{TellsUnread}
 use Rattle.command_parts.specs.NoRun.{NoRun}
 use Rattle.command_parts.specs.Outside.{FilesOutside}
 use Rattle.command_parts.specs.Storing as given
 use Rattle.command_parts.specs.Storing.{AsksStored, IsOld, IsSecret, StoreSources, secret_length}
 use Rattle.command_parts.specs.Bundles.{IsInFileAs}
 use Rattle.command_parts.specs.Streams.{IsStream}
-use Rattle.command_parts.proofs.Refused.{no_file}
+use Rattle.command_parts.proofs.Refused.{is_some_bundle, no_file}
 use Rattle.run_command.proofs.PrepareFacts.{stream_before}
 use Rattle.store_command.specs.declared.secret.Secret.{Secret}
 use Rattle.store_command.specs.Preparing.{ReadsOld, ReadsSecret, refused_by}
@@ -27,10 +28,11 @@ use Rattle.std.specs.Prelude.{length, Some}
 pub no_secret : {S : Type 0} (names : spec.StoreNames) (counter steps : ℕ) (randomness : spec.Randomness) (r : Refusal)
     (before after : FilesOutside S) (told : Option (List ℕ)) (reading version : ℕ) (bytes : List ℕ) (bundle : Bundle) →
     IsInFileAs version (before.held names.bundle) bytes bundle → told ≡ before.held names.secret_name →
-    reading ≡ before.reading → ReadsSecret told reading after.reading (Err r) → before.reading < 2 ^ 64 - 1 →
-    SameFiles before.held after.held → after.writing ≡ before.writing →
+    reading ≡ before.reading → ReadsSecret told reading after.reading (Err r) →
+    TellsUnread after.unread names.secret_name r → before.reading < 2 ^ 64 - 1 → SameFiles before.held after.held →
+    after.writing ≡ before.writing →
     NoRun (spec.Store names counter steps randomness) r before after
-no_secret {S} names counter steps randomness refusal.ShortSecret before after told reading version bytes bundle file is same reads low held writing =
+no_secret {S} names counter steps randomness refusal.ShortSecret before after told reading version bytes bundle file is same reads of_file low held writing =
     record {
       cause = record {
         names = names;
@@ -48,20 +50,22 @@ no_secret {S} names counter steps randomness refusal.ShortSecret before after to
       held = held;
       writing = writing;
     }
-no_secret {S} names counter steps randomness refusal.ReadFault before after told reading version bytes bundle file is same reads low held writing =
-    no_file Secret refusal.ReadFault before after reading refl same reads low held writing
-no_secret {S} names counter steps randomness refusal.NoMemory before after told reading version bytes bundle file is same reads low held writing =
-    no_file Secret refusal.NoMemory before after reading refl same reads low held writing
-no_secret {S} names counter steps randomness (refusal.Usage fault) before after told reading version bytes bundle file is same reads low held writing = absurd reads
-no_secret {S} names counter steps randomness (refusal.BadBundle fault) before after told reading version bytes bundle file is same reads low held writing = absurd reads
-no_secret {S} names counter steps randomness refusal.NoKey before after told reading version bytes bundle file is same reads low held writing = absurd reads
-no_secret {S} names counter steps randomness refusal.NoPageDraw before after told reading version bytes bundle file is same reads low held writing = absurd reads
-no_secret {S} names counter steps randomness refusal.NoSuchDomain before after told reading version bytes bundle file is same reads low held writing = absurd reads
-no_secret {S} names counter steps randomness (refusal.BadStore fault) before after told reading version bytes bundle file is same reads low held writing = absurd reads
-no_secret {S} names counter steps randomness (refusal.NoRoom domain) before after told reading version bytes bundle file is same reads low held writing = absurd reads
-no_secret {S} names counter steps randomness (refusal.BadState fault) before after told reading version bytes bundle file is same reads low held writing = absurd reads
-no_secret {S} names counter steps randomness (refusal.ChangedDomain domain) before after told reading version bytes bundle file is same reads low held writing = absurd reads
-no_secret {S} names counter steps randomness (refusal.ChangedFrame frame) before after told reading version bytes bundle file is same reads low held writing = absurd reads
+no_secret {S} names counter steps randomness refusal.ReadFault before after told reading version bytes bundle file is same reads of_file low held writing =
+    no_file Secret names.secret_name refusal.ReadFault before after reading refl
+    (inr (is_some_bundle _ version bytes bundle file, inl refl)) same reads of_file low held writing
+no_secret {S} names counter steps randomness refusal.NoMemory before after told reading version bytes bundle file is same reads of_file low held writing =
+    no_file Secret names.secret_name refusal.NoMemory before after reading refl
+    (inr (is_some_bundle _ version bytes bundle file, inl refl)) same reads of_file low held writing
+no_secret {S} names counter steps randomness (refusal.Usage fault) before after told reading version bytes bundle file is same reads of_file low held writing = absurd reads
+no_secret {S} names counter steps randomness (refusal.BadBundle fault) before after told reading version bytes bundle file is same reads of_file low held writing = absurd reads
+no_secret {S} names counter steps randomness refusal.NoKey before after told reading version bytes bundle file is same reads of_file low held writing = absurd reads
+no_secret {S} names counter steps randomness refusal.NoPageDraw before after told reading version bytes bundle file is same reads of_file low held writing = absurd reads
+no_secret {S} names counter steps randomness refusal.NoSuchDomain before after told reading version bytes bundle file is same reads of_file low held writing = absurd reads
+no_secret {S} names counter steps randomness (refusal.BadStore fault) before after told reading version bytes bundle file is same reads of_file low held writing = absurd reads
+no_secret {S} names counter steps randomness (refusal.NoRoom domain) before after told reading version bytes bundle file is same reads of_file low held writing = absurd reads
+no_secret {S} names counter steps randomness (refusal.BadState fault) before after told reading version bytes bundle file is same reads of_file low held writing = absurd reads
+no_secret {S} names counter steps randomness (refusal.ChangedDomain domain) before after told reading version bytes bundle file is same reads of_file low held writing = absurd reads
+no_secret {S} names counter steps randomness (refusal.ChangedFrame frame) before after told reading version bytes bundle file is same reads of_file low held writing = absurd reads
 
 -- what an earlier run left was not read
 pub no_old : {S : Type 0} (names : spec.StoreNames) (counter steps : ℕ) (randomness : spec.Randomness) (r : Refusal)
@@ -69,9 +73,9 @@ pub no_old : {S : Type 0} (names : spec.StoreNames) (counter steps : ℕ) (rando
     (secret : given.Secret) (table : List StoredFile) → IsInFileAs version (before.held names.bundle) bytes bundle →
     IsSecret (before.held names.secret_name) secret → told ≡ before.held names.old_name →
     reading ≡ before.reading → ReadsOld told secret.mac counter reading after.reading table (Err r) →
-    before.reading < 2 ^ 64 - 1 → SameFiles before.held after.held → after.writing ≡ before.writing →
+    counter ≢ 0 → TellsUnread after.unread names.old_name r → before.reading < 2 ^ 64 - 1 → SameFiles before.held after.held → after.writing ≡ before.writing →
     NoRun (spec.Store names counter steps randomness) r before after
-no_old {S} names counter steps randomness (refusal.BadStore fault) before after told reading version bytes bundle secret table file has is same reads low held writing =
+no_old {S} names counter steps randomness (refusal.BadStore fault) before after told reading version bytes bundle secret table file has is same reads not_first of_file low held writing =
     record {
       cause = record {
         names = names;
@@ -93,20 +97,24 @@ no_old {S} names counter steps randomness (refusal.BadStore fault) before after 
       held = held;
       writing = writing;
     }
-no_old {S} names counter steps randomness refusal.ReadFault before after told reading version bytes bundle secret table file has is same reads low held writing =
-    no_file Unit refusal.ReadFault before after reading refl same reads low held writing
-no_old {S} names counter steps randomness refusal.NoMemory before after told reading version bytes bundle secret table file has is same reads low held writing =
-    no_file Unit refusal.NoMemory before after reading refl same reads low held writing
-no_old {S} names counter steps randomness (refusal.Usage fault) before after told reading version bytes bundle secret table file has is same reads low held writing = absurd reads
-no_old {S} names counter steps randomness (refusal.BadBundle fault) before after told reading version bytes bundle secret table file has is same reads low held writing = absurd reads
-no_old {S} names counter steps randomness refusal.NoKey before after told reading version bytes bundle secret table file has is same reads low held writing = absurd reads
-no_old {S} names counter steps randomness refusal.NoPageDraw before after told reading version bytes bundle secret table file has is same reads low held writing = absurd reads
-no_old {S} names counter steps randomness refusal.NoSuchDomain before after told reading version bytes bundle secret table file has is same reads low held writing = absurd reads
-no_old {S} names counter steps randomness refusal.ShortSecret before after told reading version bytes bundle secret table file has is same reads low held writing = absurd reads
-no_old {S} names counter steps randomness (refusal.NoRoom domain) before after told reading version bytes bundle secret table file has is same reads low held writing = absurd reads
-no_old {S} names counter steps randomness (refusal.BadState fault) before after told reading version bytes bundle secret table file has is same reads low held writing = absurd reads
-no_old {S} names counter steps randomness (refusal.ChangedDomain domain) before after told reading version bytes bundle secret table file has is same reads low held writing = absurd reads
-no_old {S} names counter steps randomness (refusal.ChangedFrame frame) before after told reading version bytes bundle secret table file has is same reads low held writing = absurd reads
+no_old {S} names counter steps randomness refusal.ReadFault before after told reading version bytes bundle secret table file has is same reads not_first of_file low held writing =
+    no_file Unit names.old_name refusal.ReadFault before after reading refl
+    (inr (is_some_bundle _ version bytes bundle file, inr (secret, has, inl (not_first, refl)))) same reads of_file low held
+    writing
+no_old {S} names counter steps randomness refusal.NoMemory before after told reading version bytes bundle secret table file has is same reads not_first of_file low held writing =
+    no_file Unit names.old_name refusal.NoMemory before after reading refl
+    (inr (is_some_bundle _ version bytes bundle file, inr (secret, has, inl (not_first, refl)))) same reads of_file low held
+    writing
+no_old {S} names counter steps randomness (refusal.Usage fault) before after told reading version bytes bundle secret table file has is same reads not_first of_file low held writing = absurd reads
+no_old {S} names counter steps randomness (refusal.BadBundle fault) before after told reading version bytes bundle secret table file has is same reads not_first of_file low held writing = absurd reads
+no_old {S} names counter steps randomness refusal.NoKey before after told reading version bytes bundle secret table file has is same reads not_first of_file low held writing = absurd reads
+no_old {S} names counter steps randomness refusal.NoPageDraw before after told reading version bytes bundle secret table file has is same reads not_first of_file low held writing = absurd reads
+no_old {S} names counter steps randomness refusal.NoSuchDomain before after told reading version bytes bundle secret table file has is same reads not_first of_file low held writing = absurd reads
+no_old {S} names counter steps randomness refusal.ShortSecret before after told reading version bytes bundle secret table file has is same reads not_first of_file low held writing = absurd reads
+no_old {S} names counter steps randomness (refusal.NoRoom domain) before after told reading version bytes bundle secret table file has is same reads not_first of_file low held writing = absurd reads
+no_old {S} names counter steps randomness (refusal.BadState fault) before after told reading version bytes bundle secret table file has is same reads not_first of_file low held writing = absurd reads
+no_old {S} names counter steps randomness (refusal.ChangedDomain domain) before after told reading version bytes bundle secret table file has is same reads not_first of_file low held writing = absurd reads
+no_old {S} names counter steps randomness (refusal.ChangedFrame frame) before after told reading version bytes bundle secret table file has is same reads not_first of_file low held writing = absurd reads
 
 -- there was no memory
 pub no_memory : {S : Type 0} (asked : spec.Asked) (before after : FilesOutside S) → after.reading ≡ before.reading →

@@ -1,8 +1,9 @@
 //! A run over cloaked files that can begin, from the files that the words name.
-ghost use Rattle.std.specs.Prelude.{◌≡◌, ◌<◌, ◌-◌, ◌^◌, [], IfOk};
+ghost use Rattle.std.specs.Prelude.{◌≡◌, ◌≢◌, ◌<◌, ◌-◌, ◌^◌, [], IfErr, IfOk};
 ghost use Rattle.io_traits.specs.Told.{SameFiles};
 ghost use Rattle.cloak_machine.specs.Standing.{steps_made};
 ghost use Rattle.command_words.specs.Request.{names_of, randomness_of};
+ghost use Rattle.command_parts.specs.Files.{TellsUnread};
 ghost use Rattle.command_parts.specs.Outside.{files};
 ghost use Rattle.store_command.specs.Preparing.{CanEnd, PreparesStored, ReadsOld, ReadsSecret, refused_by};
 
@@ -46,6 +47,7 @@ fn read_secret<S: Shelf>(alloc: Global, shelf: &mut S, name: &str) -> Result<Sec
     requires { S.is_settled shelf.old }
     ensures secret { ReadsSecret (S.held shelf.old name.now)
         (S.reading_faults shelf.old) (S.reading_faults shelf.new) result }
+    ensures unread { IfErr result (TellsUnread (S.unread shelf.new) name.now) }
     ensures files { SameFiles (S.held shelf.old) (S.held shelf.new) }
     ensures writing { S.writing_faults shelf.new ≡ S.writing_faults shelf.old }
     ensures settled { S.is_settled shelf.new }
@@ -73,6 +75,8 @@ fn read_old<S: Shelf>(
     requires empty { table.old ≡ [] }
     ensures old { ReadsOld (S.held shelf.old name.now) mac.now counter
         (S.reading_faults shelf.old) (S.reading_faults shelf.new) table.new result }
+    ensures not_first { IfErr result (λ _. counter ≢ 0) }
+    ensures unread { IfErr result (TellsUnread (S.unread shelf.new) name.now) }
     ensures files { SameFiles (S.held shelf.old) (S.held shelf.new) }
     ensures writing { S.writing_faults shelf.new ≡ S.writing_faults shelf.old }
     ensures settled { S.is_settled shelf.new }

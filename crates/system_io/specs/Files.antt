@@ -37,10 +37,11 @@ pub record IsFilled (all : List ℕ) (at kept n : ℕ) (old new : List ℕ) : Ty
   pub filled : take (kept + n) new ≡ take kept old ++ take n (drop at all)
   pub at_end : n ≡ 0 → length all ≤ at
 
--- how often reading and writing failed, the disk, the name of the file that is being written, what is gathered for it,
--- and whether a file is being read
+-- how often reading and writing failed, the name of the file of which reading failed last, if it is kept, the disk, the
+-- name of the file that is being written, what is gathered for it, and whether a file is being read
 pub record ShelfState (D : Type 0) : Type 0 where
   pub reading : ℕ
+  pub unread : Option (List ℕ)
   pub writing : ℕ
   pub disk : D
   pub is_open : Bool
@@ -68,9 +69,9 @@ held_in told s name = append_known (told s.disk name) (gathered_for s name)
 abbrev pub IsOpen : {D : Type 0} → List ℕ → ShelfState D → Type 0
 IsOpen name s = IsTrue s.is_open × (s.name ≡ name)
 
--- no count changed
+-- no call failed
 abbrev pub SameCounts : {D : Type 0} → ShelfState D → ShelfState D → Type 0
-SameCounts old new = (new.reading ≡ old.reading) × (new.writing ≡ old.writing)
+SameCounts old new = (new.reading ≡ old.reading) × (new.writing ≡ old.writing) × (new.unread ≡ old.unread)
 
 -- the same file is being written
 abbrev pub SameFile : {D : Type 0} → ShelfState D → ShelfState D → Type 0

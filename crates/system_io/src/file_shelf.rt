@@ -1,6 +1,6 @@
-ghost use Rattle.std.specs.Prelude.{◌≡◌, ◌≤◌, ◌⊎◌, ◌↔◌, ℕ, [], length, take, IfOk, IsErr, IsTrue, false};
+ghost use Rattle.std.specs.Prelude.{◌≡◌, ◌≤◌, ◌⊎◌, ◌↔◌, ℕ, [], None, Some, length, take, IfOk, IsErr, IsTrue, false};
 ghost use Rattle.std.specs.Io.KnownBytes.{append_known};
-ghost use Rattle.io_traits.specs.Told.{Counts, SameFiles, Tells, OtherFiles};
+ghost use Rattle.io_traits.specs.Told.{Counts, NamesFault, SameFiles, Tells, OtherFiles};
 ghost use Rattle.system_io.specs.Disks.{Extends};
 ghost use Rattle.system_io.specs.Files.{IsOpen, SameCounts, SameFile, held_in};
 
@@ -8,6 +8,7 @@ use crate::file_system::{FileSystem, write_front};
 use crate::gathered::Gathered;
 use crate::named_file::NamedFile;
 use crate::reader::FileReader;
+use crate::unread::Unread;
 use cloak_base::{Failed, NoMemory};
 use io_traits::Shelf;
 use std::alloc::Global;
@@ -22,6 +23,8 @@ use std::marker::Model;
 ///
 /// The one file that is being read stays open, and is read up to 64 KiB ahead. What was read ahead is forgotten
 /// when another file is read, and at each `begin` and `append`.
+///
+/// The name of the file of which reading failed last is kept if it has at most 4096 bytes.
 #[derive(Drop)]
 pub struct FileShelf<D: FileSystem + Drop> {
     disk: D,
@@ -29,6 +32,7 @@ pub struct FileShelf<D: FileSystem + Drop> {
     gathered: Gathered,
     reader: FileReader<D::File>,
     reading_faults: u64,
+    unread: Unread,
     writing_faults: u64,
 }
 
@@ -40,6 +44,7 @@ impl<D: FileSystem + Drop> Model for FileShelf<D> {
 
     ghost view = { λ s. record {
       reading = s.reading_faults;
+      unread = s.unread;
       writing = s.writing_faults;
       disk = s.disk;
       is_open = is_some s.writing.file;
@@ -56,6 +61,7 @@ impl<D: FileSystem + Drop> FileShelf<D> {
     /// A shelf with no fault yet.
     pub fn open(alloc: Global, disk: D) -> Result<FileShelf<D>, NoMemory>
         ensures reading { IfOk result (λ shelf. shelf.reading ≡ 0) }
+        ensures unread { IfOk result (λ shelf. shelf.unread ≡ None) }
         ensures writing { IfOk result (λ shelf. shelf.writing ≡ 0) }
         ensures gathered { IfOk result (λ shelf. shelf.gathered ≡ []) }
         ensures disk { IfOk result (λ shelf. shelf.disk ≡ disk) }
@@ -63,12 +69,14 @@ impl<D: FileSystem + Drop> FileShelf<D> {
         let writing = NamedFile::none(alloc)?;
         let gathered = Gathered::open(alloc)?;
         let reader = FileReader::none(alloc)?;
+        let unread = Unread::none(alloc)?;
         Ok(FileShelf {
             disk,
             writing,
             gathered,
             reader,
             reading_faults: 0,
+            unread,
             writing_faults: 0,
         })
     }
@@ -216,12 +224,15 @@ impl<D: FileSystem + Drop> FileShelf<D> {
         Err(Failed)
     }
 
-    fn fail_reading<T>(&mut self) -> Result<T, Failed>
+    fn fail_reading<T>(&mut self, name: &str) -> Result<T, Failed>
         ensures err { IsErr result }
         ensures reading { Counts self.old.reading self.new.reading result }
-        ensures kept { self.new ≡ record self.old { reading = self.new.reading } }
+        ensures unread { NamesFault self.old.unread self.new.unread name.now result }
+        ensures named { length name.now ≤ 4096 → self.new.unread ≡ Some name.now }
+        ensures kept { self.new ≡ record self.old { reading = self.new.reading; unread = self.new.unread } }
     {
         self.reading_faults = self.reading_faults.saturating_add(1);
+        self.unread.keep(name);
         Err(Failed)
     }
 }
@@ -230,6 +241,8 @@ impl<D: FileSystem + Drop> Shelf for FileShelf<D> {
     ghost held = { held_in D.told };
 
     ghost reading_faults = { λ s. s.reading };
+
+    ghost unread = { λ s. s.unread };
 
     ghost writing_faults = { λ s. s.writing };
 
@@ -243,7 +256,7 @@ impl<D: FileSystem + Drop> Shelf for FileShelf<D> {
         }
         match self.disk.size(name) {
             Ok(n) => Ok(n),
-            Err(_) => self.fail_reading(),
+            Err(_) => self.fail_reading(name),
         }
     }
 
@@ -256,7 +269,7 @@ impl<D: FileSystem + Drop> Shelf for FileShelf<D> {
         }
         match self.reader.read(&self.disk, name, at, into) {
             Ok(n) => Ok(n),
-            Err(_) => self.fail_reading(),
+            Err(_) => self.fail_reading(name),
         }
     }
 

@@ -13,6 +13,7 @@ mod output;
 mod reader;
 mod std_sink;
 mod system_files;
+mod unread;
 
 pub use file_shelf::FileShelf;
 pub use file_system::FileSystem;

@@ -63,27 +63,19 @@ module _ (past : PastLoads) (slot : ℕ) where
       instruction_ended slot (with_loads_before past d) c how w
       ≡ told_after past (instruction_ended slot d c how w)
   unfolding instruction_ended
-  ended_after d c ran.Stay w = refl
   ended_after d c (ran.Loaded address value) w =
       ap (loaded (stays_inside slot c d.control) w) (append_assoc past d.loads ((address, value) ∷ []))
-  ended_after d c (ran.Trap cause address) w = refl
-  ended_after d c ran.Ecall w = refl
-  ended_after d c ran.Stopped w = refl
+  ended_after d c _ w = refl
 
   copied_after : (d : Domain) (c : Context) (how : Copied) →
       copy_ended slot (with_loads_before past d) c how ≡ stepped_after past (copy_ended slot d c how)
   unfolding copy_ended
-  copied_after d c copied.Going = refl
-  copied_after d c copied.CallReady = refl
-  copied_after d c copied.Done = refl
-  copied_after d c (copied.Absent cause address) = refl
-  copied_after d c copied.Stopped = refl
-  copied_after d c copied.Refused = refl
   copied_after d c (copied.Loaded address byte) =
       let step = stays_inside slot c d.control in
       ap (λ (loads : PastLoads). let s : DomainStepped =
       record { domain = record { control = step.control; loads = loads }; went = step.went } in s)
       (append_assoc past d.loads ((address, byte) ∷ []))
+  copied_after d c _ = refl
 
   written_after : (place : Option WordPlace) (s : DomainStepped) →
       after_write place (stepped_after past s) ≡ stepped_after past (after_write place s)

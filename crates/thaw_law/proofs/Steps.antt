@@ -7,7 +7,7 @@ use Rattle.cloak_model.specs.declared.inside.Went.TheVariants as went
 use Rattle.cloak_model.specs.declared.item.Item.{Item}
 use Rattle.cloak_model.specs.declared.item.Item.TheVariants as item
 use Rattle.cloak_model.specs.declared.outcome.Kernel.{Kernel}
-use Rattle.cloak_model.specs.declared.outcome.Kernel.TheVariants.{Stay, Put, Halt, Resume, Trapped}
+use Rattle.cloak_model.specs.declared.outcome.Kernel.TheVariants.{Stay, Put, Resume}
 use Rattle.cloak_model.specs.Ahead.{settled_step}
 use Rattle.cloak_model.specs.Asking.{Told}
 use Rattle.cloak_model.specs.Contexts.{Admitted, context_at, domain_of, slot_of}
@@ -80,17 +80,15 @@ module _ (console : List ℕ) (loads : List PastLoads) where
   ended_after : (j : Joint) (number : ℕ) (items : List Item) (e : Kernel) →
       outside_ended (after j) number items e ≡ turn_after (outside_ended j number items e)
   unfolding outside_ended
-  ended_after j number items Stay = refl
-  ended_after j number items Trapped = refl
   ended_after j number items (Put b) =
       ap (λ (shown : List ℕ). let t : Turn =
       record (quiet (record (after j) { console = shown }) items) { console = b ∷ [] } in t)
       (append_assoc console j.console (b ∷ []))
-  ended_after j number items (Halt value) = refl
   ended_after j number items (Resume ctx answer) =
       ap (λ (r : AfterResume). let t : Turn =
       record (quiet r.joint (items ++ r.items)) { violation = r.violation } in t)
       (resume_after j number (satp_of (hart_in j number).csrs) ctx answer)
+  ended_after j number items _ = refl
 
   outside_after : (j : Joint) (number : ℕ) (h : Hart) →
       outside_step (after j) number h ≡ turn_after (outside_step j number h)
@@ -105,10 +103,7 @@ module _ (console : List ℕ) (loads : List PastLoads) where
       domain_ended (after j) number h d w how ≡ turn_after (domain_ended j number h d w how)
   unfolding domain_ended
   went_after j number h d w went.Stay = refl
-  went_after j number h d w went.Stopped = refl
-  went_after j number h d w (went.Remapped space) = refl
-  went_after j number h d w (went.Leave s) = refl
-  went_after j number h d w (went.SpaceGone space s) = refl
+  went_after j number h d w _ = refl
 
   stepped_after : (j : Joint) (number : ℕ) (h : Hart) (d : ℕ) (told : Told DomainStepped) →
       after_domain_step (after j) number h d (told_after (past_at loads d) told)
@@ -126,10 +121,7 @@ module _ (console : List ℕ) (loads : List PastLoads) where
       interrupt_ended (after j) number h items how ≡ turn_after (interrupt_ended j number h items how)
   unfolding interrupt_ended
   interrupted_after j number h items went.Stay = refl
-  interrupted_after j number h items went.Stopped = refl
-  interrupted_after j number h items (went.Remapped space) = refl
-  interrupted_after j number h items (went.Leave s) = refl
-  interrupted_after j number h items (went.SpaceGone space s) = refl
+  interrupted_after j number h items _ = refl
 
   due_after : (due : Bool) (j : Joint) (number : ℕ) (h : Hart) (d slot : ℕ) (was : Domain) →
       by_interrupt due (after j) number h d slot (program_after d was)

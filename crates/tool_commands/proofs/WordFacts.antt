@@ -9,7 +9,7 @@ use Rattle.tool_words.specs.declared.request.ToolWords.{ToolWords}
 use Rattle.tool_words.specs.declared.request.ToolWords.TheVariants.{Asks, Help, Faulty}
 use Rattle.run_trace.specs.declared.choice.TraceChoice.{TraceChoice}
 use Rattle.tool_commands.specs.declared.choosing.WordsMeant.{WordsMeant}
-use Rattle.tool_commands.specs.ToolAnswering.{DisasmMeans, ReadAnswers, ShowAnswers, ShowsSelection, ShowsTrace, WordsAnswers}
+use Rattle.tool_commands.specs.ToolAnswering.{DisasmMeans, DrawFrom, ReadAnswers, ShowAnswers, ShowsSelection, ShowsTrace, WordsAnswers}
 
 pub shows_meant : {S O : Type 0} (json : Bool) (meant same : Option Selection) (record_name : List ℕ)
     (before after : Outside S O) (answer : Status) → meant ≡ same →
@@ -36,6 +36,12 @@ pub traces_meant : {S O : Type 0} (bundle_name record_name : List ℕ) (program 
     ShowsTrace bundle_name record_name program same before after answer
 traces_meant bundle_name record_name program meant same before after answer is traces =
     subst (λ (choice : TraceChoice). ShowsTrace bundle_name record_name program choice before after answer) is traces
+
+pub draw_meant : {S O : Type 0} (meant same : Bool) (bundle_name record_name out_name : List ℕ) (before after : Outside S O)
+    (answer : Status) → meant ≡ same → DrawFrom meant bundle_name record_name out_name before after answer →
+    DrawFrom same bundle_name record_name out_name before after answer
+draw_meant meant same bundle_name record_name out_name before after answer is answers =
+    subst (λ (taken : Bool). DrawFrom taken bundle_name record_name out_name before after answer) is answers
 
 pub answers_read : {S O : Type 0} (words : List Text) (read : ToolWords) (before after : Outside S O) (answer : Status) →
     ReadsTool words read → ReadAnswers read before after answer → WordsAnswers words before after answer

@@ -1,5 +1,6 @@
 -- How the tools answer, by what the words ask for.
-use Rattle.std.specs.Prelude.{ℕ, ◌≡◌, ◌⊎◌, Bool, true, false, List, Option, Some, None, codes, string_bytes}
+use Rattle.std.specs.Prelude.{ℕ, ◌≡◌, ◌⊎◌, ◌||◌, Bool, true, false, List, Option, Some, None, codes, string_bytes}
+use Rattle.std.specs.Str.{bytes_eq}
 use Rattle.io_traits.specs.Told.{SameFiles}
 use Rattle.clap.specs.Walk.{Text}
 use Rattle.asm_text.specs.Commanded.{AsmAnswers}
@@ -10,6 +11,7 @@ use Rattle.record_text.specs.Reading.{never_unfit, record_text}
 use Rattle.record_text.specs.declared.selection.Selection.{Selection}
 use Rattle.read_back.specs.Reading.{ShowsRecord}
 use Rattle.read_back.specs.declared.ending.Ending.{Ending}
+use Rattle.draw_command.specs.Drawing.{DrawAnswers}
 use Rattle.run_story.specs.Answering.{ExplainAnswers}
 use Rattle.rv_asm.specs.Words.{magnitude}
 use Rattle.disassembly.specs.Disassembling.{DisasmAnswers}
@@ -24,7 +26,7 @@ use Rattle.command_parts.specs.Refusing.{Refuses}
 use Rattle.command_parts.specs.declared.refusal.Refusal.TheVariants as refusal
 use Rattle.command_parts.specs.declared.status.Status.{Status}
 use Rattle.command_parts.specs.declared.status.Status.TheVariants as status
-use Rattle.tool_words.specs.ToolCommand.{ToolAsked, Asm, Disasm, Pack, Show, Trace, Explain, AreFaulty, AreNotTaken, AsksTool}
+use Rattle.tool_words.specs.ToolCommand.{ToolAsked, Asm, Disasm, Pack, Show, Trace, Draw, Explain, AreFaulty, AreNotTaken, AsksTool}
 use Rattle.tool_words.specs.ToolRequest.{tool_asked_of}
 use Rattle.tool_words.specs.declared.request.ToolWords.{ToolWords}
 use Rattle.tool_words.specs.declared.request.ToolWords.TheVariants.{Asks, Help, Faulty}
@@ -101,6 +103,19 @@ pub record ExplainsRun {S O : Type 0} (bundle_name record_name : List ℕ) (befo
   pub kept : SameFiles before.files.held after.files.held
   pub writing : after.files.writing ≡ before.files.writing
 
+-- a picture would take the place of the image or of the record
+abbrev pub is_taken : (out_name bundle_name record_name : List ℕ) → Bool
+is_taken out_name bundle_name record_name = bytes_eq out_name bundle_name || bytes_eq out_name record_name
+
+abbrev pub taken_line : List ℕ
+taken_line = codes "error: OUT is BUNDLE or RECORD\n"
+
+abbrev pub DrawFrom : {S O : Type 0} → Bool → (bundle_name record_name out_name : List ℕ) → Outside S O → Outside S O →
+    Status → Type 0
+DrawFrom true bundle_name record_name out_name before after answer = Says taken_line status.Usage before after answer
+DrawFrom false bundle_name record_name out_name before after answer =
+    DrawAnswers bundle_name record_name out_name before after answer
+
 -- How the tools answer what is asked of them.
 abbrev pub ToolAnswers : {S O : Type 0} → ToolAsked → Outside S O → Outside S O → Status → Type 0
 ToolAnswers (Asm text_name words_name) before after answer = AsmAnswers text_name words_name before after answer
@@ -111,6 +126,8 @@ ToolAnswers (Show record_name from to only counts json) before after answer =
     ShowAnswers json (selection_asked from to only counts) record_name before after answer
 ToolAnswers (Trace bundle_name record_name program from to hart) before after answer =
     ShowsTrace bundle_name record_name program (choice_asked from to hart) before after answer
+ToolAnswers (Draw bundle_name record_name out_name) before after answer =
+    DrawFrom (is_taken out_name bundle_name record_name) bundle_name record_name out_name before after answer
 ToolAnswers (Explain bundle_name record_name) before after answer = ExplainsRun bundle_name record_name before after answer
 
 -- how they answer what was read of words

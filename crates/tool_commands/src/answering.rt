@@ -1,14 +1,16 @@
 //! What is done by the words.
-ghost use Rattle.std.specs.Prelude.{map, string_bytes};
+ghost use Rattle.std.specs.Prelude.{◌≡◌, map, string_bytes};
 ghost use Rattle.command_parts.specs.Outside.{outside};
 ghost use Rattle.tool_words.specs.ToolRequest.{asked_of_disasm, asked_of_show, asked_of_trace, tool_asked_of};
-ghost use Rattle.tool_commands.specs.ToolAnswering.{ReadAnswers, ShowsSelection, ToolAnswers, WordsAnswers};
+ghost use Rattle.tool_commands.specs.ToolAnswering.{DrawFrom, ReadAnswers, ShowsSelection, ToolAnswers, WordsAnswers};
+ghost use Rattle.tool_commands.specs.ToolAnswering as answers;
 
 use crate::choosing::{WordsMeant, choice_asked, selection_asked, words_asked};
 use crate::saying::say;
 use asm_text::asm_command;
 use command_parts::{Refusal, Status, refuse};
 use disassembly::{disasm_command, disasm_part_command};
+use draw_command::draw_command;
 use io_traits::{Shelf, Sink};
 use manifest::pack_command;
 use record_json::show_json_command;
@@ -101,6 +103,34 @@ fn trace<S: Shelf, O: Sink>(
     )
 }
 
+/// A picture would take the place of the image or of the record.
+fn is_taken(picture: &str, bundle: &str, record_name: &str) -> bool
+    ensures { result ≡ answers.is_taken picture.now bundle.now record_name.now }
+{
+    picture == bundle || picture == record_name
+}
+
+/// Draws a run, unless the picture would take the place of what it is drawn from.
+fn draw<S: Shelf, O: Sink>(
+    alloc: Global,
+    bundle: &str,
+    record_name: &str,
+    picture: &str,
+    shelf: &mut S,
+    out: &mut O,
+) -> Status
+    requires { S.is_settled shelf.old }
+    ensures { DrawFrom (answers.is_taken picture.now bundle.now record_name.now) bundle.now record_name.now picture.now
+        (outside S.Shelf O.Sink shelf.old out.old) (outside S.Shelf O.Sink shelf.new out.new) result }
+{
+    let taken = is_taken(picture, bundle, record_name);
+    if taken {
+        say(out, b"error: OUT is BUNDLE or RECORD\n", Status::Usage)
+    } else {
+        draw_command(alloc, bundle, record_name, picture, shelf, out)
+    }
+}
+
 /// Does what is asked for.
 fn carry_out<S: Shelf, O: Sink>(
     alloc: Global,
@@ -118,6 +148,11 @@ fn carry_out<S: Shelf, O: Sink>(
         ToolRequest::Pack { manifest, bundle } => pack_command(alloc, manifest, bundle, shelf, out),
         ToolRequest::Show(request) => show(request, shelf, out),
         ToolRequest::Trace(request) => trace(alloc, request, shelf, out),
+        ToolRequest::Draw {
+            bundle,
+            record_name,
+            out: picture,
+        } => draw(alloc, bundle, record_name, picture, shelf, out),
         ToolRequest::Explain {
             bundle,
             record_name,

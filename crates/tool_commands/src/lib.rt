@@ -3,7 +3,8 @@
 //!
 //! `run_tools` is all of it over any command line, files and output; `specs/ToolAnswering` says how each command
 //! answers: `asm` (`asm_text`), `disasm` (`disassembly`), `pack` (`manifest`), `show` (`record_text`,
-//! `record_json`), `trace` (`run_trace`) and `explain` (`run_story`). `sentence` is what is said of a status on standard error.
+//! `record_json`), `trace` (`run_trace`), `draw` (`draw_command`) and `explain` (`run_story`). `sentence` is what is said of a
+//! status on standard error.
 #![tactic(auto)]
 
 mod answering;

@@ -1,5 +1,5 @@
-//! Tests of the tools: texts that are assembled, manifests, records as they are shown, runs that are explained, and the words
-//! that ask for each.
+//! Tests of the tools: texts that are assembled, manifests, records as they are shown, runs that are explained and drawn, and
+//! the words that ask for each.
 #![tactic(auto)]
 
 #[cfg(test)]
@@ -14,6 +14,8 @@ mod lines;
 mod manifests;
 #[cfg(test)]
 mod objects;
+#[cfg(test)]
+mod pictures;
 #[cfg(test)]
 mod records;
 #[cfg(test)]

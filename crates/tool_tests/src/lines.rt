@@ -94,7 +94,7 @@ fn each_command_does_its_own(rt: HostRuntime) -> Result<(), Fail> {
 }
 
 /// Words, the status, and what the output begins with.
-static LINES: [(&str, Status, &str); 26] = [
+static LINES: [(&str, Status, &str); 29] = [
     (
         "tools disasm w.w",
         Status::Done,
@@ -127,6 +127,17 @@ static LINES: [(&str, Status, &str); 26] = [
         "bundle: short at 0\n",
     ),
     ("tools trace k.b a.r --program 4", Status::Usage, "error: "),
+    (
+        "tools draw k.b a.r a.r",
+        Status::Usage,
+        "error: OUT is BUNDLE or RECORD\n",
+    ),
+    (
+        "tools draw k.b a.r k.b",
+        Status::Usage,
+        "error: OUT is BUNDLE or RECORD\n",
+    ),
+    ("tools draw w.w a.r a.svg", Status::BadBundle, "bundle: "),
     ("tools show a.r --from 1 --to 1", Status::Done, "step 1\n"),
     ("tools show a.r --only leave,put", Status::Done, ""),
     ("tools show a.r --only leaves", Status::Usage, "error: "),

@@ -30,7 +30,7 @@ const PROGRAM: &[u32] = &[
 ];
 
 /// Seven steps of the kernel.
-const STEPS: &[u8] =
+pub const STEPS: &[u8] =
     b"CLOAKREC\x10\x01\0\0\0\x10\x02\0\0\0\x10\x03\0\0\0\x10\x04\0\0\0\x10\x05\0\0\0\x10\x06\0\0\0\x10\x07\0\0\0\
 \x11\x07\0\0\0\x12";
 
@@ -85,7 +85,7 @@ fn add_words(file: &mut Vec<u8>, words: &[u32]) -> Result<(), Fail> {
 }
 
 /// An image of one hart, the kernel, and one program of one page in frame 8.
-fn image(alloc: Global) -> Result<Vec<u8>, Fail> {
+pub fn image(alloc: Global) -> Result<Vec<u8>, Fail> {
     let mut file = Vec::from_slice(alloc, b"CLOAKBND")?;
     add_words(&mut file, &[1, 64, 1, 1, 0x8000_0000, 1, 0, 1])?;
     file.push(0)?;

@@ -25,6 +25,8 @@ pub data ToolAsked : Type 0 where
   Show : (record_name : List ℕ) → (from to : ℕ) → (only : Option (List (List ℕ))) → (counts json : Bool) → ToolAsked
   -- the steps of the run of a bundle that wrote a record, of the kernel's side or of that of a program, of one hart or all
   Trace : (bundle record_name : List ℕ) → (program : Option ℕ) → (from to : ℕ) → (hart : Option ℕ) → ToolAsked
+  -- the run of a bundle that wrote a record as a picture, written to a file
+  Draw : (bundle record_name out_name : List ℕ) → ToolAsked
   -- the violations of the run of a bundle that wrote a record
   Explain : (bundle record_name : List ℕ) → ToolAsked
 
@@ -83,7 +85,7 @@ trace_asked rows =
     Trace (needed_text (codes "BUNDLE") rows) (needed_text (codes "RECORD") rows) (number_named (codes "program") rows)
     (step_named (codes "from") 0 rows) (step_named (codes "to") last_step rows) (number_named (codes "hart") rows)
 
--- What a command asks with the texts that it found. There are no more than these six.
+-- What a command asks with the texts that it found. There are no more than these seven.
 unfoldable pub tool_asked_with : Text → List Row → ToolAsked
 tool_asked_with name rows =
     if is (codes "asm") name then Asm (needed_text (codes "TEXT") rows) (needed_text (codes "OUT") rows) else
@@ -91,6 +93,8 @@ tool_asked_with name rows =
     if is (codes "pack") name then Pack (needed_text (codes "MANIFEST") rows) (needed_text (codes "BUNDLE") rows) else
     if is (codes "show") name then show_asked rows else
     if is (codes "trace") name then trace_asked rows else
+    if is (codes "draw") name
+    then Draw (needed_text (codes "BUNDLE") rows) (needed_text (codes "RECORD") rows) (needed_text (codes "OUT") rows) else
     Explain (needed_text (codes "BUNDLE") rows) (needed_text (codes "RECORD") rows)
 
 -- what the words ask for, of which the first is the program's name

@@ -1,4 +1,4 @@
--- What the tools take as words: one simple command of `clap` with six subcommands, and help.
+-- What the tools take as words: one simple command of `clap` with seven subcommands, and help.
 use Rattle.std.specs.Prelude.{ℕ, true, List, [], ◌∷◌, Some, codes, fold, pos}
 use Rattle.clap.specs.Words.{App, Rule, new_app, new_rule, with_rule, with_subcommand}
 use Rattle.clap.specs.Simple.{on_top}
@@ -47,6 +47,10 @@ trace_form = command_with (codes "trace")
     (position (codes "BUNDLE") ∷ position (codes "RECORD") ∷ program_option (codes "program") ∷ step_option (codes "from")
     ∷ step_option (codes "to") ∷ step_option (codes "hart") ∷ [])
 
+abbrev pub draw_form : App
+draw_form = command_with (codes "draw")
+    (position (codes "BUNDLE") ∷ position (codes "RECORD") ∷ position (codes "OUT") ∷ [])
+
 abbrev pub explain_form : App
 explain_form = command_with (codes "explain") (position (codes "BUNDLE") ∷ position (codes "RECORD") ∷ [])
 
@@ -56,4 +60,4 @@ tools_top = on_top (λ s. record s { has_version = true; arg_required_else_help 
 
 abbrev pub tools_form : App
 tools_form = fold with_subcommand tools_top
-    (asm_form.top ∷ disasm_form.top ∷ pack_form.top ∷ show_form.top ∷ trace_form.top ∷ explain_form.top ∷ [])
+    (asm_form.top ∷ disasm_form.top ∷ pack_form.top ∷ show_form.top ∷ trace_form.top ∷ draw_form.top ∷ explain_form.top ∷ [])

@@ -10,7 +10,7 @@ use Rattle.tool_words.specs.declared.request.DisasmRequest.{DisasmRequest}
 use Rattle.tool_words.specs.declared.request.ShowRequest.{ShowRequest}
 use Rattle.tool_words.specs.declared.request.TraceRequest.{TraceRequest}
 use Rattle.tool_words.specs.declared.request.ToolRequest.{ToolRequest}
-use Rattle.tool_words.specs.declared.request.ToolRequest.TheVariants.{Asm, Disasm, Pack, Show, Trace, Explain}
+use Rattle.tool_words.specs.declared.request.ToolRequest.TheVariants.{Asm, Disasm, Pack, Show, Trace, Draw, Explain}
 use Rattle.tool_words.specs.declared.request.ToolWords.{ToolWords}
 use Rattle.tool_words.specs.declared.request.ToolWords.TheVariants.{Asks, Help, Faulty}
 
@@ -35,6 +35,7 @@ tool_asked_of (Disasm disasm) = asked_of_disasm disasm
 tool_asked_of (Pack manifest bundle) = spec.Pack manifest.now bundle.now
 tool_asked_of (Show show) = asked_of_show show
 tool_asked_of (Trace trace) = asked_of_trace trace
+tool_asked_of (Draw bundle record_name out) = spec.Draw bundle.now record_name.now out.now
 tool_asked_of (Explain bundle record_name) = spec.Explain bundle.now record_name.now
 
 -- What is read of words. The texts are those of `clap`.

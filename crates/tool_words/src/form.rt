@@ -205,6 +205,20 @@ fn explain_form<'a>(alloc: Global) -> Result<Command<'a>, NoMemory>
     Ok(explain)
 }
 
+fn draw_form<'a>(alloc: Global) -> Result<Command<'a>, NoMemory>
+    ensures { IfOk result (HasForm spec.draw_form) }
+{
+    let bundle = position(alloc, "BUNDLE", "The guest image");
+    let record = position(alloc, "RECORD", "The record of its run");
+    let out = position(alloc, "OUT", "The file that gets the picture, in SVG");
+    let draw = Command::new(alloc, "draw")
+        .about("Draw a run: who runs, what each frame has, the disk and the console")
+        .arg(bundle)?
+        .arg(record)?
+        .arg(out)?;
+    Ok(draw)
+}
+
 /// The tools before their commands.
 fn top<'a>(alloc: Global) -> Command<'a>
     ensures { app_of result ≡ spec.tools_top }
@@ -232,5 +246,6 @@ pub fn tools_form<'a>(alloc: Global) -> Result<Command<'a>, NoMemory>
     let pack = with_command(disasm, pack_form(alloc)?)?;
     let show = with_command(pack, show_form(alloc)?)?;
     let trace = with_command(show, trace_form(alloc)?)?;
-    with_command(trace, explain_form(alloc)?)
+    let draw = with_command(trace, draw_form(alloc)?)?;
+    with_command(draw, explain_form(alloc)?)
 }

@@ -75,6 +75,11 @@ fn asked_with<'a>(
         }),
         "show" => Ok(ToolRequest::Show(show_request(alloc, matches)?)),
         "trace" => Ok(ToolRequest::Trace(trace_request(matches))),
+        "draw" => Ok(ToolRequest::Draw {
+            bundle: needed_text(matches, "BUNDLE"),
+            record_name: needed_text(matches, "RECORD"),
+            out: needed_text(matches, "OUT"),
+        }),
         _ => Ok(ToolRequest::Explain {
             bundle: needed_text(matches, "BUNDLE"),
             record_name: needed_text(matches, "RECORD"),

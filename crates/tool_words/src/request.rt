@@ -58,6 +58,12 @@ pub enum ToolRequest<'a> {
     },
     Show(ShowRequest<'a>),
     Trace(TraceRequest<'a>),
+    Draw {
+        bundle: &'a str,
+        record_name: &'a str,
+        /// The file that gets the picture.
+        out: &'a str,
+    },
     Explain {
         bundle: &'a str,
         record_name: &'a str,

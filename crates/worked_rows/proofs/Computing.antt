@@ -69,31 +69,25 @@ plain_steps = tt
 -- the step of a cloaked program but for its reaching of pages
 unfoldable pub told_steps : Unit {0}
 unfolding
-    instructions registers.zero_registers
-    pages.same_page pages.is_of effect.effect resources.lookup resources.page_at resources.started_resources
-    resources.made_at resources.new_resource resources.mapped resources.map_region resources.unmap_region
-    resources.drop_space contexts.started_contexts contexts.resume_if contexts.resume_at contexts.shown contexts.admit
-    calls.is_good calls.copy_begin calls.call_begin calls.begin_call calls.in_put calls.in_reached calls.in_placed
-    calls.in_step calls.copy_in_step calls.out_reached calls.out_got calls.out_placed calls.out_step
-    calls.copy_out_step calls.finish_call files.file_found files.file_resource fork.fork_fits fork.forked_resources
-    fork.forked fork.ask_copies fork.fork_cleared fork.fork_if fork.fork fork.ask_forgets fork.end_cleared fork.end_if
-    fork.end_context ask_pages.replies ask_pages.if_drawn ask_pages.ask_inside_address ask_pages.offered_by
-    ask_pages.ask_offer ask_pages.reached ask_pages.reach_by_table ask_pages.get_at ask_pages.got ask_pages.get_by_table
-    ask_pages.put_at ask_pages.stored_inside ask_pages.put_by_table ask_pages.settled_if_marked ask_pages.clear_from
-    ask_pages.next_answer ask_pages.ask_read ask_pages.ask_write ask_pages.ask_get
-    ask_pages.ask_put ask_pages.ask_clear ask_pages.ask_copy ask_pages.ask_forget inside_step.loaded_inside
-    inside_step.load_reached inside_step.load_got inside_step.load_inside inside_step.store_reached
-    inside_step.store_put
-    inside_step.store_inside inside_step.conditional_inside inside_step.atomic_granted inside_step.atomic_reached
-    inside_step.atomic_placed inside_step.atomic_inside inside_step.system_inside inside_step.done_inside inside_step.decoded_inside
-    inside_step.executed_inside inside_step.fetched_inside
-    inside_step.fetch inside_step.instruction_inside hypercalls.remapped hypercalls.new_call hypercalls.map_call
-    hypercalls.unmap_call hypercalls.file_call hypercalls.thread_at hypercalls.thread_call hypercalls.fork_told
-    hypercalls.fork_call hypercalls.end_told hypercalls.exit_call hypercalls.call_begun hypercalls.kernel_call
-    hypercalls.hypercall domain_state.started_control domain_state.started_domain domain_step.instruction_ended
-    domain_step.copy_ended domain_step.phase_step domain_step.step_if domain_step.domain_step domain_step.interrupt_if
-    domain_step.interrupt domain_step.answer_in domain_step.answer_taken domain_step.resume_told
-    domain_step.resume_slot
+    instructions registers.zero_registers pages.same_page pages.is_of effect.effect resources.lookup resources.page_at
+    resources.started_resources resources.made_at resources.new_resource resources.mapped resources.map_region
+    resources.unmap_region resources.drop_space contexts.started_contexts contexts.resume_if contexts.resume_at
+    contexts.shown contexts.admit calls.begin_call calls.copy_in_step calls.copy_out_step calls.finish_call
+    files.file_found files.file_resource fork.fork_fits fork.forked_resources fork.forked fork.ask_copies
+    fork.fork_cleared fork.fork_if fork.fork fork.ask_forgets fork.end_cleared fork.end_if fork.end_context
+    ask_pages.replies ask_pages.if_drawn ask_pages.ask_inside_address ask_pages.offered_by ask_pages.ask_offer
+    ask_pages.reached ask_pages.reach_by_table ask_pages.get_at ask_pages.got ask_pages.get_by_table ask_pages.put_at
+    ask_pages.stored_inside ask_pages.put_by_table ask_pages.settled_if_marked ask_pages.clear_from
+    ask_pages.next_answer ask_pages.ask_read ask_pages.ask_write ask_pages.ask_get ask_pages.ask_put
+    ask_pages.ask_clear ask_pages.ask_copy ask_pages.ask_forget inside_step.load_inside inside_step.store_inside
+    inside_step.atomic_granted inside_step.atomic_placed inside_step.atomic_inside inside_step.system_inside
+    inside_step.done_inside inside_step.decoded_inside inside_step.fetch inside_step.instruction_inside
+    hypercalls.remapped hypercalls.new_call hypercalls.map_call hypercalls.unmap_call hypercalls.file_call
+    hypercalls.thread_at hypercalls.thread_call hypercalls.fork_told hypercalls.fork_call hypercalls.end_told
+    hypercalls.exit_call hypercalls.call_begun hypercalls.kernel_call hypercalls.hypercall
+    domain_state.started_control domain_state.started_domain domain_step.instruction_ended domain_step.copy_ended
+    domain_step.phase_step domain_step.step_if domain_step.domain_step domain_step.interrupt_if domain_step.interrupt
+    domain_step.answer_in domain_step.answer_taken domain_step.resume_told domain_step.resume_slot
 told_steps = tt
 
 -- the step of a cloaked program

@@ -12,7 +12,7 @@ use Rattle.cloak_model.specs.Cloaking.{CloakedMemory}
 use Rattle.cloak_model.specs.Contexts.{Context}
 use Rattle.cloak_model.specs.DomainState.{Domain}
 use Rattle.cloak_model.specs.DomainStep.{after_write, instruction_ended}
-use Rattle.cloak_model.specs.InsideStep.{store_reached}
+use Rattle.cloak_model.proofs.InsideParts.{store_reached}
 use Rattle.cloak_model.specs.Joint.{answers_violation, Turn, joint_step, quiet, after_domain_step}
 use Rattle.cloak_model.specs.Memory.{with_value_in}
 use Rattle.cloak_model.specs.Opening.{opening, numbers_below}

@@ -21,7 +21,7 @@ use Rattle.cloak_model.specs.Ledger.{Keys, key_in}
 use Rattle.cloak_model.specs.Contexts.{Context, with_space}
 use Rattle.cloak_model.specs.DomainState.{Domain}
 use Rattle.cloak_model.specs.DomainStep.{after_write, instruction_ended}
-use Rattle.cloak_model.specs.InsideStep.{fetched_inside, store_reached}
+use Rattle.cloak_model.proofs.InsideParts.{fetched_inside, store_reached}
 use Rattle.cloak_model.specs.World.{Cloak, Cloaked}
 use Rattle.cloak_model.specs.Asking.{Told, answered, then_ask}
 use Rattle.cloak_model.specs.AskPages.{ask_reach}

@@ -3,20 +3,21 @@ use Rattle.cloak_base.specs.Random.{Random}
 use Rattle.cloak_machine.specs.Standing.{Opens}
 use Rattle.frozen_state.specs.Room.{IsRoomFor}
 use Rattle.joint_machine.specs.declared.opened.OpenFault.{OpenFault}
-use Rattle.command_parts.proofs.Refused.{no_bundle, no_file}
+use Rattle.command_parts.proofs.Refused.{is_some_bundle, no_bundle, no_file, no_stream}
 use Rattle.frozen_commands.proofs.Refused.{asks_frozen, is_lack}
 use Rattle.frozen_commands.proofs.freezing.prepare_frozen.Goals as goal
 
 pub returns-in-Err-clause-prepares : goal.returns-in-Err-clause-prepares
 returns-in-Err-clause-prepares g c =
     let e = c.in-Err.ensures in
-    no_bundle c.in-Err.refusal _ _ refl e.bundle c.requires.reading e.files e.writing
+    no_bundle c.in-Err.refusal _ _ refl e.bundle e.unread c.requires.reading e.files e.writing
 
 pub returns-in-Err-open_stream-clause-prepares : goal.returns-in-Err-open_stream-clause-prepares
 returns-in-Err-open_stream-clause-prepares g c =
     let b = c.in-Ok.ensures in
     let e = c.in-Err-open_stream.ensures in
-    no_file Random c.in-Err-open_stream.refusal _ _ _ refl b.bundle.0 e.stream c.requires.reading
+    no_stream _ c.in-Err-open_stream.refusal _ _ _ refl
+    (λ file named. inr (is_some_bundle _ _ _ _ b.bundle.1.1, inl named)) b.bundle.0 e.stream e.unread c.requires.reading
     (λ name. e.files name ∙ b.files name) (e.writing ∙ b.writing)
 
 pub returns-in-Err-open_stream-2-clause-prepares : goal.returns-in-Err-open_stream-2-clause-prepares
@@ -24,7 +25,8 @@ returns-in-Err-open_stream-2-clause-prepares g c =
     let b = c.in-Ok.ensures in
     let s = c.in-Ok-open_stream.ensures in
     let e = c.in-Err-open_stream-2.ensures in
-    no_file Random c.in-Err-open_stream-2.refusal _ _ _ refl (s.stream.0 ∙ b.bundle.0) e.stream c.requires.reading
+    no_file Random c.args.freeze.now.files.vectors_name.now c.in-Err-open_stream-2.refusal _ _ _ refl
+    (inr (is_some_bundle _ _ _ _ b.bundle.1.1, inr refl)) (s.stream.0 ∙ b.bundle.0) e.stream e.unread c.requires.reading
     (λ name. e.files name ∙ (s.files name ∙ b.files name)) (e.writing ∙ (s.writing ∙ b.writing))
 
 pub returns-in-Ok-open-2-clause-prepares : goal.returns-in-Ok-open-2-clause-prepares

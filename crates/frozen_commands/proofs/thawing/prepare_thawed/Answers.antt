@@ -1,4 +1,4 @@
-use Rattle.std.proofs.Common.{◌∙◌, ℕ, List, Vec, Option, Err, refl, sym, subst, arith}
+use Rattle.std.proofs.Common.{◌∙◌, ℕ, List, Vec, Option, Err, inl, inr, refl, sym, subst, arith}
 use Rattle.std.specs.declared.alloc.Global.{Global}
 use Rattle.cloak_base.specs.Random.{Random}
 use Rattle.command_words.specs.Request.{asked_of_thaw, thaw_names_of, randomness_of}
@@ -6,7 +6,7 @@ use Rattle.command_parts.specs.declared.refusal.Refusal.{Refusal}
 use Rattle.command_parts.specs.NoRun.{NoRun}
 use Rattle.command_parts.specs.Outside.{files}
 use Rattle.command_parts.specs.Thawing.{SpellsState}
-use Rattle.command_parts.proofs.Refused.{no_bundle, no_file}
+use Rattle.command_parts.proofs.Refused.{is_some_bundle, no_bundle, no_file, no_stream}
 use Rattle.frozen_commands.specs.Thawing.{IsStateFront, JudgesState}
 use Rattle.frozen_commands.proofs.Refused.{asks_thawed, no_state, not_thawed, too_many}
 use Rattle.frozen_commands.proofs.thawing.prepare_thawed.Goals as goal
@@ -14,13 +14,14 @@ use Rattle.frozen_commands.proofs.thawing.prepare_thawed.Goals as goal
 pub returns-in-Err : goal.returns-in-Err
 returns-in-Err g c =
     let e = c.in-Err.ensures in
-    no_bundle c.in-Err.refusal _ _ refl e.bundle c.requires.reading e.files e.writing
+    no_bundle c.in-Err.refusal _ _ refl e.bundle e.unread c.requires.reading e.files e.writing
 
 pub returns-in-Err-read_state : goal.returns-in-Err-read_state
 returns-in-Err-read_state g c =
     let b = c.in-Ok.ensures in
     let e = c.in-Err-read_state.ensures in
-    no_file (Vec ℕ Global) c.in-Err-read_state.refusal _ _ _ refl b.bundle.0 e.reading c.requires.reading
+    no_file (Vec ℕ Global) c.args.thaw.now.files.state_name.now c.in-Err-read_state.refusal _ _ _ refl
+    (inr (is_some_bundle _ _ _ _ b.bundle.1.1, inl refl)) b.bundle.0 e.reading e.unread c.requires.reading
     (λ name. e.files name ∙ b.files name) (e.writing ∙ b.writing)
 
 pub returns-in-Err-open_stream : goal.returns-in-Err-open_stream
@@ -28,7 +29,9 @@ returns-in-Err-open_stream g c =
     let b = c.in-Ok.ensures in
     let f = c.in-Ok-read_state.ensures in
     let e = c.in-Err-open_stream.ensures in
-    no_file Random c.in-Err-open_stream.refusal _ _ _ refl (f.reading ∙ b.bundle.0) e.stream c.requires.reading
+    no_stream _ c.in-Err-open_stream.refusal _ _ _ refl
+    (λ file named. inr (is_some_bundle _ _ _ _ b.bundle.1.1, inr named)) (f.reading ∙ b.bundle.0) e.stream e.unread
+    c.requires.reading
     (λ name. e.files name ∙ (f.files name ∙ b.files name)) (e.writing ∙ (f.writing ∙ b.writing))
 
 pub returns-in-Err-judge_state : goal.returns-in-Err-judge_state

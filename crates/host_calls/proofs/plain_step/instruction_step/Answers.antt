@@ -15,5 +15,5 @@ returns-in-Err g c =
 
 pub returns-in-Ok : goal.returns-in-Ok
 returns-in-Ok g c =
-    word_steps g.M.Ram _ _ _ c.args.h.now c.args.d.now c.h.inside.pc c.in-Ok.word _ _
-    (ap (λ (h : Hart). h.pc) c.h.view_is) c.decode.ensures.table c.in-Ok.ensures c.decoded.ensures
+    word_steps g.M.Ram _ _ _ c.args.h.now c.args.d.now c.h.inside.pc c.in-Ok.word _ (ap (λ (h : Hart). h.pc) c.h.view_is)
+    c.in-Ok.ensures c.executed.ensures

@@ -7,7 +7,7 @@ pub returns-in-Err-clause-answers : goal.returns-in-Err-clause-answers
 returns-in-Err-clause-answers g c =
     let e = c.in-Err.ensures in
     upgrade_refuses (unread c.in-Err.refusal _ _ _ e.bundle)
-    (no_bundle c.in-Err.refusal _ _ refl e.bundle c.requires.reading e.files e.writing) c.requires.output c.refuse.ensures
+    (no_bundle c.in-Err.refusal _ _ refl e.bundle e.unread c.requires.reading e.files e.writing) c.requires.output c.refuse.ensures
 
 pub returns-in-Ok-version_2_bytes-clause-answers : goal.returns-in-Ok-version_2_bytes-clause-answers
 returns-in-Ok-version_2_bytes-clause-answers g c =

@@ -10,7 +10,7 @@ pub returns-in-Err-clause-answers : goal.returns-in-Err-clause-answers
 returns-in-Err-clause-answers g c =
     let e = c.in-Err.ensures in
     solo_refuses (unread_or_none c.in-Err.refusal (unread c.in-Err.refusal _ _ _ e.bundle))
-    (no_bundle c.in-Err.refusal _ _ refl e.bundle c.requires.reading e.files e.writing) c.requires.output c.refuse.ensures
+    (no_bundle c.in-Err.refusal _ _ refl e.bundle e.unread c.requires.reading e.files e.writing) c.requires.output c.refuse.ensures
 
 pub returns-then-number-programs-clause-answers : goal.returns-then-number-programs-clause-answers
 returns-then-number-programs-clause-answers g c =

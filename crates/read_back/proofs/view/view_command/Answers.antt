@@ -8,7 +8,7 @@ pub returns-in-Err-clause-answers : goal.returns-in-Err-clause-answers
 returns-in-Err-clause-answers g c =
     let e = c.in-Err.ensures in
     view_refuses (unread c.in-Err.refusal _ _ _ e.bundle)
-    (no_bundle c.in-Err.refusal _ _ refl e.bundle c.requires.reading e.files e.writing) c.requires.output c.refuse.ensures
+    (no_bundle c.in-Err.refusal _ _ refl e.bundle e.unread c.requires.reading e.files e.writing) c.requires.output c.refuse.ensures
 
 pub returns-in-Ok-open-clause-answers : goal.returns-in-Ok-open-clause-answers
 returns-in-Ok-open-clause-answers g c =

@@ -15,6 +15,10 @@ returns-in-Ok-Some-clause-counts g c =
     read.counted _ _ _ c.next.result _ refl (c.in-Ok-Some.is ∙ ap (λ x. Ok x) c.in-Ok-Some.field-0-is)
     (c.next.ensures.reading c.requires)
 
+pub returns-in-Ok-Some-clause-item : goal.returns-in-Ok-Some-clause-item
+returns-in-Ok-Some-clause-item g c =
+    c.next.ensures.item c.in-Ok-Some.tag (c.in-Ok-Some.is ∙ ap (λ x. Ok x) c.in-Ok-Some.field-0-is)
+
 pub returns-in-Ok-Some-clause-moves : goal.returns-in-Ok-Some-clause-moves
 returns-in-Ok-Some-clause-moves g c =
     c.next.ensures.moves c.in-Ok-Some.tag (c.in-Ok-Some.is ∙ ap (λ x. Ok x) c.in-Ok-Some.field-0-is)

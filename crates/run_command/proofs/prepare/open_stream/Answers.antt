@@ -3,13 +3,13 @@ use Rattle.range_law.specs.Writing.{AreBytes}
 use Rattle.run_command.proofs.PrepareFacts.{numbered_bytes}
 use Rattle.run_command.proofs.prepare.open_stream.Goals as goal
 
-pub returns-in_ok-bytes-in-FromFile-clause-stream : goal.returns-in_ok-bytes-in-FromFile-clause-stream
-returns-in_ok-bytes-in-FromFile-clause-stream g c =
-    let front = c.in_ok-bytes-in-FromFile.ensures in
+pub returns-in-Ok-clause-stream : goal.returns-in-Ok-clause-stream
+returns-in-Ok-clause-stream g c =
+    let front = c.in-Ok.ensures in
     rw c.in-FromFile.is (
       front.reading,
       record {
-        bytes = c.in_ok-bytes-in-FromFile.bytes.items;
+        bytes = c.in-Ok.bytes.items;
         handed_in = c.bytes.ensures;
         few = front.fits;
         front = front.bytes;

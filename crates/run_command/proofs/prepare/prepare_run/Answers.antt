@@ -1,24 +1,24 @@
 use Rattle.std.proofs.Common.{◌∙◌, Err, inl, refl, subst}
 use Rattle.command_words.specs.Request.{randomness_of}
-use Rattle.run_command.proofs.PrepareFacts.{run_named, stream_before}
-use Rattle.cloak_base.specs.Random.{Random}
+use Rattle.run_command.proofs.PrepareFacts.{run_named, stream_before, stream_is_next}
 use Rattle.cloak_machine.specs.Standing.{Opens}
 use Rattle.joint_machine.specs.declared.opened.OpenFault.{OpenFault}
-use Rattle.command_parts.proofs.Refused.{no_bundle, no_file}
+use Rattle.command_parts.proofs.Refused.{no_bundle, no_stream}
 use Rattle.run_command.proofs.prepare.prepare_run.Goals as goal
 
 pub returns-in-Err-clause-prepares : goal.returns-in-Err-clause-prepares
 returns-in-Err-clause-prepares g c = λ record_name steps few.
     let e = c.in-Err.ensures in
-    no_bundle c.in-Err.refusal _ _ (run_named c.args.bundle_name.now record_name steps _) e.bundle c.requires.reading
-    e.files e.writing
+    no_bundle c.in-Err.refusal _ _ (run_named c.args.bundle_name.now record_name steps _) e.bundle e.unread
+    c.requires.reading e.files e.writing
 
 pub returns-in-Err-open_stream-clause-prepares : goal.returns-in-Err-open_stream-clause-prepares
 returns-in-Err-open_stream-clause-prepares g c = λ record_name steps few.
     let first = c.in-Ok.ensures in
     let e = c.in-Err-open_stream.ensures in
-    no_file Random c.in-Err-open_stream.refusal _ _ _ (run_named c.args.bundle_name.now record_name steps _)
-    first.bundle.0 e.stream c.requires.reading (λ name. e.files name ∙ first.files name) (e.writing ∙ first.writing)
+    no_stream _ c.in-Err-open_stream.refusal _ _ _ (run_named c.args.bundle_name.now record_name steps _)
+    (stream_is_next c.args.bundle_name.now record_name steps _ _ (c.in-Ok.bundle, first.bundle.1))
+    first.bundle.0 e.stream e.unread c.requires.reading (λ name. e.files name ∙ first.files name) (e.writing ∙ first.writing)
 
 pub returns-in-Ok-open-clause-prepares : goal.returns-in-Ok-open-clause-prepares
 returns-in-Ok-open-clause-prepares g c = λ record_name steps few.

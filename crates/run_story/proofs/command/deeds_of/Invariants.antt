@@ -1,14 +1,11 @@
 use Rattle.std.proofs.Common.{◌≡◌, ◌<◌, ◌^◌, ◌-◌}
 use Rattle.io_traits.specs.Told.{SameFiles}
 use Rattle.record_reader.specs.Reading.{reader_offset}
-use Rattle.run_story.proofs.Ends.{StandsSoFar}
 use Rattle.run_story.proofs.command.deeds_of.Given as goal
 
--- the items so far were read
+-- nothing failed so far
 abbrev pub invariant-loop-tag : goal.invariant-loop-tag
 invariant-loop-tag g l = record {
-  so_far : StandsSoFar (g.S.Shelf.held l.fn.shelf l.name) l.reader;
-  named : l.reader.name.now ≡ l.name;
   files : SameFiles (g.S.Shelf.held l.fn.shelf) (g.S.Shelf.held l.shelf);
   reading : g.S.Shelf.reading_faults l.shelf ≡ g.S.Shelf.reading_faults l.fn.shelf;
   writing : g.S.Shelf.writing_faults l.shelf ≡ g.S.Shelf.writing_faults l.fn.shelf;

@@ -1,12 +1,20 @@
-use Rattle.std.proofs.Common.{◌∙◌, [], refl, ap, arith}
+use Rattle.std.proofs.Common.{◌∙◌, [], ◌∷◌, ◌++◌, refl, ap, sym, subst, arith}
+use Rattle.cloak_model.specs.declared.item.Item.{Item}
+use Rattle.cloak_model.specs.Record.{IsItem}
 use Rattle.record_reader.specs.Kept.{kept_item}
+use Rattle.record_text.specs.Reading.{StandsAt}
 use Rattle.record_text.proofs.Shown.{at_front}
-use Rattle.run_story.proofs.Ends.{lacks_since, reading_ends, stands_on}
+use Rattle.run_story.proofs.Ends.{ends_after}
+use Rattle.run_story.proofs.SoFar.{item_untold, stands_on}
 use Rattle.run_story.proofs.command.tell.Goals as goal
 
 pub loop-tag-init : goal.loop-tag-init
 loop-tag-init g c = record {
-  so_far = record { items = []; stands = at_front _ c.open-reader.result c.open-reader.ensures.front };
+  so_far = record {
+    items = [];
+    stands = at_front _ c.open-reader.result c.open-reader.ensures.front;
+    tells = c.in-Ok.ensures;
+  };
   named = c.open-reader.ensures.name;
   files = λ name. refl;
   reading = refl;
@@ -21,11 +29,17 @@ loop-tag-preserved g c =
     let same = ap (λ n. g.S.Shelf.held c.loop-tag.shelf n) was.named ∙ was.files c.args.name.now in
     let found = c.in-Ok-next_item.ensures in
     let told = c.in-Ok-tell_item.ensures in
+    let stands = subst
+    (λ (i : Item). StandsAt (g.S.Shelf.held c.args.shelf.now c.args.name.now) c.next_item.new.reader
+    (was.so_far.items ++ i ∷ [])) (sym c.item-item.ensures)
+    (stands_on _ _ c.loop-tag.reader c.next_item.new.reader (kept_item c.in-Ok-next_item.tag c.next_item.new.kept)
+    was.so_far.items same found.next was.so_far.stands) in
+    let tells = told.tells was.so_far.items (subst IsItem (sym c.item-item.ensures) found.item) was.so_far.tells in
     record {
-      so_far = stands_on _ _ c.loop-tag.reader c.next_item.new.reader (kept_item c.in-Ok-next_item.tag c.next_item.new.kept) same found.next was.so_far;
+      so_far = record { items = was.so_far.items ++ c.item-item.result.now ∷ []; stands = stands; tells = tells.0 };
       named = ap (λ n. n.now) found.same ∙ was.named;
       files = λ name. told.files name ∙ (found.files name ∙ was.files name);
-      reading = told.tells ∙ (found.counts ∙ was.reading);
+      reading = tells.1 ∙ (found.counts ∙ was.reading);
       writing = told.writing ∙ (found.writing ∙ was.writing);
       settled = told.settled;
       low = found.within;
@@ -36,12 +50,21 @@ returns-in-Err-clause-tells g c =
     let was = c.loop-tag.invariant in
     let same = ap (λ n. g.S.Shelf.held c.loop-tag.shelf n) was.named ∙ was.files c.args.name.now in
     let found = c.in-Err.ensures in
-    c.ended.ensures _ _ _ (reading_ends _ _ c.loop-tag.reader c.next_item.new.reader c.in-Err.ending _ _ _ same was.reading
-    found.next found.counts was.so_far)
+    c.told_whole.ensures c.args.bundle.now _ was.so_far.items _ _ was.so_far.tells
+    (ends_after _ _ c.loop-tag.reader c.next_item.new.reader c.in-Err.ended _ _ _ was.so_far.items same was.reading
+    found.next found.counts was.so_far.stands)
 
 pub returns-in-Err-tell_item-clause-tells : goal.returns-in-Err-tell_item-clause-tells
 returns-in-Err-tell_item-clause-tells g c =
     let was = c.loop-tag.invariant in
+    let same = ap (λ n. g.S.Shelf.held c.loop-tag.shelf n) was.named ∙ was.files c.args.name.now in
     let found = c.in-Ok-next_item.ensures in
-    lacks_since _ _ _ _ _ c.in-Err-tell_item.untold (found.files c.args.name.now ∙ was.files c.args.name.now)
-    (found.counts ∙ was.reading) c.in-Err-tell_item.ensures.tells
+    let told = c.in-Err-tell_item.ensures in
+    let stands = subst
+    (λ (i : Item). StandsAt (g.S.Shelf.held c.args.shelf.now c.args.name.now) c.next_item.new.reader
+    (was.so_far.items ++ i ∷ [])) (sym c.item-item.ensures)
+    (stands_on _ _ c.loop-tag.reader c.next_item.new.reader (kept_item c.in-Ok-next_item.tag c.next_item.new.kept)
+    was.so_far.items same found.next was.so_far.stands) in
+    item_untold c.args.bundle.now _ c.next_item.new.reader was.so_far.items c.item-item.result.now _ _ _ c.tell_item.new.story
+    c.in-Err-tell_item.untold stands (found.counts ∙ was.reading)
+    (told.tells was.so_far.items (subst IsItem (sym c.item-item.ensures) found.item) was.so_far.tells)

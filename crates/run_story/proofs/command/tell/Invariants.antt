@@ -1,13 +1,13 @@
 use Rattle.std.proofs.Common.{◌≡◌, ◌<◌, ◌^◌, ◌-◌}
 use Rattle.io_traits.specs.Told.{SameFiles}
 use Rattle.record_reader.specs.Reading.{reader_offset}
-use Rattle.run_story.proofs.Ends.{StandsSoFar}
+use Rattle.run_story.proofs.SoFar.{ToldSoFar}
 use Rattle.run_story.proofs.command.tell.Given as goal
 
--- the items so far were read
+-- the items so far were read and told
 abbrev pub invariant-loop-tag : goal.invariant-loop-tag
 invariant-loop-tag g l = record {
-  so_far : StandsSoFar (g.S.Shelf.held l.fn.shelf l.name) l.reader;
+  so_far : ToldSoFar l.bundle (g.S.Shelf.held l.fn.shelf l.name) l.reader l.story;
   named : l.reader.name.now ≡ l.name;
   files : SameFiles (g.S.Shelf.held l.fn.shelf) (g.S.Shelf.held l.shelf);
   reading : g.S.Shelf.reading_faults l.shelf ≡ g.S.Shelf.reading_faults l.fn.shelf;

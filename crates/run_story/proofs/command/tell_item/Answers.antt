@@ -1,6 +1,8 @@
 use Rattle.std.proofs.Common.{refl}
-use Rattle.run_story.proofs.Ends.{lacks_item}
+use Rattle.run_story.proofs.Ends.{lacks_next, page_of_item}
 use Rattle.run_story.proofs.command.tell_item.Goals as goal
 
 pub returns-in-Err-clause-tells : goal.returns-in-Err-clause-tells
-returns-in-Err-clause-tells g c = lacks_item _ _ _ c.in-Err.untold refl c.in-Err.ensures
+returns-in-Err-clause-tells g c = λ items is tells.
+    lacks_next c.args.bundle.now items c.args.item.now _ _ c.take.new.self c.in-Err.untold refl
+    (c.in-Err.ensures c.args.bundle.now items is tells)

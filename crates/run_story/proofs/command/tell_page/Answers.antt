@@ -1,5 +1,7 @@
-use Rattle.run_story.proofs.Ends.{tells_more}
+use Rattle.run_story.proofs.Ends.{page_told}
 use Rattle.run_story.proofs.command.tell_page.Goals as goal
 
-pub returns-in-Ok-deeds_of-clause-tells : goal.returns-in-Ok-deeds_of-clause-tells
-returns-in-Ok-deeds_of-clause-tells g c = tells_more _ _ _ c.tell_page.result c.in-Ok-deeds_of.ensures.tells c.tell_page.ensures
+pub returns-clause-tells : goal.returns-clause-tells
+returns-clause-tells g c = λ b items tells.
+    page_told b items c.args.presented.now c.args.story.now c.tell.new.self _ _ _ c.tell.result tells c.tell.ensures.same
+    c.tell.ensures.told c.tell.ensures.text c.in-Ok-deeds_of.ensures.tells

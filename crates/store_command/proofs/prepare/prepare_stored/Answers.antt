@@ -1,11 +1,11 @@
-use Rattle.std.proofs.Common.{◌≡◌, ◌∙◌, ◌+◌, ℕ, List, Option, length, refl, sym, ap, subst, arith}
+use Rattle.std.proofs.Common.{◌≡◌, ◌∙◌, ◌+◌, ℕ, List, Option, length, refl, sym, ap, subst, inr, arith}
 use Rattle.cloak_base.specs.Random.{Random}
 use Rattle.command_words.specs.Request.{asked_of_store, names_of, randomness_of}
 use Rattle.command_parts.specs.declared.refusal.Refusal.{Refusal}
 use Rattle.command_parts.specs.NoRun.{NoRun}
 use Rattle.command_parts.specs.Outside.{files}
-use Rattle.command_parts.specs.Storing.{IsSecret}
-use Rattle.command_parts.proofs.Refused.{no_bundle, no_file}
+use Rattle.command_parts.specs.Storing.{IsOld, IsSecret}
+use Rattle.command_parts.proofs.Refused.{is_some_bundle, no_bundle, no_stream}
 use Rattle.store_command.specs.Preparing.{keys_of}
 use Rattle.store_command.proofs.Lengths.{place_small, place_within}
 use Rattle.store_command.proofs.Refused.{asks_stored, no_old, no_secret, not_opened}
@@ -14,13 +14,13 @@ use Rattle.store_command.proofs.prepare.prepare_stored.Goals as goal
 pub returns-in-Err-clause-prepares : goal.returns-in-Err-clause-prepares
 returns-in-Err-clause-prepares g c =
     let e = c.in-Err.ensures in
-    no_bundle c.in-Err.refusal _ _ refl e.bundle c.requires.reading e.files e.writing
+    no_bundle c.in-Err.refusal _ _ refl e.bundle e.unread c.requires.reading e.files e.writing
 
 pub returns-in-Err-read_secret-clause-prepares : goal.returns-in-Err-read_secret-clause-prepares
 returns-in-Err-read_secret-clause-prepares g c =
     let b = c.in-Ok.ensures in
     let e = c.in-Err-read_secret.ensures in
-    no_secret _ _ _ _ c.in-Err-read_secret.refusal _ _ _ _ b.bundle.1.0 _ _ b.bundle.1.1 (b.files _) b.bundle.0 e.secret c.requires.reading
+    no_secret _ _ _ _ c.in-Err-read_secret.refusal _ _ _ _ b.bundle.1.0 _ _ b.bundle.1.1 (b.files _) b.bundle.0 e.secret e.unread c.requires.reading
     (λ name. e.files name ∙ b.files name) (e.writing ∙ b.writing)
 
 pub returns-in-Err-read_old-clause-prepares : goal.returns-in-Err-read_old-clause-prepares
@@ -32,7 +32,7 @@ returns-in-Err-read_old-clause-prepares g c =
     no_old _ _ _ _ c.in-Err-read_old.refusal _ _ _ _ b.bundle.1.0 _ _ (keys_of c.in-Ok-read_secret.secret)
     c.read_old.new.table b.bundle.1.1
     (subst (λ (t : Option (List ℕ)). IsSecret t (keys_of c.in-Ok-read_secret.secret)) (b.files _) s.secret.1)
-    (s.files name ∙ b.files name) (s.secret.0 ∙ b.bundle.0) e.old c.requires.reading
+    (s.files name ∙ b.files name) (s.secret.0 ∙ b.bundle.0) e.old e.not_first e.unread c.requires.reading
     (λ name. e.files name ∙ (s.files name ∙ b.files name)) (e.writing ∙ (s.writing ∙ b.writing))
 
 pub returns-in-Err-open_stream-clause-prepares : goal.returns-in-Err-open_stream-clause-prepares
@@ -41,8 +41,15 @@ returns-in-Err-open_stream-clause-prepares g c =
     let s = c.in-Ok-read_secret.ensures in
     let o = c.in_default-read_old.ensures in
     let e = c.in-Err-open_stream.ensures in
-    no_file Random c.in-Err-open_stream.refusal _ _ _ refl (o.old.0 ∙ (s.secret.0 ∙ b.bundle.0)) e.stream
-    c.requires.reading (λ name. e.files name ∙ (o.files name ∙ (s.files name ∙ b.files name)))
+    let has = subst (λ (t : Option (List ℕ)). IsSecret t (keys_of c.in-Ok-read_secret.secret)) (b.files _) s.secret.1 in
+    let old = subst (λ (t : Option (List ℕ)). IsOld t c.in-Ok-read_secret.secret.mac c.args.store.now.counter c.read_old.new.table)
+    (s.files _ ∙ b.files _) o.old.1 in
+    no_stream _ c.in-Err-open_stream.refusal _ _ _ refl
+    (λ file named. inr (
+      is_some_bundle _ _ _ _ b.bundle.1.1,
+      inr (keys_of c.in-Ok-read_secret.secret, has, inr (c.read_old.new.table, old, named)),
+    ))
+    (o.old.0 ∙ (s.secret.0 ∙ b.bundle.0)) e.stream e.unread c.requires.reading (λ name. e.files name ∙ (o.files name ∙ (s.files name ∙ b.files name)))
     (e.writing ∙ (o.writing ∙ (s.writing ∙ b.writing)))
 
 pub overflow_add-disk_end : goal.overflow_add-disk_end

@@ -15,6 +15,9 @@ returns-in-Show g c = rw c.in-Show.is c.show.ensures
 pub returns-in-Trace : goal.returns-in-Trace
 returns-in-Trace g c = rw c.in-Trace.is c.trace.ensures
 
+pub returns-in-Draw : goal.returns-in-Draw
+returns-in-Draw g c = rw c.in-Draw.is c.draw.ensures
+
 pub returns-in-Explain : goal.returns-in-Explain
 returns-in-Explain g c =
     rw c.in-Explain.is (record {

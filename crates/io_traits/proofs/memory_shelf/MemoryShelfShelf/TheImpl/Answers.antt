@@ -15,6 +15,7 @@ begin-tells c =
       last = search rules;
       writing = search rules;
       reading = search rules;
+      unread = search rules;
     }
 
 pub append-tells : goal.append-tells
@@ -31,6 +32,7 @@ append-tells c =
       last = search rules;
       writing = search rules;
       reading = search rules;
+      unread = search rules;
     }
 
 pub append_last-tells : goal.append_last-tells
@@ -47,4 +49,5 @@ append_last-tells c =
       last = search rules;
       writing = search rules;
       reading = search rules;
+      unread = search rules;
     }

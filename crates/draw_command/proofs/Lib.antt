@@ -1,0 +1,2 @@
+pub mod ReadingOn
+pub mod Answered
