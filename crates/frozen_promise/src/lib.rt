@@ -4,7 +4,10 @@
 //! can go on (`joint_machine`).
 //!
 //! No body changes a law, so there is no wrong body to refuse here; `frozen_commands` and the crates below it have
-//! edits.
+//! edits. These changed definitions were tried on a copy, and with none of them did the proof of its law go through.
+//! Of one run: the report of `thaw` counts steps from where it went on; the state may change before `thaw` reads it;
+//! so may the stream. Of saved states: only the steps of `thaw` are limited; a rest that is made has the status 0; a
+//! file that cannot be read is no reason for a refusal.
 #![tactic(auto)]
 
 ghost use Rattle.frozen_promise.specs.Accepted.{SavedStatesAreAccepted};
