@@ -8,21 +8,20 @@ use Rattle.cloak_model.specs.AskPages.{ask_clear}
 use Rattle.std.specs.List.{list_any}
 use Rattle.cloak_model.specs.Contexts.{Context, end_at}
 use Rattle.cloak_model.specs.Resources.{Resources}
-use Rattle.cloak_model.specs.Fork.{Fork, End, marked, fork_fits, fork_cleared, fork_if, fork, is_of_space, end_cleared, end_if, end_context}
+use Rattle.cloak_model.specs.Fork.{Fork, End, marked, fork_fits, fork, is_of_space, end_context}
+use Rattle.cloak_model.proofs.ForkParts.{fork_cleared, fork_if, end_cleared, end_if}
 use Rattle.cloak_model.proofs.Later.{IsLater, IsLater-refl}
 use Rattle.cloak_model.proofs.Following.{then_follows}
 use Rattle.cloaked_fork.specs.Left.{lowest}
 use Rattle.cloaked_fork.proofs.Asks.{later_copies, later_forgets}
 
 later_fork_cleared : (domain : ℕ) (c : Context) (slot new : ℕ) (r : Resources) (contexts : List (Option Context)) (a : Answer) (w : World) → IsLater w (fork_cleared domain c slot new r contexts a w).world
-unfolding fork_cleared
 later_fork_cleared domain c slot new r contexts told.Ok w = later_copies domain _ w
 later_fork_cleared domain c slot new r contexts (told.Absent cause) w = IsLater-refl w
 later_fork_cleared domain c slot new r contexts (told.Word value) w = IsLater-refl w
 later_fork_cleared domain c slot new r contexts told.Stopped w = IsLater-refl w
 
 later_end_cleared : (domain slot space : ℕ) (r : Resources) (contexts : List (Option Context)) (a : Answer) (w : World) → IsLater w (end_cleared domain slot space r contexts a w).world
-unfolding end_cleared
 later_end_cleared domain slot space r contexts told.Ok w = later_forgets domain _ w
 later_end_cleared domain slot space r contexts (told.Absent cause) w = IsLater-refl w
 later_end_cleared domain slot space r contexts (told.Word value) w = IsLater-refl w
@@ -32,7 +31,7 @@ module _ {S : Type 0} (stands_for : S → S → World → Type 0) (old mid new :
   -- a fork for which there is room
   pub fork_follows : (c : Context) (r : Resources) (contexts : List (Option Context)) (settled : Answer) (made : Fork) → fork_fits c.space r contexts ≡ Ok tt →
       Follows stands_for old mid settled (ask_clear domain (marked c.space r)) → Follows stands_for mid new made (fork_cleared domain c (lowest contexts) (lowest r.spaces) r contexts settled) → Follows stands_for old new made (fork domain c r contexts)
-  unfolding fork fork_if
+  unfolding fork
   fork_follows c r contexts settled made fits clears goes_on =
       subst (λ f. Follows stands_for old new made (fork_if f domain c r contexts)) (sym fits)
       (then_follows stands_for old mid new settled made (ask_clear domain (marked c.space r)) (fork_cleared domain c (lowest contexts) (lowest r.spaces) r contexts) (λ a w. later_fork_cleared _ _ _ _ _ _ a w) clears goes_on)
@@ -40,7 +39,7 @@ module _ {S : Type 0} (stands_for : S → S → World → Type 0) (old mid new :
   -- the end of a space's last context
   pub end_follows : (slot space : ℕ) (r : Resources) (contexts : List (Option Context)) (settled : Answer) (made : End) → list_any (is_of_space space) (end_at slot contexts) ≡ false →
       Follows stands_for old mid settled (ask_clear domain (marked space r)) → Follows stands_for mid new made (end_cleared domain slot space r contexts settled) → Follows stands_for old new made (end_context domain slot space r contexts)
-  unfolding end_context end_if
+  unfolding end_context
   end_follows slot space r contexts settled made none clears goes_on =
       subst (λ b. Follows stands_for old new made (end_if b domain slot space r contexts)) (sym none)
       (then_follows stands_for old mid new settled made (ask_clear domain (marked space r)) (end_cleared domain slot space r contexts) (λ a w. later_end_cleared _ _ _ _ _ a w) clears goes_on)
