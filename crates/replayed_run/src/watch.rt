@@ -1,6 +1,6 @@
 //! A run as it is made again from the items of its record: the kernel, the programs, what is noted of them, and which page each
 //! frame shows.
-ghost use Rattle.std.specs.Prelude.{◌≡◌, ◌/◌, ◌*◌, ◌++◌, ◌&&◌, [], ◌∷◌, List, ℕ, IfOk, false, not};
+ghost use Rattle.std.specs.Prelude.{◌≡◌, ◌/◌, ◌*◌, ◌++◌, ◌&&◌, [], ◌∷◌, List, ℕ, IfOk, false, not, option_copied, slice_get};
 ghost use Rattle.cloak_model.specs.Bundle.{IsInGrammar};
 ghost use Rattle.cloak_model.specs.KernelAlone.{kernel_alone, kernel_hart};
 ghost use Rattle.cloak_model.specs.Record.{IsItem};
@@ -10,6 +10,7 @@ ghost use Rattle.alone_views.specs.KernelPlaces.{stood_place};
 ghost use Rattle.replayed_run.specs.Alone as alone;
 ghost use Rattle.replayed_run.specs.Alone.{standing_told};
 ghost use Rattle.replayed_run.specs.ContextsTold.{table_of, told_of};
+ghost use Rattle.replayed_run.specs.Leading.{frame_for};
 ghost use Rattle.replayed_run.specs.Machines.{StandAlone};
 ghost use Rattle.replayed_run.specs.Noted as noted;
 ghost use Rattle.replayed_run.specs.Noted.{notes_after};
@@ -87,7 +88,10 @@ impl Watch {
     }
 
     /// The hart of a number.
-    pub fn hart_at(&self, number: usize) -> Option<&Hart> {
+    pub fn hart_at(&self, number: usize) -> Option<&Hart>
+        ensures { (b : Bundle) (items : List Item) → Watches b items self.now →
+            option_copied result ≡ slice_get (kernel_alone b.kernel items).kernel.harts number }
+    {
         self.machines.kernel.harts().get(number)
     }
 
@@ -102,12 +106,18 @@ impl Watch {
     }
 
     /// The frames as the kernel sees them.
-    pub fn frames(&self) -> &[[u8; 4096]] {
+    pub fn frames(&self) -> &[[u8; 4096]]
+        ensures { (b : Bundle) (items : List Item) → Watches b items self.now →
+            result.now ≡ (kernel_alone b.kernel items).kernel.ram }
+    {
         self.machines.kernel.frames()
     }
 
     /// The frame that an address of a program leads to.
-    pub fn frame_for(&self, tables: Tables, address: u32, kind: Kind) -> Option<usize> {
+    pub fn frame_for(&self, tables: Tables, address: u32, kind: Kind) -> Option<usize>
+        ensures { (b : Bundle) (items : List Item) → Watches b items self.now →
+            result ≡ frame_for (kernel_alone b.kernel items).kernel.ram tables address kind }
+    {
         frame_at(self.frames(), tables, Mode::U, address, kind)
     }
 

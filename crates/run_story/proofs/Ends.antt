@@ -11,8 +11,9 @@ use Rattle.read_back.specs.declared.ending.Ending.TheVariants as ending
 use Rattle.record_text.specs.Reading.{Finds, StandsAt}
 use Rattle.record_text.proofs.Shown.{finds}
 use Rattle.run_story.specs.Answering.{EndsAfter, LacksStory, TellsItem, TellsPage, TellsStory}
-use Rattle.run_story.specs.Passages.{page_text}
+use Rattle.run_story.specs.Passages.{page_lines, page_text}
 use Rattle.run_story.specs.Telling.{KeepsStory, LacksNext, Tells, TellsBut, TellsOn}
+use Rattle.run_story.specs.declared.deeds.Deeds.{Deeds}
 use Rattle.run_story.specs.declared.presented.Presented.{Presented}
 use Rattle.run_story.specs.declared.story.Story.{Story}
 use Rattle.run_story.specs.declared.untold.Untold.{Untold}
@@ -87,14 +88,15 @@ page_of_item b items i before now story (Err (untold.Ended (ending.Fault fault))
 page_of_item b items i before now story (Err (untold.Ended ending.Unread)) tells = tells
 
 -- the page was told that was owed
-pub page_told : (b : Bundle) (items : List Item) (p : Presented) (old new : Story) (more : List ℕ) (before now : ℕ)
+pub page_told : (b : Bundle) (items : List Item) (p : Presented) (old new : Story) (d : Deeds) (before now : ℕ)
     (r : Result (Unit {0}) Untold) → TellsBut b items p old → KeepsStory old new → TellsOn r →
-    IfOk r (λ done. string_bytes new.text ≡ string_bytes old.text ++ page_text p.step p.hart p.ctx more) →
-    now ≡ before → TellsPage b items before now new r
-page_told b items p old new more before now (Ok done) tells keeps on text counts =
-    (tells_page b items p old new more tells keeps text, counts)
-page_told b items p old new more before now (Err untold.NoMemory) tells keeps on text counts = tt
-page_told b items p old new more before now (Err (untold.Ended ended)) tells keeps on text counts = absurd on
+    IfOk r (λ done. string_bytes new.text ≡ string_bytes old.text
+    ++ page_text p.step p.hart p.ctx (page_lines p d.left_out d.events.items d.origin)) → now ≡ before →
+    TellsPage b items before now new r
+page_told b items p old new d before now (Ok done) tells keeps on text counts =
+    (tells_page b items p old new d.left_out d.events.items d.origin tells keeps text, counts)
+page_told b items p old new d before now (Err untold.NoMemory) tells keeps on text counts = tt
+page_told b items p old new d before now (Err (untold.Ended ended)) tells keeps on text counts = absurd on
 
 -- a story was told since the bundle was read
 pub tells_since : (b : Bundle) (told now : Option (List ℕ)) (m n k : ℕ) (r : Result Story Untold) → now ≡ told → n ≡ m →

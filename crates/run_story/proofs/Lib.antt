@@ -1,5 +1,4 @@
-pub mod Digits
-pub mod Joined
+pub mod DeedsMore
 pub mod ToldMore
 pub mod StoryMore
 pub mod Ends

@@ -1,23 +1,21 @@
 -- A story takes an item more.
-use Rattle.std.proofs.Common.{◌≡◌, ℕ, Bool, true, false, if◌then◌else◌, List, [], ◌∷◌, ◌++◌, Option, Some, None, is_some, Result, Ok, Err, refl, sym, ap, subst, ◌∙◌, inl, inr, string_bytes, eq-eqb}
-use Rattle.std.proofs.lemmas.Bool.{false≢true}
-use Rattle.cloak_model.specs.Contexts.{domain_of}
+use Rattle.std.proofs.Common.{◌≡◌, ℕ, List, [], ◌∷◌, ◌++◌, Option, Some, None, Result, Ok, Err, refl, sym, ap, subst, ◌∙◌, inl, inr, string_bytes}
 use Rattle.cloak_model.specs.declared.image.Bundle.{Bundle}
 use Rattle.cloak_model.specs.declared.item.Item.{Item}
 use Rattle.cloak_model.specs.KernelAlone.{kernel_alone}
 use Rattle.read_back.specs.declared.ending.Ending.TheVariants as ending
-use Rattle.replayed_run.specs.Alone.{IsUnfitAlone, has_program}
+use Rattle.replayed_run.specs.Alone.{IsUnfitAlone}
 use Rattle.replayed_run.specs.Noted.{noted_in}
 use Rattle.replayed_run.specs.Watching.{Watches, notes_of}
 use Rattle.replayed_run.specs.declared.notes.Asking.{Asking}
 use Rattle.replayed_run.specs.declared.notes.Notes.{Notes}
 use Rattle.replayed_run.specs.declared.watch.Watch.{Watch}
-use Rattle.run_story.specs.Passages.{AreToldBy, IsToldBy, page_text}
+use Rattle.run_story.specs.Passages.{AreToldBy, IsToldBy, page_lines, page_text}
 use Rattle.run_story.specs.Telling.{AddsOutcome, GrewBy, GrowsBy, KeepsStory, Knows, LacksNext, NotesItem, OwesPage, StoryTakes, Tells, TellsBut, due_of}
-use Rattle.run_story.specs.Told.{ByPage, ByResume, Due, Fits, IsUnfitNext, OfNone, Outcome, Uncaused, Violated, Violation, due_after, due_met, ended_after, none_outcome, outcome_of, refused_after, resume_outcome, told_in, uncaused_after, violations_after}
-use Rattle.run_story.specs.declared.presented.AskedResume.{AskedResume}
+use Rattle.run_story.specs.Told.{ByPage, Due, Fits, IsUnfitNext, Outcome, Uncaused, Violated, Violation, due_after, due_met, ended_after, outcome_of, refused_after, told_in, uncaused_after, violations_after}
+use Rattle.replayed_run.specs.declared.pages.Showing.{Showing}
+use Rattle.run_story.specs.declared.deeds.PageEvent.{PageEvent}
 use Rattle.run_story.specs.declared.presented.Presented.{Presented}
-use Rattle.run_story.specs.declared.presented.Refused.{Refused}
 use Rattle.run_story.specs.declared.story.Story.{Story}
 use Rattle.run_story.specs.declared.untold.Untold.{Untold}
 use Rattle.run_story.specs.declared.untold.Untold.TheVariants as untold
@@ -29,7 +27,7 @@ tells_fit b items s tells = record { alone = tells.knows.watches.machines.fits; 
 
 -- The watch took an item, before which the target was set to what was met with it.
 pub record Met (b : Bundle) (items : List Item) (i : Item) (step : ℕ) (old mid : Story) : Type 0 where
-  pub at : step ≡ (notes_of old.watch).step
+  pub step : step ≡ (notes_of old.watch).step
   pub due : due_of mid.target ≡ due_met b items (notes_of old.watch) (due_of old.target) i
   pub ended : mid.ended ≡ old.ended
   pub refused : mid.refused ≡ old.refused
@@ -41,7 +39,7 @@ noted_outcome b i step mid = outcome_of b step mid.ended (due_of mid.target) (no
 
 step_is : (b : Bundle) (items : List Item) (i : Item) (step : ℕ) (old mid : Story) → Tells b items old →
     Met b items i step old mid → step ≡ (noted_in b items).notes.step
-step_is b items i step old mid tells met = met.at ∙ ap (λ (n : Notes). n.step) tells.knows.watches.notes
+step_is b items i step old mid tells met = met.step ∙ ap (λ (n : Notes). n.step) tells.knows.watches.notes
 
 due_is : (b : Bundle) (items : List Item) (i : Item) (step : ℕ) (old mid : Story) → Tells b items old →
     Met b items i step old mid → due_of mid.target ≡ due_met b items (noted_in b items).notes (told_in b items).due i
@@ -157,10 +155,11 @@ pub lacks_unfit : (b : Bundle) (items : List Item) (i : Item) (s : Story) (step 
 lacks_unfit b items i s step tells unfit = record { before = tells_fit b items s tells; unfit = inl unfit }
 
 -- a page was told that was owed
-pub tells_page : (b : Bundle) (items : List Item) (p : Presented) (old new : Story) (more : List ℕ) →
-    TellsBut b items p old → KeepsStory old new →
-    string_bytes new.text ≡ string_bytes old.text ++ page_text p.step p.hart p.ctx more → Tells b items new
-tells_page b items p old new more tells keeps text = record {
+pub tells_page : (b : Bundle) (items : List Item) (p : Presented) (old new : Story) (left_out : ℕ)
+    (events : List PageEvent) (origin : Option Showing) → TellsBut b items p old → KeepsStory old new →
+    string_bytes new.text ≡ string_bytes old.text ++ page_text p.step p.hart p.ctx (page_lines p left_out events origin) →
+    Tells b items new
+tells_page b items p old new left_out events origin tells keeps text = record {
   knows = record {
     watches = subst (λ (w : Watch). Watches b items w) (sym keeps.watch) tells.knows.watches;
     due = ap due_of keeps.target ∙ tells.knows.due;
@@ -170,47 +169,18 @@ tells_page b items p old new more tells keeps text = record {
   };
   text = subst (λ (vs : List Violation). AreToldBy vs (string_bytes new.text)) (sym tells.violations)
       (told_grows (Violated (ByPage p.step p.hart p.ctx)) tells.before (string_bytes old.text) (string_bytes new.text)
-      tells.text (page_text p.step p.hart p.ctx more, text, inr (more, refl)));
+      tells.text (
+        page_text p.step p.hart p.ctx (page_lines p left_out events origin),
+        text,
+        inr (record {
+          presented = p;
+          step_is = refl;
+          hart_is = refl;
+          ctx_is = refl;
+          left_out = left_out;
+          events = events;
+          origin = origin;
+          lines = refl;
+        }),
+      ));
 }
-
--- What one call adds.
-
--- text and count of refusals stayed before
-pub adds_from : (o : Outcome) (step : ℕ) (old mid new : Story) (r : Result (Option Presented) Untold) →
-    mid.text ≡ old.text → mid.refused ≡ old.refused → AddsOutcome o step mid new r → AddsOutcome o step old new r
-adds_from o step old mid new (Ok None) text refused adds = record {
-  text = subst (λ t. GrowsBy o (string_bytes t) (string_bytes new.text)) text adds.text;
-  refused = adds.refused ∙ ap (λ (n : ℕ). refused_after n o) refused;
-}
-adds_from o step old mid new (Ok (Some p)) text refused adds = record {
-  page = adds.page;
-  text = adds.text ∙ text;
-  refused = adds.refused ∙ refused;
-}
-adds_from o step old mid new (Err untold.NoMemory) text refused adds = tt
-adds_from o step old mid new (Err (untold.Ended (ending.Unfit at))) text refused adds = adds
-adds_from o step old mid new (Err (untold.Ended ending.Whole)) text refused adds = absurd adds
-adds_from o step old mid new (Err (untold.Ended (ending.Fault fault))) text refused adds = absurd adds
-adds_from o step old mid new (Err (untold.Ended ending.Unread)) text refused adds = absurd adds
-
--- the program of the context ended before
-pub none_ended : (b : Bundle) (step : ℕ) (asked : Asking) (e r : Option ℕ) → r ≡ e → is_some r ≡ true →
-    none_outcome b step asked e ≡ Violated (OfNone step asked r)
-none_ended b step asked (Some at) r is some = ap (λ (x : Option ℕ). Violated (OfNone step asked x)) (sym is)
-none_ended b step asked None r is some =
-    absurd (false≢true (subst (λ (x : Option ℕ). is_some {T = ℕ} x ≡ true) is some))
-
--- there is no such program
-pub none_past : (b : Bundle) (step : ℕ) (asked : Asking) (e r : Option ℕ) → r ≡ e →
-    has_program b (domain_of asked.ctx) ≡ false → none_outcome b step asked e ≡ Violated (OfNone step asked r)
-none_past b step asked (Some at) r is past = ap (λ (x : Option ℕ). Violated (OfNone step asked x)) (sym is)
-none_past b step asked None r is past =
-    ap (λ (t : Bool). if t then Uncaused else Violated (OfNone step asked None)) past
-    ∙ ap (λ (x : Option ℕ). Violated (OfNone step asked x)) (sym is)
-
--- the context was asked for that a program ended by
-pub resume_is : (asking : AskedResume) (why : Refused) (asked : Option Asking) (a : Asking) → asked ≡ Some a →
-    asking.ctx ≡ a.ctx → resume_outcome asking why asked ≡ Violated (ByResume asking why)
-resume_is asking why asked a is same =
-    ap (λ (o : Option Asking). resume_outcome asking why o) is
-    ∙ ap (λ (t : Bool). if t then Violated (ByResume asking why) else Uncaused) (eq-eqb asking.ctx a.ctx same)

@@ -1,3 +1,4 @@
+pub mod Deeds
 pub mod Told
 pub mod Passages
 pub mod Telling

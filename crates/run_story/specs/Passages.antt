@@ -1,15 +1,31 @@
 -- The sentences of a story.
-use Rattle.std.specs.Prelude.{ℕ, ◌≡◌, ◌⊎◌, ◌/◌, ◌==◌, ◌++◌, List, [], ◌∷◌, codes, decimal, Option, Some, None, string_bytes, if◌then◌else◌}
-use Rattle.cloak_model.specs.Report.{hexadecimal}
+use Rattle.std.specs.Prelude.{ℕ, ◌≡◌, ◌⊎◌, ◌-◌, ◌/◌, ◌^◌, ◌==◌, ◌++◌, false, List, [], ◌∷◌, codes, decimal, Option, Some, None, is_some, string_bytes, if◌then◌else◌}
+use Rattle.std.specs.Fmt.{padded_integral, format_spec, digits}
+use Rattle.std.specs.List.{flat_map}
+use Rattle.hex.specs.Hex.{encode_lower}
+use Rattle.cloak_base.specs.declared.names.Kind.{Kind}
+use Rattle.cloak_base.specs.declared.names.Kind.TheVariants as kind
+use Rattle.cloak_base.specs.declared.names.PageId.{PageId}
 use Rattle.replayed_run.specs.declared.contexts.FirstTable.{FirstTable}
 use Rattle.replayed_run.specs.declared.contexts.ToldContext.{ToldContext}
+use Rattle.replayed_run.specs.declared.frames.DiskCall.{DiskCall}
 use Rattle.replayed_run.specs.declared.notes.Asking.{Asking}
+use Rattle.replayed_run.specs.declared.pages.Showing.{Showing}
 use Rattle.run_story.specs.Told.{ByPage, ByResume, OfNone, Violation}
+use Rattle.run_story.specs.declared.deeds.FrameChange.{FrameChange}
+use Rattle.run_story.specs.declared.deeds.PageDeed.{PageDeed}
+use Rattle.run_story.specs.declared.deeds.PageDeed.TheVariants as deed
+use Rattle.run_story.specs.declared.deeds.PageEvent.{PageEvent}
 use Rattle.run_story.specs.declared.presented.AskedResume.{AskedResume}
+use Rattle.run_story.specs.declared.presented.Presented.{Presented}
 use Rattle.run_story.specs.declared.presented.Refused.{Refused}
 use Rattle.run_story.specs.declared.presented.Refused.TheVariants as refused
 use Rattle.run_story.specs.declared.telling.Passage.{Passage}
 use Rattle.run_story.specs.declared.telling.Passage.TheVariants as passage
+
+-- a word in eight hexadecimal digits
+abbrev pub hex_word : ℕ → List ℕ
+hex_word n = padded_integral (format_spec 32 0 4 8 (2 ^ 64 - 1)) false [] (digits 16 false n)
 
 -- a hart asked to resume a context
 abbrev pub asking_text : ℕ → ℕ → ℕ → List ℕ
@@ -37,10 +53,9 @@ gone_text None = ended_text None
 
 abbrev pub mapping_text : ℕ → FirstTable → List ℕ
 mapping_text satp first =
-    codes "The page table of the hart is "
-    ++ (hexadecimal satp
-    ++ (codes " (satp), and the context's space was first resumed under "
-    ++ (hexadecimal first.satp ++ (codes ", at step " ++ decimal first.step ++ codes ".\n"))))
+    (codes "The page table of the hart is " ++ hex_word satp
+    ++ codes " (satp), and the context's space was first resumed under ")
+    ++ (hex_word first.satp ++ codes ", at step " ++ decimal first.step ++ codes ".\n")
 
 abbrev pub context_rule : List ℕ
 context_rule = codes "The rule: a context that is resumed is there, and runs on no hart.\n"
@@ -76,7 +91,109 @@ question_text step ctx =
     ++ decimal (ctx / 8) ++ codes " ")
     ++ (codes "is not what was last shown of that page.\n" ++ end_text ctx)
 
--- A page, with more about it: its access, what was done to it before, what was found, and the rule.
+-- A page of which more is told: the access that was stopped, what was done before, and what was found.
+
+-- a byte in two hexadecimal digits
+abbrev pub hex_byte : ℕ → List ℕ
+hex_byte n = padded_integral (format_spec 32 0 4 2 (2 ^ 64 - 1)) false [] (digits 16 false n)
+
+abbrev pub page_name : PageId → List ℕ
+page_name p =
+    codes "page " ++ decimal p.page ++ codes " of resource " ++ decimal p.resource ++ codes " of program " ++ decimal p.domain
+
+abbrev pub step_name : ℕ → List ℕ
+step_name n = if n == 0 then codes "opening" else codes "step " ++ decimal n
+
+abbrev pub frame_name : Option ℕ → List ℕ
+frame_name (Some frame) = codes "frame " ++ decimal frame
+frame_name None = codes "no frame"
+
+abbrev pub access_name : Kind → List ℕ
+access_name kind.Fetch = codes "fetched an instruction"
+access_name kind.Load = codes "loaded"
+access_name kind.Store = codes "stored"
+
+-- a host call that was done
+abbrev pub call_name : DiskCall → List ℕ
+call_name c =
+    if c.is_write
+    then codes "wrote frame " ++ decimal c.frame ++ codes " to block " ++ decimal c.block
+    else codes "read block " ++ decimal c.block ++ codes " into frame " ++ decimal c.frame
+
+-- what a store changed of a frame
+abbrev pub first_changed : FrameChange → List ℕ
+first_changed c =
+    codes "byte " ++ decimal c.place ++ codes " was " ++ hex_byte c.was ++ codes " and became " ++ hex_byte c.now
+
+abbrev pub change_text : FrameChange → List ℕ
+change_text c =
+    if c.count == 1
+    then first_changed c
+    else first_changed c ++ (codes ", and so on, " ++ decimal c.count ++ codes " bytes in all")
+
+abbrev pub deed_text : PageDeed → List ℕ
+deed_text (deed.LastShown showing) =
+    (page_name showing.page ++ codes " was last shown, in frame " ++ decimal showing.frame ++ codes ", ")
+    ++ (codes "as ciphertext with the digest " ++ encode_lower showing.digest)
+deed_text (deed.Shown page frame) = page_name page ++ codes " was shown, in frame " ++ decimal frame
+deed_text (deed.Moved hart call) = codes "the kernel, on hart " ++ decimal hart ++ codes ", " ++ call_name call
+deed_text (deed.Stored hart frame change) =
+    codes "the kernel, on hart " ++ decimal hart ++ codes ", stored to frame " ++ decimal frame ++ codes ": "
+    ++ change_text change
+deed_text (deed.Leads address from to) =
+    codes "the kernel changed its page table: "
+    ++ (hex_word address ++ codes " led to " ++ frame_name from ++ codes ", and now leads to " ++ frame_name to)
+
+abbrev pub event_text : PageEvent → List ℕ
+event_text e = codes "  " ++ step_name e.step ++ codes ": " ++ deed_text e.deed ++ codes "\n"
+
+-- the access, and the frame to which it leads
+abbrev pub whose_page : Option Showing → List ℕ
+whose_page (Some showing) = codes "the page.\n"
+whose_page None = codes "the page, or of the page from which a fork copied it, up to that fork.\n"
+
+abbrev pub access_text : Presented → List ℕ
+access_text p =
+    (access_name p.kind ++ codes " at " ++ hex_word p.address ++ codes ", which is " ++ page_name p.page ++ codes ".\n")
+    ++ ((codes "The kernel's page table leads there to frame " ++ decimal p.frame
+    ++ codes ", and what that frame has is not what was last shown of ")
+    ++ whose_page p.showing)
+
+-- events, of which this many earlier ones are left out
+abbrev pub left_out_text : ℕ → List ℕ
+left_out_text n =
+    if n == 0 then [] else codes "  (earlier events that are left out: " ++ decimal n ++ codes ")\n"
+
+abbrev pub events_text : ℕ → List PageEvent → List ℕ
+events_text left_out events = left_out_text left_out ++ flat_map event_text events
+
+-- where the bytes that were found had last been shown
+abbrev pub origin_step : PageId → ℕ → List ℕ
+origin_step page n =
+    if n == 0
+    then codes "shown of " ++ page_name page ++ codes " at the opening\n"
+    else codes "shown of " ++ page_name page ++ codes " at step " ++ decimal n ++ codes "\n"
+
+abbrev pub origin_text : Option Showing → List ℕ
+origin_text (Some showing) = origin_step showing.page showing.step
+origin_text None = codes "not shown in this run before\n"
+
+abbrev pub found_text : Presented → Option Showing → List ℕ
+found_text p origin =
+    (codes "  step " ++ decimal p.step ++ codes ": the program asked for the page, and found in frame " ++ decimal p.frame
+    ++ codes " ")
+    ++ ((codes "bytes with the digest " ++ encode_lower p.digest ++ codes ", which were ") ++ origin_text origin)
+
+abbrev pub page_rule : List ℕ
+page_rule =
+    codes "The rule: a frame that the kernel presents for a cloaked page has exactly the bytes that were last shown of that page.\n"
+
+-- the lines of a page that was presented, of these events
+abbrev pub page_lines : Presented → ℕ → List PageEvent → Option Showing → List ℕ
+page_lines p left_out events origin =
+    access_text p ++ (events_text left_out events ++ (found_text p origin ++ page_rule))
+
+-- A page, with these lines.
 abbrev pub page_text : ℕ → ℕ → ℕ → List ℕ → List ℕ
 page_text step hart ctx more =
     (codes "A violation at step " ++ decimal step ++ codes ": context " ++ decimal ctx ++ codes ", on hart "
@@ -109,10 +226,20 @@ summary steps ended refused =
 
 -- Violations as they are told.
 
+-- The text has the lines of a page that was presented in this step, for this context on this hart.
+pub record HasPageLines (step hart ctx : ℕ) (text : List ℕ) : Type 0 where
+  pub presented : Presented
+  pub step_is : presented.step ≡ step
+  pub hart_is : presented.hart ≡ hart
+  pub ctx_is : presented.ctx ≡ ctx
+  pub left_out : ℕ
+  pub events : List PageEvent
+  pub origin : Option Showing
+  pub lines : text ≡ page_text step hart ctx (page_lines presented left_out events origin)
+
 -- a violation is told by this text
 abbrev pub IsToldBy : Violation → List ℕ → Type 0
-IsToldBy (ByPage step hart ctx) text =
-    (text ≡ question_text step ctx) ⊎ ((more : List ℕ) × (text ≡ page_text step hart ctx more))
+IsToldBy (ByPage step hart ctx) text = (text ≡ question_text step ctx) ⊎ HasPageLines step hart ctx text
 IsToldBy (ByResume asking why) text = text ≡ resume_text asking why
 IsToldBy (OfNone step asked ended) text = text ≡ none_text step asked ended
 

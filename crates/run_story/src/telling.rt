@@ -3,7 +3,7 @@
 ghost use Rattle.std.specs.Prelude.{◌≡◌, Some};
 ghost use Rattle.std.specs.Fmt.{DisplaysOnOk};
 ghost use Rattle.std.specs.Str.{IsUtf8};
-ghost use Rattle.cloak_model.specs.Report.{hexadecimal};
+ghost use Rattle.hex.specs.Hex.{encode_lower};
 ghost use Rattle.run_story.specs.Passages as spec;
 
 use crate::deeds::{Deeds, FrameChange, PageDeed, PageEvent};
@@ -58,6 +58,8 @@ struct AccessName(Kind);
 struct CallName(DiskCall);
 
 impl fmt::Display for PageName {
+    ghost output = { λ p. Some (spec.page_name p.0) };
+
     fn fmt<W: fmt::Write>(&self, f: &mut fmt::Formatter<W>) -> fmt::Result {
         let PageId {
             domain,
@@ -68,16 +70,34 @@ impl fmt::Display for PageName {
     }
 }
 
+/// The text of these bytes, if they are one.
+fn shown_text(bytes: &[u8]) -> &str
+    ensures { IsUtf8 bytes.now → result.now ≡ bytes.now }
+{
+    std::str::from_utf8(bytes).unwrap_or("")
+}
+
+/// The hexadecimal digits of a digest.
+fn hexadecimal_digits(digest: [u8; 32]) -> [u8; 64]
+    ensures { result ≡ encode_lower digest }
+{
+    let mut digits = [0; 64];
+    let _ = hex::encode_to_slice(digest.as_slice(), digits.as_mut_slice());
+    digits
+}
+
 impl fmt::Display for DigestText {
+    ghost output = { λ d. Some (encode_lower d.0) };
+
     fn fmt<W: fmt::Write>(&self, f: &mut fmt::Formatter<W>) -> fmt::Result {
-        for byte in self.0 {
-            write!(f, "{byte:02x}")?;
-        }
-        Ok(())
+        let digits = hexadecimal_digits(self.0);
+        f.write_str(shown_text(digits.as_slice()))
     }
 }
 
 impl fmt::Display for StepName {
+    ghost output = { λ n. Some (spec.step_name n.0) };
+
     fn fmt<W: fmt::Write>(&self, f: &mut fmt::Formatter<W>) -> fmt::Result {
         match self.0 {
             0 => f.write_str("opening"),
@@ -87,6 +107,8 @@ impl fmt::Display for StepName {
 }
 
 impl fmt::Display for FrameName {
+    ghost output = { λ n. Some (spec.frame_name n.0) };
+
     fn fmt<W: fmt::Write>(&self, f: &mut fmt::Formatter<W>) -> fmt::Result {
         match self.0 {
             Some(frame) => write!(f, "frame {frame}"),
@@ -96,16 +118,20 @@ impl fmt::Display for FrameName {
 }
 
 impl fmt::Display for AccessName {
+    ghost output = { λ n. Some (spec.access_name n.0) };
+
     fn fmt<W: fmt::Write>(&self, f: &mut fmt::Formatter<W>) -> fmt::Result {
-        f.write_str(match self.0 {
-            Kind::Fetch => "fetched an instruction",
-            Kind::Load => "loaded",
-            Kind::Store => "stored",
-        })
+        match self.0 {
+            Kind::Fetch => f.write_str("fetched an instruction"),
+            Kind::Load => f.write_str("loaded"),
+            Kind::Store => f.write_str("stored"),
+        }
     }
 }
 
 impl fmt::Display for CallName {
+    ghost output = { λ n. Some (spec.call_name n.0) };
+
     fn fmt<W: fmt::Write>(&self, f: &mut fmt::Formatter<W>) -> fmt::Result {
         let DiskCall { block, frame, .. } = self.0;
         if self.0.is_write {
@@ -117,6 +143,8 @@ impl fmt::Display for CallName {
 }
 
 impl fmt::Display for FrameChange {
+    ghost output = { λ c. Some (spec.change_text c) };
+
     fn fmt<W: fmt::Write>(&self, f: &mut fmt::Formatter<W>) -> fmt::Result {
         let FrameChange {
             place,
@@ -133,11 +161,12 @@ impl fmt::Display for FrameChange {
 }
 
 impl fmt::Display for PageDeed {
+    ghost output = { λ d. Some (spec.deed_text d) };
+
     fn fmt<W: fmt::Write>(&self, f: &mut fmt::Formatter<W>) -> fmt::Result {
         match *self {
             PageDeed::LastShown(showing) => {
-                let digest = showing.digest;
-                let (page, digest) = (PageName(showing.page), DigestText(digest));
+                let (page, digest) = (PageName(showing.page), DigestText(showing.digest));
                 write!(f, "{page} was last shown, in frame {}, ", showing.frame)?;
                 write!(f, "as ciphertext with the digest {digest}")
             }
@@ -167,6 +196,8 @@ impl fmt::Display for PageDeed {
 }
 
 impl fmt::Display for PageEvent {
+    ghost output = { λ e. Some (spec.event_text e) };
+
     fn fmt<W: fmt::Write>(&self, f: &mut fmt::Formatter<W>) -> fmt::Result {
         let step = StepName(self.step);
         let deed = self.deed;
@@ -174,8 +205,22 @@ impl fmt::Display for PageEvent {
     }
 }
 
+/// The page of which the bytes of a frame are not what was last shown.
+fn write_whose<W: fmt::Write>(showing: Option<Showing>, f: &mut fmt::Formatter<W>) -> fmt::Result
+    ensures { DisplaysOnOk W.write_str_gives f.old result (Some (spec.whose_page showing)) f.new }
+{
+    match showing {
+        Some(_) => f.write_str("the page.\n"),
+        None => f.write_str(
+            "the page, or of the page from which a fork copied it, up to that fork.\n",
+        ),
+    }
+}
+
 /// The program's access that was stopped.
-fn write_access<W: fmt::Write>(presented: &Presented, f: &mut fmt::Formatter<W>) -> fmt::Result {
+fn write_access<W: fmt::Write>(presented: &Presented, f: &mut fmt::Formatter<W>) -> fmt::Result
+    ensures { DisplaysOnOk W.write_str_gives f.old result (Some (spec.access_text presented.now)) f.new }
+{
     let Presented { address, frame, .. } = *presented;
     let (access, page) = (AccessName(presented.kind), PageName(presented.page));
     write!(f, "{access} at {address:08x}, which is {page}.\n")?;
@@ -183,22 +228,50 @@ fn write_access<W: fmt::Write>(presented: &Presented, f: &mut fmt::Formatter<W>)
         f,
         "The kernel's page table leads there to frame {frame}, and what that frame has is not what was last shown of "
     )?;
-    f.write_str(match presented.showing {
-        Some(_) => "the page.\n",
-        None => "the page, or of the page from which a fork copied it, up to that fork.\n",
-    })
+    write_whose(presented.showing, f)
+}
+
+/// How many events are left out.
+fn write_left_out<W: fmt::Write>(left_out: u32, f: &mut fmt::Formatter<W>) -> fmt::Result
+    ensures { DisplaysOnOk W.write_str_gives f.old result (Some (spec.left_out_text left_out)) f.new }
+{
+    if left_out == 0 {
+        f.write_str("")
+    } else {
+        write!(f, "  (earlier events that are left out: {left_out})\n")
+    }
 }
 
 /// What was done before.
-fn write_events<W: fmt::Write>(deeds: &Deeds, f: &mut fmt::Formatter<W>) -> fmt::Result {
-    let left_out = deeds.left_out();
-    if left_out > 0 {
-        write!(f, "  (earlier events that are left out: {left_out})\n")?;
-    }
-    for event in deeds.events() {
+fn write_events<W: fmt::Write>(
+    left_out: u32,
+    events: &[PageEvent],
+    f: &mut fmt::Formatter<W>,
+) -> fmt::Result
+    ensures { DisplaysOnOk W.write_str_gives f.old result (Some (spec.events_text left_out events.now)) f.new }
+{
+    write_left_out(left_out, f)?;
+    for event in events {
         write!(f, "{event}")?;
     }
     Ok(())
+}
+
+/// Where bytes had last been shown.
+fn write_origin<W: fmt::Write>(origin: Option<Showing>, f: &mut fmt::Formatter<W>) -> fmt::Result
+    ensures { DisplaysOnOk W.write_str_gives f.old result (Some (spec.origin_text origin)) f.new }
+{
+    match origin {
+        None => f.write_str("not shown in this run before\n"),
+        Some(Showing { page, step, .. }) => {
+            let page = PageName(page);
+            if step == 0 {
+                write!(f, "shown of {page} at the opening\n")
+            } else {
+                write!(f, "shown of {page} at step {step}\n")
+            }
+        }
+    }
 }
 
 /// What the program found in the frame, and where those bytes come from.
@@ -206,29 +279,26 @@ fn write_found<W: fmt::Write>(
     presented: &Presented,
     origin: Option<Showing>,
     f: &mut fmt::Formatter<W>,
-) -> fmt::Result {
+) -> fmt::Result
+    ensures { DisplaysOnOk W.write_str_gives f.old result (Some (spec.found_text presented.now origin)) f.new }
+{
     let Presented { step, frame, .. } = *presented;
-    let digest = presented.digest;
-    let digest = DigestText(digest);
+    let digest = DigestText(presented.digest);
     write!(
         f,
         "  step {step}: the program asked for the page, and found in frame {frame} "
     )?;
     write!(f, "bytes with the digest {digest}, which were ")?;
-    let Some(Showing { page, step, .. }) = origin else {
-        return f.write_str("not shown in this run before\n");
-    };
-    let page = PageName(page);
-    match step {
-        0 => write!(f, "shown of {page} at the opening\n"),
-        _ => write!(f, "shown of {page} at step {step}\n"),
-    }
+    write_origin(origin, f)
 }
 
 impl fmt::Display for PageStory<'_> {
+    ghost output = { λ s. Some (spec.page_lines s.presented.now
+        s.deeds.now.left_out s.deeds.now.events.items s.deeds.now.origin) };
+
     fn fmt<W: fmt::Write>(&self, f: &mut fmt::Formatter<W>) -> fmt::Result {
         write_access(self.presented, f)?;
-        write_events(self.deeds, f)?;
+        write_events(self.deeds.left_out(), self.deeds.events(), f)?;
         write_found(self.presented, self.deeds.origin(), f)?;
         f.write_str(
             "The rule: a frame that the kernel presents for a cloaked page has exactly the bytes that were last shown of that page.\n",
@@ -292,32 +362,6 @@ fn write_gone<W: fmt::Write>(told: Option<ToldContext>, f: &mut fmt::Formatter<W
     }
 }
 
-/// A text of these bytes, if they are one.
-fn shown_text(bytes: &[u8]) -> &str
-    ensures { IsUtf8 bytes.now → result.now ≡ bytes.now }
-{
-    std::str::from_utf8(bytes).unwrap_or("")
-}
-
-/// The hexadecimal digits of a word.
-fn word_digits(word: u32) -> [u8; 8]
-    ensures { result ≡ hexadecimal word }
-{
-    let mut digits = [0; 8];
-    let Ok(()) = hex::encode_to_slice(word.to_be_bytes().as_slice(), &mut digits) else {
-        unreachable!();
-    };
-    digits
-}
-
-/// A word in eight hexadecimal digits.
-fn write_word<W: fmt::Write>(word: u32, f: &mut fmt::Formatter<W>) -> fmt::Result
-    ensures { DisplaysOnOk W.write_str_gives f.old result (Some (hexadecimal word)) f.new }
-{
-    let digits = word_digits(word);
-    f.write_str(shown_text(&digits))
-}
-
 /// A space that has another page table.
 fn write_mapping<W: fmt::Write>(
     satp: u32,
@@ -327,11 +371,11 @@ fn write_mapping<W: fmt::Write>(
     ensures { DisplaysOnOk W.write_str_gives f.old result (Some (spec.mapping_text satp first)) f.new }
 {
     let FirstTable { satp: was, step } = first;
-    f.write_str("The page table of the hart is ")?;
-    write_word(satp, f)?;
-    f.write_str(" (satp), and the context's space was first resumed under ")?;
-    write_word(was, f)?;
-    write!(f, ", at step {step}.\n")
+    write!(
+        f,
+        "The page table of the hart is {satp:08x} (satp), and the context's space was first resumed under "
+    )?;
+    write!(f, "{was:08x}, at step {step}.\n")
 }
 
 /// The rule on contexts that are resumed.
