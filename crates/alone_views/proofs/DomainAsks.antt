@@ -40,6 +40,7 @@ use Rattle.cloak_model.specs.Calls as calls
 use Rattle.cloak_model.proofs.CallParts as call_parts
 use Rattle.cloak_model.specs.Calls.{Copy}
 use Rattle.cloak_model.specs.Fork as forks
+use Rattle.cloak_model.proofs.ForkParts as fork_parts
 use Rattle.cloak_model.specs.Fork.{Fork, End}
 use Rattle.cloak_model.specs.DomainState.{Control, Domain}
 use Rattle.cloak_model.specs.Hypercalls as calling
@@ -395,8 +396,7 @@ abbrev Forks : Handed → Told Fork → Type 0
 Forks h t = Outcome h (IsFit {A = Fork}) ForkStops t.answer t.world
 
 asks_fork_cleared : (h : Handed) (domain : ℕ) (c : Context) (slot new : ℕ) (r : Resources) (contexts : List (Option Context)) (a : Answer) (now : Handed) → Kept 2 h now →
-    Forks h (forks.fork_cleared domain c slot new r contexts a (Alone now))
-unfolding forks.fork_cleared
+    Forks h (fork_parts.fork_cleared domain c slot new r contexts a (Alone now))
 asks_fork_cleared h domain c slot new r contexts told.Ok now kept =
     let made : Fork = record { answer = Ok (Some (record { 0 = context_number domain slot })); spaces = forks.forked c slot new r contexts } in
     fit_outcome Fork h ForkStops made _ (fit_copies domain (forks.copies c.space r) (Alone now) kept.fit)
@@ -405,18 +405,17 @@ asks_fork_cleared h domain c slot new r contexts (told.Word value) now kept = in
 asks_fork_cleared h domain c slot new r contexts told.Stopped now kept = inl kept.fit
 
 fork_cleared_stopped : (domain : ℕ) (c : Context) (slot new : ℕ) (r : Resources) (contexts : List (Option Context)) (now : Handed) →
-    Quits ForkStops now (forks.fork_cleared domain c slot new r contexts told.Stopped (Alone now))
-unfolding forks.fork_cleared
+    Quits ForkStops now (fork_parts.fork_cleared domain c slot new r contexts told.Stopped (Alone now))
 fork_cleared_stopped domain c slot new r contexts now = (refl, refl)
 
 asks_fork_if : (h : Handed) (fits : Result (Unit {0}) MapFault) (domain : ℕ) (c : Context) (r : Resources) (contexts : List (Option Context)) (now : Handed) → Kept 1 h now →
-    Forks h (forks.fork_if fits domain c r contexts (Alone now))
-unfolding forks.fork_if
+    Forks h (fork_parts.fork_if fits domain c r contexts (Alone now))
 asks_fork_if h (Err fault) domain c r contexts now kept = inl kept.fit
 asks_fork_if h (Ok fits) domain c r contexts now kept =
-    then_asked Fork h 2 (IsFit {A = Fork}) ForkStops (forks.fork_cleared domain c (unwrap_or (first_free contexts) 0) (unwrap_or (first_free r.spaces) 0) r contexts)
+    then_asked Fork h 2 (IsFit {A = Fork}) ForkStops (fork_parts.fork_cleared domain c (unwrap_or (first_free contexts) 0) (unwrap_or (first_free r.spaces) 0) r contexts)
     (ask_clear domain (forks.marked c.space r) (Alone now)) (asked_clear h now 1 domain _ (omega arith) kept)
-    (asks_fork_cleared h domain c _ _ r contexts) (fork_cleared_stopped domain c _ _ r contexts)
+    (asks_fork_cleared h domain c (unwrap_or (first_free contexts) 0) (unwrap_or (first_free r.spaces) 0) r contexts)
+    (fork_cleared_stopped domain c (unwrap_or (first_free contexts) 0) (unwrap_or (first_free r.spaces) 0) r contexts)
 
 asks_fork : (h : Handed) (domain : ℕ) (c : Context) (r : Resources) (contexts : List (Option Context)) (now : Handed) → Kept 1 h now →
     Forks h (forks.fork domain c r contexts (Alone now))
@@ -430,8 +429,7 @@ abbrev Ends : Handed → Told End → Type 0
 Ends h t = Outcome h (IsFit {A = End}) EndStops t.answer t.world
 
 asks_end_cleared : (h : Handed) (domain slot space : ℕ) (r : Resources) (contexts : List (Option Context)) (a : Answer) (now : Handed) → Kept 2 h now →
-    Ends h (forks.end_cleared domain slot space r contexts a (Alone now))
-unfolding forks.end_cleared
+    Ends h (fork_parts.end_cleared domain slot space r contexts a (Alone now))
 asks_end_cleared h domain slot space r contexts told.Ok now kept =
     let made : End = record { ending = ends.SpaceGone space; spaces = record { contexts = end_at slot contexts; resources = drop_space space r } } in
     fit_outcome End h EndStops made _ (fit_forgets domain (forks.private_numbers space r) (Alone now) kept.fit)
@@ -440,16 +438,14 @@ asks_end_cleared h domain slot space r contexts (told.Word value) now kept = inl
 asks_end_cleared h domain slot space r contexts told.Stopped now kept = inl kept.fit
 
 end_cleared_stopped : (domain slot space : ℕ) (r : Resources) (contexts : List (Option Context)) (now : Handed) →
-    Quits EndStops now (forks.end_cleared domain slot space r contexts told.Stopped (Alone now))
-unfolding forks.end_cleared
+    Quits EndStops now (fork_parts.end_cleared domain slot space r contexts told.Stopped (Alone now))
 end_cleared_stopped domain slot space r contexts now = (refl, refl)
 
 asks_end_if : (h : Handed) (others : Bool) (domain slot space : ℕ) (r : Resources) (contexts : List (Option Context)) (now : Handed) → Kept 1 h now →
-    Ends h (forks.end_if others domain slot space r contexts (Alone now))
-unfolding forks.end_if
+    Ends h (fork_parts.end_if others domain slot space r contexts (Alone now))
 asks_end_if h true domain slot space r contexts now kept = inl kept.fit
 asks_end_if h false domain slot space r contexts now kept =
-    then_asked End h 2 (IsFit {A = End}) EndStops (forks.end_cleared domain slot space r contexts)
+    then_asked End h 2 (IsFit {A = End}) EndStops (fork_parts.end_cleared domain slot space r contexts)
     (ask_clear domain (forks.marked space r) (Alone now)) (asked_clear h now 1 domain _ (omega arith) kept)
     (asks_end_cleared h domain slot space r contexts) (end_cleared_stopped domain slot space r contexts)
 

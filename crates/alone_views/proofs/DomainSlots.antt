@@ -23,6 +23,7 @@ use Rattle.cloak_model.specs.Contexts.{Context, Resumed, resume_at, resume_if, u
 use Rattle.cloak_model.specs.declared.context.WordPlace.{WordPlace}
 use Rattle.cloak_model.specs.Resources.{Resources, first_free}
 use Rattle.cloak_model.specs.Fork as forks
+use Rattle.cloak_model.proofs.ForkParts as fork_parts
 use Rattle.cloak_model.specs.DomainState.{Control, Domain}
 use Rattle.cloak_model.specs.Hypercalls as calling
 use Rattle.cloak_model.specs.Hypercalls.{Stepped, Hypercall, with_slot}
@@ -56,14 +57,13 @@ slots_call_begun slot c (Ok begun.Copying) d = set_slot slot _ d
 slots_call_begun slot c (Ok begun.Leave) d = set_slot slot _ d
 
 slots_fork_cleared : (domain : ℕ) (c : Context) (slot new : ℕ) (r : Resources) (contexts : List (Option Context)) (a : Answer) (w : World) →
-    length (forks.fork_cleared domain c slot new r contexts a w).answer.spaces.contexts ≡ length contexts
-unfolding forks.fork_cleared forks.forked
+    length (fork_parts.fork_cleared domain c slot new r contexts a w).answer.spaces.contexts ≡ length contexts
+unfolding forks.forked
 slots_fork_cleared domain c slot new r contexts told.Ok w = length-set contexts slot _
 slots_fork_cleared domain c slot new r contexts _ w = refl
 
 slots_fork_if : (fits : Result (Unit {0}) MapFault) (domain : ℕ) (c : Context) (r : Resources) (contexts : List (Option Context)) (w : World) →
-    length (forks.fork_if fits domain c r contexts w).answer.spaces.contexts ≡ length contexts
-unfolding forks.fork_if
+    length (fork_parts.fork_if fits domain c r contexts w).answer.spaces.contexts ≡ length contexts
 slots_fork_if (Err f) domain c r contexts w = refl
 slots_fork_if (Ok fits) domain c r contexts w = slots_fork_cleared domain c _ _ r contexts _ _
 
@@ -80,14 +80,12 @@ slots_fork_told slot c d (Ok None) now same = refl
 slots_fork_told slot c d (Ok (Some ctx)) now same = set_slot slot _ now ∙ same
 
 slots_end_cleared : (domain slot space : ℕ) (r : Resources) (contexts : List (Option Context)) (a : Answer) (w : World) →
-    length (forks.end_cleared domain slot space r contexts a w).answer.spaces.contexts ≡ length contexts
-unfolding forks.end_cleared
+    length (fork_parts.end_cleared domain slot space r contexts a w).answer.spaces.contexts ≡ length contexts
 slots_end_cleared domain slot space r contexts told.Ok w = length-set contexts slot None
 slots_end_cleared domain slot space r contexts _ w = refl
 
 slots_end_if : (others : Bool) (domain slot space : ℕ) (r : Resources) (contexts : List (Option Context)) (w : World) →
-    length (forks.end_if others domain slot space r contexts w).answer.spaces.contexts ≡ length contexts
-unfolding forks.end_if
+    length (fork_parts.end_if others domain slot space r contexts w).answer.spaces.contexts ≡ length contexts
 slots_end_if true domain slot space r contexts w = length-set contexts slot None
 slots_end_if false domain slot space r contexts w = slots_end_cleared domain slot space r contexts _ _
 

@@ -5,7 +5,8 @@ use Rattle.cloak_base.specs.declared.causes.Shown.{Shown}
 use Rattle.cloak_model.specs.Exchange.{Piece}
 use Rattle.cloak_model.specs.KernelAlone as model
 use Rattle.cloak_model.specs.KernelAlone.{take_cipher, take_put, kernel_takes, take_kernel_item, kernel_step_ended, take_leave, take_kernel_step}
-use Rattle.cloak_model.specs.Record.{IsItem, IsItemWidth}
+use Rattle.cloak_model.specs.Record.{IsItem}
+use Rattle.cloak_model.specs.Effect.{IsWidth}
 use Rattle.cloak_model.specs.declared.item.Item.{Item}
 use Rattle.cloak_model.specs.declared.item.Item.TheVariants as item
 use Rattle.alone_views.specs.KernelChanges.{ChangesTo}
@@ -24,7 +25,7 @@ takes_cipher {E} gave e old new turns s i f bytes is becomes stands =
 
 pub takes_put : {E : Type 0} (gave : E → E → List Piece → Type 0) (e : E) (old new : KernelAlone) (turns : List ℕ)
     (s : model.KernelAlone) (i : Item) (address width value : ℕ) → i ≡ item.Put address width value → IsItem i →
-    (IsItemWidth width → ChangesTo old new (λ s. take_put s.place address width value s)) →
+    (IsWidth width → ChangesTo old new (λ s. take_put s.place address width value s)) →
     StandsForKernel old turns s → Gains gave e e new turns s (kernel_takes turns i s)
 unfolding kernel_takes
 takes_put {E} gave e old new turns s i address width value is ranges becomes stands =

@@ -1,6 +1,7 @@
 -- What a program that runs alone stands for: states of the fold over the items.
-use Rattle.std.specs.Prelude.{ℕ, ◌≡◌, ◌-◌, ◌<◌, ◌%◌, List, length, slice_index, Option, Some, None, is_some, option_map, Result, Ok, Err, if◌then◌else◌}
+use Rattle.std.specs.Prelude.{ℕ, ◌≡◌, ◌-◌, ◌<◌, List, length, Option, Some, None, is_some, option_map, Result, Ok, Err, if◌then◌else◌}
 use Rattle.cloak_model.specs.declared.answer.Answer.{Answer}
+use Rattle.cloak_model.specs.Hart.{hart_after}
 use Rattle.cloak_model.specs.Parts.{DomainPart}
 use Rattle.cloak_model.specs.DomainAlone as model
 use Rattle.cloak_model.specs.DomainAlone.{Tried, Over, Wants, Wrong, with_control, domain_step_begun}
@@ -30,7 +31,7 @@ unfit_in machine = machine.unfit
 
 -- the hart of the step of a number
 abbrev pub hart_at : List ℕ → ℕ → ℕ
-hart_at schedule number = slice_index schedule ((number - 1) % length schedule)
+hart_at schedule number = hart_after schedule (number - 1)
 
 -- where the items stand, in a step of this hart if in one
 abbrev pub place_told : ℕ → DomainPlace → model.DomainPlace

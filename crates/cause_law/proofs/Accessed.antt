@@ -34,7 +34,8 @@ use Rattle.cloak_model.specs.Contexts.{Context}
 use Rattle.cloak_model.specs.DomainState.{Control, Domain}
 use Rattle.cloak_model.specs.DomainStep.{DomainStepped, instruction_ended, copy_ended, after_write, phase_step}
 use Rattle.cloak_model.specs.Effect.{effect}
-use Rattle.cloak_model.specs.Fork.{fork_cleared, fork_if, fork, end_cleared, end_if, end_context}
+use Rattle.cloak_model.specs.Fork.{fork, end_context}
+use Rattle.cloak_model.proofs.ForkParts.{fork_cleared, fork_if, end_cleared, end_if}
 use Rattle.cloak_model.specs.Hypercalls.{Hypercall, ForkSpace, Exit, fork_call, exit_call, hypercall, hypercall_of}
 use Rattle.cloak_model.specs.InsideStep.{AfterInstruction, load_inside, store_inside, atomic_granted, atomic_placed, traps, atomic_inside, system_inside, done_inside, decoded_inside, fetch, instruction_inside}
 use Rattle.cloak_model.proofs.InsideParts.{loaded_inside, load_reached, load_got, store_reached, store_put, conditional_inside, atomic_reached, executed_inside, fetched_inside}
@@ -278,26 +279,22 @@ fetch_meets d c begun (Some q) plain lies calm =
 
 calms_fork_cleared : (domain : ℕ) (c : Context) (slot new : ℕ) (r : Resources) (contexts : List (Option Context))
     (a : Answer) (w : World) → Calms w (fork_cleared domain c slot new r contexts a w).world
-unfolding fork_cleared
 calms_fork_cleared domain c slot new r contexts told.Ok w = calms_copies domain _ w
 calms_fork_cleared domain c slot new r contexts _ w = Calms-refl w
 
 calms_fork : (fits : Result (Unit {0}) MapFault) (domain : ℕ) (c : Context) (r : Resources)
     (contexts : List (Option Context)) (w : World) → Calms w (fork_if fits domain c r contexts w).world
-unfolding fork_if
 calms_fork (Err fault) domain c r contexts w = Calms-refl w
 calms_fork (Ok fits) domain c r contexts w =
     Calms-trans _ _ _ (calms_asks_clear domain _ w) (calms_fork_cleared domain c _ _ r contexts _ _)
 
 calms_end_cleared : (domain slot space : ℕ) (r : Resources) (contexts : List (Option Context)) (a : Answer) (w : World) →
     Calms w (end_cleared domain slot space r contexts a w).world
-unfolding end_cleared
 calms_end_cleared domain slot space r contexts told.Ok w = calms_forgets domain _ w
 calms_end_cleared domain slot space r contexts _ w = Calms-refl w
 
 calms_end : (others : Bool) (domain slot space : ℕ) (r : Resources) (contexts : List (Option Context)) (w : World) →
     Calms w (end_if others domain slot space r contexts w).world
-unfolding end_if
 calms_end true domain slot space r contexts w = Calms-refl w
 calms_end false domain slot space r contexts w =
     Calms-trans _ _ _ (calms_asks_clear domain _ w) (calms_end_cleared domain slot space r contexts _ _)

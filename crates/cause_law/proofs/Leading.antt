@@ -6,7 +6,8 @@ use Rattle.cloak_base.specs.declared.names.Mode.TheVariants.{U}
 use Rattle.cloak_model.specs.declared.access.Access.{Access}
 use Rattle.cloak_model.specs.declared.access.Walked.{Walked}
 use Rattle.cloak_model.specs.declared.regime.InsideRegime.{InsideRegime}
-use Rattle.cloak_model.specs.Ask.{shown_word, ask_word, ask_second, ask_after, ask_first, ask_walk, ask_inside, ask_translate, ask_led}
+use Rattle.cloak_model.specs.Ask.{shown_word, ask_word, ask_walk, ask_inside, ask_translate, ask_led}
+use Rattle.cloak_model.proofs.WalkParts.{ask_second, ask_after, ask_first}
 use Rattle.cloak_model.specs.AskPages.{ask_inside_address}
 use Rattle.cloak_model.specs.Asking.{Told}
 use Rattle.cloak_model.specs.Cloaking.{CloakedMemory, owed_in, settle}
@@ -109,7 +110,6 @@ after_walks : (satp : ℕ) (a : Access) (word : Option ℕ) (first : FirstWord) 
     has_paging satp ≡ true → Sees c.memory (first_entry satp a.va) word →
     first_word a (first_entry satp a.va) word ≡ first →
     let t = ask_after a (first_entry satp a.va) first (Cloaked c) in OfMemory (Walks satp a t.answer) t.world
-unfolding ask_after ask_second
 after_walks satp a word (Ends w) c kept has sees is =
     λ m' more.
     let at1 = first_entry satp a.va in
@@ -129,7 +129,7 @@ walks_by : (b : Bool) (satp : ℕ) (a : Access) (c : Cloak) → IsKept c.memory 
     let t = cond b (ask_first a (first_entry satp a.va) (Cloaked c))
     (let u : Told Walk = record { answer = without_paging a; world = Cloaked c } in u) in
     OfMemory (Walks satp a t.answer) t.world
-unfolding ask_first walk
+unfolding walk
 walks_by true satp a c kept is =
     let t = ask_word (first_entry satp a.va) (Cloaked c) in
     first_walks satp a c t.answer t.world is (shows_word (first_entry satp a.va) c kept)

@@ -36,7 +36,8 @@ use Rattle.cloak_model.specs.Joint.{outside_ended, after_outside, outside_step, 
 use Rattle.cloak_model.specs.KernelStep.{ticked}
 use Rattle.cloak_model.specs.Opening.{started_domains}
 use Rattle.cloak_model.specs.Parts.{Joint}
-use Rattle.cloak_model.specs.Resuming.{by_root, by_context, by_domain, resume}
+use Rattle.cloak_model.specs.Resuming.{resume}
+use Rattle.cloak_model.proofs.ResumeParts.{by_root, by_context, by_domain}
 use Rattle.cloak_model.specs.World.{World}
 use Rattle.domain_isolation.proofs.InOrder.{decided, get_set_other}
 
@@ -284,7 +285,7 @@ domain_moves j hart satp ctx reply (Some was) there =
 
 outside_moves : (j : Joint) (number : ℕ) (items : List Item) (e : Kernel) →
     Moves j.domains (outside_ended j number items e).joint.domains
-unfolding outside_ended resume
+unfolding outside_ended resume by_domain by_context by_root
 outside_moves j number items (kernel.Resume ctx reply) = domain_moves j number _ ctx reply _ refl
 outside_moves j number items _ = Stays refl
 

@@ -13,7 +13,8 @@ use Rattle.cloak_model.specs.Contexts.{Context, Resumed, Admitted, context_at, w
 use Rattle.cloak_model.specs.DomainState.{Control, Domain}
 use Rattle.cloak_model.specs.DomainStep.{resume_told, resume_slot}
 use Rattle.cloak_model.specs.Parts.{Joint}
-use Rattle.cloak_model.specs.Resuming.{AfterResume, violated, space_of, by_root, by_context, by_domain, resume}
+use Rattle.cloak_model.specs.Resuming.{AfterResume, violated, space_of, resume}
+use Rattle.cloak_model.proofs.ResumeParts.{by_root, by_context, by_domain}
 use Rattle.cause_law.specs.Causes.{context_running}
 use Rattle.cause_law.proofs.Kept.{IsKept}
 
@@ -87,7 +88,7 @@ domain_by j hart satp ctx reply (Some was) = slot_by j hart satp ctx reply was _
 -- the violation of a resuming
 pub resume_refuses : (j : Joint) (hart satp ctx reply : ℕ) →
     (resume j hart satp ctx reply).violation ≡ refusal j satp ctx (context_running j ctx)
-unfolding resume
+unfolding resume by_domain by_context by_root
 resume_refuses j hart satp ctx reply = domain_by j hart satp ctx reply (slice_get j.domains (domain_of ctx))
 
 -- What it leaves.
@@ -128,5 +129,5 @@ domain_leaves j hart satp ctx reply None = refused_leaves j (violation.Context c
 domain_leaves j hart satp ctx reply (Some was) = context_leaves j satp ctx reply was _ _
 
 pub resume_leaves : (j : Joint) (hart satp ctx reply : ℕ) → Leaves j (resume j hart satp ctx reply)
-unfolding resume
+unfolding resume by_domain by_context by_root
 resume_leaves j hart satp ctx reply = domain_leaves j hart satp ctx reply _

@@ -30,7 +30,8 @@ use Rattle.cloak_model.specs.Hart.{Hart}
 use Rattle.cloak_model.specs.Joint.{Moment, Turn, next_hart, hart_in, memory_of, outside_ended, domain_ended, with_domain, after_domain_step, interrupt_ended, after_interrupt, by_interrupt, by_running, inside_step, turn_of, domain_met, end_domain, ends_once, ends_resumed, ends_asked, answers_violation, step_before_end, joint_step, stop_of, stop_without_miss}
 use Rattle.cloak_model.specs.KernelStep.{ticked}
 use Rattle.cloak_model.specs.Parts.{Joint}
-use Rattle.cloak_model.specs.Resuming.{by_root, by_context, by_domain, resume}
+use Rattle.cloak_model.specs.Resuming.{resume}
+use Rattle.cloak_model.proofs.ResumeParts.{by_root, by_context, by_domain}
 use Rattle.cloak_model.specs.World.{World, Cloaked, items_of, violation_of, is_missed, cipher_items}
 use Rattle.kernel_isolation.proofs.Numbers.{number_at}
 use Rattle.kernel_isolation.proofs.Turns.{IsSteady}
@@ -114,7 +115,7 @@ domain_tells d j hart satp ctx reply (Some was) = context_tells d j satp ctx rep
 
 resume_tells : (d : ℕ) (j : Joint) (hart satp ctx reply : ℕ) →
     list_any is_stop (inward_half d (resume j hart satp ctx reply).items) ≡ false
-unfolding resume
+unfolding resume by_domain by_context by_root
 resume_tells d j hart satp ctx reply = domain_tells d j hart satp ctx reply _
 
 ciphers_tell : (d : ℕ) (ciphers : List (ℕ × List ℕ)) → list_any is_stop (inward_half d (cipher_items ciphers)) ≡ false

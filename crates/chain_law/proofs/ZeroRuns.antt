@@ -31,7 +31,8 @@ use Rattle.cloak_model.specs.Ledger.{Keys}
 use Rattle.cloak_model.specs.Opening.{Opened, numbers_below, started_joint, started_ledger, started_memory}
 use Rattle.cloak_model.specs.PageMoves.{place_with}
 use Rattle.cloak_model.specs.Parts.{Joint}
-use Rattle.cloak_model.specs.Resuming.{by_root, by_context, by_domain, resume}
+use Rattle.cloak_model.specs.Resuming.{resume}
+use Rattle.cloak_model.proofs.ResumeParts.{by_root, by_context, by_domain}
 use Rattle.cloak_model.specs.Run.{Run, run_from, run_of, turns_from, first_moment, joint_after, closing, settled_below}
 use Rattle.cloak_model.specs.StoredFiles.{PageContent, FileContents}
 use Rattle.cloak_model.specs.World.{World, Cloak, Cloaked, ram_of, settled}
@@ -80,7 +81,7 @@ domain_tidy j hart satp ctx reply None tidy = tidy
 domain_tidy j hart satp ctx reply (Some was) tidy = context_tidy j satp ctx reply was _ _ tidy
 
 resume_tidy : (j : Joint) (hart satp ctx reply : ℕ) → JointTidy j → JointTidy (resume j hart satp ctx reply).joint
-unfolding resume
+unfolding resume by_domain by_context by_root
 resume_tidy j hart satp ctx reply tidy = domain_tidy j hart satp ctx reply _ tidy
 
 ended_tidy : (j : Joint) (number : ℕ) (items : List Item) (e : Kernel) → JointTidy j →

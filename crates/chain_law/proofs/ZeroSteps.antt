@@ -9,7 +9,8 @@ use Rattle.cloak_model.specs.AskPages.{ask_copy, ask_forget}
 use Rattle.cloak_model.specs.Contexts.{Context}
 use Rattle.cloak_model.specs.DomainState.{Control, Domain}
 use Rattle.cloak_model.specs.DomainStep.{domain_step}
-use Rattle.cloak_model.specs.Fork.{marked, private_numbers, free_numbers, ask_copies, ask_forgets, fork_cleared, fork_if, fork, end_cleared, end_if, end_context}
+use Rattle.cloak_model.specs.Fork.{marked, private_numbers, free_numbers, ask_copies, ask_forgets, fork, end_context}
+use Rattle.cloak_model.proofs.ForkParts.{fork_cleared, fork_if, end_cleared, end_if}
 use Rattle.cloak_model.specs.Hypercalls.{Hypercall, ForkSpace, Exit, hypercall, fork_call, exit_call}
 use Rattle.cloak_model.specs.Resources.{Resources, is_private_to}
 use Rattle.cloak_model.specs.World.{World}
@@ -47,7 +48,6 @@ forgets_learn domain (n ∷ numbers) w =
 fork_cleared_learns : (domain : ℕ) (c : Context) (slot new : ℕ) (r : Resources) (contexts : List (Option Context))
     (a : Answer) (w : World) → (a ≡ told.Ok → MarkedClear domain (marked c.space r) w) →
     Learns w (fork_cleared domain c slot new r contexts a w).world
-unfolding fork_cleared
 fork_cleared_learns domain c slot new r contexts told.Ok w clear =
     copies_learn domain (marked c.space r) (private_numbers c.space r) (free_numbers r) w (private_marked c.space r)
     (clear refl)
@@ -57,7 +57,6 @@ fork_cleared_learns domain c slot new r contexts told.Stopped w clear = learns_s
 
 fork_if_learns : (fits : Result (Unit {0}) MapFault) (domain : ℕ) (c : Context) (r : Resources)
     (contexts : List (Option Context)) (w : World) → Learns w (fork_if fits domain c r contexts w).world
-unfolding fork_if
 fork_if_learns (Err fault) domain c r contexts w = learns_same w
 fork_if_learns (Ok fits) domain c r contexts w = record {
   by = λ knows.
@@ -72,13 +71,11 @@ fork_learns domain c r contexts w = fork_if_learns _ domain c r contexts w
 
 end_cleared_learns : (domain slot space : ℕ) (r : Resources) (contexts : List (Option Context)) (a : Answer)
     (w : World) → Learns w (end_cleared domain slot space r contexts a w).world
-unfolding end_cleared
 end_cleared_learns domain slot space r contexts told.Ok w = forgets_learn domain _ w
 end_cleared_learns domain slot space r contexts _ w = learns_same w
 
 end_if_learns : (others : Bool) (domain slot space : ℕ) (r : Resources) (contexts : List (Option Context)) (w : World) →
     Learns w (end_if others domain slot space r contexts w).world
-unfolding end_if
 end_if_learns true domain slot space r contexts w = learns_same w
 end_if_learns false domain slot space r contexts w =
     learns_then _ _ _ (clear_learns domain (marked space r) w) (end_cleared_learns domain slot space r contexts _ _)

@@ -36,7 +36,8 @@ use Rattle.cloak_model.specs.Joint.{by_running, domain_met, end_domain, refuses,
 use Rattle.cloak_model.specs.Joint.{answers_violation}
 use Rattle.cloak_model.specs.KernelStep.{ticked}
 use Rattle.cloak_model.specs.Parts.{Joint}
-use Rattle.cloak_model.specs.Resuming.{resume, by_domain, by_context, by_root, AfterResume}
+use Rattle.cloak_model.specs.Resuming.{resume, AfterResume}
+use Rattle.cloak_model.proofs.ResumeParts.{by_domain, by_context, by_root}
 use Rattle.cloak_model.specs.World.{World}
 use Rattle.joint_machine.specs.Standing.{step_in}
 use Rattle.cloak_machine.specs.Standing.{HaveFewLoads}
@@ -113,7 +114,7 @@ resumes_domain j hart satp ctx reply None there = record { console = refl; loads
 resumes_domain j hart satp ctx reply (Some was) there = resumes_context j satp ctx reply was _ _ there
 
 resumes : (j : Joint) (hart satp ctx reply : ℕ) → Resumes j (resume j hart satp ctx reply)
-unfolding resume
+unfolding resume by_domain by_context by_root
 resumes j hart satp ctx reply = resumes_domain j hart satp ctx reply _ refl
 
 -- A hart outside.

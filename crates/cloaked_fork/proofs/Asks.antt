@@ -2,7 +2,7 @@
 use Rattle.std.proofs.Common.{◌≡◌, ◌<◌, ◌+◌, ℕ, Bool, true, false, List, [], ◌∷◌, length, drop, get_or, add-one}
 use Rattle.std.proofs.Math.Seq.{drop-cons}
 use Rattle.cloak_model.specs.World.{World}
-use Rattle.cloak_model.specs.Asking.{Asking, Follows}
+use Rattle.cloak_model.specs.Asking.{Follows}
 use Rattle.cloak_model.specs.AskPages.{ask_copy, ask_forget}
 use Rattle.cloak_model.specs.Fork.{ask_copies, ask_forgets, places}
 use Rattle.cloak_model.proofs.Later.{IsLater, IsLater-refl, IsLater-trans}

@@ -1,5 +1,5 @@
 -- Room for a fork.
-use Rattle.std.proofs.Common.{◌≡◌, Bool, true, false, ◌&&◌}
+use Rattle.std.proofs.Common.{Bool, true, false, ◌&&◌}
 use Rattle.std.specs.Prelude.{IsTrue}
 
 -- if there is a slot, a space and room for copies, there is room for copies

@@ -1,5 +1,5 @@
 -- What a fork or an end returns, with what it leaves.
-use Rattle.std.specs.Prelude.{◌≡◌, ℕ, List, Option, Some, unwrap_or, Result}
+use Rattle.std.specs.Prelude.{ℕ, List, Option, unwrap_or, Result}
 use Rattle.cloak_base.specs.declared.names.CtxId.{CtxId}
 use Rattle.cloak_model.specs.declared.inside.Ended.{Ended}
 use Rattle.cloak_model.specs.declared.resource.MapFault.{MapFault}

@@ -6,6 +6,7 @@ ghost use Rattle.cloak_model.specs.Asking.{Follows, Keeps};
 ghost use Rattle.cloak_model.specs.Contexts.{context_at, end_at};
 ghost use Rattle.cloak_model.specs.Resources.{drop_space};
 ghost use Rattle.cloak_model.specs.Fork as spec;
+ghost use Rattle.cloak_model.proofs.ForkParts as parts;
 ghost use Rattle.resource_map.specs.Kept.{IsInUse};
 ghost use Rattle.cloaked_fork.specs.Homes.{AllInUse};
 ghost use Rattle.cloaked_fork.specs.Left as left;
@@ -34,7 +35,7 @@ fn forget_pages<M: PageSide>(r: &Resources, domain: u32, space: u32, m: &mut M)
 
 /// The end of a space's last context goes on once its question for settled frames has this answer: the space ends, or
 /// nothing does.
-#[tactic(auto, using(crate::proofs::Laters::fork_laters), unfolding(cloak_model::specs::Fork::end_cleared))]
+#[tactic(auto, using(crate::proofs::Laters::fork_laters))]
 fn end_settled<M: PageSide>(
     settled: Answer,
     r: &mut Resources,
@@ -51,7 +52,7 @@ fn end_settled<M: PageSide>(
     requires last { list_any (spec.is_of_space space) (end_at slot c.old) ≡ false }
     requires cleared { settled ≡ Answer.Ok → AreCleared (M.is_cleared m.old) (spec.marked space r.old) }
     ensures follows { Follows M.stands_for m.old m.new (left.ending result c.new r.new)
-        (spec.end_cleared domain slot space r.old c.old settled) }
+        (parts.end_cleared domain slot space r.old c.old settled) }
     ensures not_kept { result ≢ Ended.Kept }
     ensures gone { (n : ℕ) → result ≡ Ended.SpaceGone n → n ≡ space }
     ensures gone_leaves { (n : ℕ) → result ≡ Ended.SpaceGone n → left.spaces c.new r.new ≡ left.spaces
@@ -74,7 +75,7 @@ fn end_settled<M: PageSide>(
 }
 
 /// Ends the context of a slot, which is of this space.
-#[tactic(auto, unfolding(cloak_model::specs::Fork::end_context, cloak_model::specs::Fork::end_if))]
+#[tactic(auto, unfolding(cloak_model::specs::Fork::end_context))]
 fn end_in_space<M: PageSide>(
     r: &mut Resources,
     c: &mut Contexts,

@@ -6,6 +6,7 @@ ghost use Rattle.cloak_base.specs.declared.names.CtxId.{CtxId};
 ghost use Rattle.cloak_model.specs.Asking.{Follows, Keeps};
 ghost use Rattle.cloak_model.specs.Contexts.{context_at};
 ghost use Rattle.cloak_model.specs.Fork as spec;
+ghost use Rattle.cloak_model.proofs.ForkParts as parts;
 ghost use Rattle.cloak_model.specs.Resources.{resource_at};
 ghost use Rattle.resource_map.specs.Kept.{IsInUse};
 ghost use Rattle.cloaked_fork.specs.Homes.{AllInUse};
@@ -83,7 +84,7 @@ fn copy_space(r: &mut Resources, c: &mut Contexts, domain: u32, caller: &Context
 }
 
 /// A fork goes on once its question for settled frames has this answer: the space is copied, or nothing is.
-#[tactic(auto, using(crate::proofs::Laters::fork_laters), unfolding(cloak_model::specs::Fork::fork_cleared))]
+#[tactic(auto, using(crate::proofs::Laters::fork_laters))]
 fn fork_settled<M: PageSide>(
     settled: Answer,
     r: &mut Resources,
@@ -99,7 +100,7 @@ fn fork_settled<M: PageSide>(
     requires unused { AreUnused (M.is_unused m.old) r.old }
     requires cleared { settled ≡ Answer.Ok → AreCleared (M.is_cleared m.old) (spec.marked caller.now.space r.old) }
     ensures follows { Follows M.stands_for m.old m.new (left.made_fork (Ok result) c.new r.new)
-        (spec.fork_cleared domain caller.now (left.lowest c.old) (left.lowest r.old.spaces) r.old c.old settled) }
+        (parts.fork_cleared domain caller.now (left.lowest c.old) (left.lowest r.old.spaces) r.old c.old settled) }
     ensures made { IfSome result (λ made. made ≡ left.new_context_number domain c.old) }
     ensures copied { IsSome result → left.spaces c.new r.new ≡ left.forked_spaces caller.now r.old c.old }
     ensures stopped_unchanged { IsNone result → left.spaces c.new r.new ≡ left.spaces c.old r.old }
@@ -118,7 +119,7 @@ fn fork_settled<M: PageSide>(
 }
 
 /// Copies the caller's space, with its context, if there is room.
-#[tactic(auto, using(crate::proofs::Laters::fork_laters), unfolding(cloak_model::specs::Fork::fork, cloak_model::specs::Fork::fork_if))]
+#[tactic(auto, using(crate::proofs::Laters::fork_laters), unfolding(cloak_model::specs::Fork::fork))]
 fn fork_caller<M: PageSide>(
     r: &mut Resources,
     c: &mut Contexts,

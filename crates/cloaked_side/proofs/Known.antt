@@ -44,7 +44,8 @@ use Rattle.cloak_model.specs.declared.access.Walked.{Walked}
 use Rattle.cloak_model.specs.declared.access.Access.{Access}
 use Rattle.cloak_model.specs.declared.regime.InsideRegime.{InsideRegime}
 use Rattle.cloak_base.specs.declared.names.Mode.TheVariants.{U}
-use Rattle.cloak_model.specs.Ask.{shown_word, ask_word, ask_second, ask_after, ask_walk, ask_inside, ask_translate, ask_led, opened, ask_value, ask_store, shown_value, stored_value, loaded_at, ask_load, stored_to, ask_store_at, ask_first}
+use Rattle.cloak_model.specs.Ask.{shown_word, ask_word, ask_walk, ask_inside, ask_translate, ask_led, opened, ask_value, ask_store, shown_value, stored_value, loaded_at, ask_load, stored_to, ask_store_at}
+use Rattle.cloak_model.proofs.WalkParts.{ask_second, ask_after, ask_first}
 use Rattle.cloak_model.specs.Asking.{Told, FollowsFrom, answered}
 use Rattle.cloak_model.specs.Exchange.{Piece}
 use Rattle.cloak_base.specs.Constants.{frame_of, is_in_frames}
@@ -640,13 +641,11 @@ word_since pa c = by (is_in_ram c.memory.ram pa)
 
 after_since : (a : Access) (at1 : ℕ) (word : FirstWord) (c : Cloak) → (c' : Cloak) × ((ask_after a at1 word (Cloaked c)).world ≡ Cloaked c')
     × (touched_since 0 c'.events ≤ touched_since 0 c.events + 1)
-unfolding ask_after ask_second
 after_since a at1 (Ends walk) c = (c, refl, omega arith)
 after_since a at1 (GoesOn at0) c = word_since at0 c
 
 first_since : (a : Access) (at1 : ℕ) (c : Cloak) → (c' : Cloak) × ((ask_first a at1 (Cloaked c)).world ≡ Cloaked c')
     × (touched_since 0 c'.events ≤ touched_since 0 c.events + 2)
-unfolding ask_first
 first_since a at1 c =
     let told = ask_word at1 (Cloaked c) in
     let one = word_since at1 c in

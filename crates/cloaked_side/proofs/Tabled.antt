@@ -7,7 +7,8 @@ use Rattle.cloak_base.specs.declared.names.PageId.{PageId}
 use Rattle.cloak_base.specs.declared.names.SpaceId.{SpaceId}
 use Rattle.cloak_model.specs.declared.access.Access.{Access}
 use Rattle.cloak_model.specs.declared.access.Walked.{Walked}
-use Rattle.cloak_model.specs.Ask.{ask_word, ask_second, ask_after, ask_first, ask_walk}
+use Rattle.cloak_model.specs.Ask.{ask_word, ask_walk}
+use Rattle.cloak_model.proofs.WalkParts.{ask_second, ask_after, ask_first}
 use Rattle.cloak_model.specs.Asking.{Told, answered}
 use Rattle.cloak_model.specs.Events.{Touch}
 use Rattle.cloak_base.specs.Constants.{frame_of}
@@ -38,7 +39,7 @@ second_touches a at1 at0 c w false v is = absurd cc
 
 after_touches : (a : Access) (at1 v : ℕ) (c : Cloak) (w : Walked) (first : FirstWord) → first_word a at1 (Some v) ≡ first
     → (ask_after a at1 first (Cloaked (settled_in (frame_of at1) c))).answer ≡ Ok w → HasTouches c w (ask_after a at1 first (Cloaked (settled_in (frame_of at1) c))).world
-unfolding ask_after ask_second ask_word FirstNames
+unfolding ask_word FirstNames
 after_touches a at1 v c w (Ends walk) word is =
     let named = word_names a at1 (Some v) w (word ∙ ap (λ (x : Walk). Ends x) is) in (
       settled_in (frame_of at1) c,
@@ -50,7 +51,7 @@ after_touches a at1 v c w (GoesOn at0) word is =
     second_touches a at1 at0 c w (is_in_ram c1.memory.ram at0) (value_at (settled_in (frame_of at0) c1).memory.ram at0 4) is
 
 no_word : (a : Access) (at1 : ℕ) (c : Cloak) (w : Walked) → (ask_after a at1 (first_word a at1 None) (Cloaked c)).answer ≡ Ok w → ⊥
-unfolding ask_after first_word
+unfolding first_word
 no_word a at1 c w is = cc
 
 first_touches : (a : Access) (at1 v : ℕ) (c : Cloak) (w : Walked) (b : Bool) →
@@ -60,7 +61,7 @@ first_touches a at1 v c w true is = after_touches a at1 v c w (first_word a at1 
 first_touches a at1 v c w false is = absurd (no_word a at1 c w is)
 
 pub walked_touches : (satp : ℕ) (a : Access) (c : Cloak) (w : Walked) → (ask_walk satp a (Cloaked c)).answer ≡ Ok w → HasTouches c w (ask_walk satp a (Cloaked c)).world
-unfolding ask_walk ask_first ask_word
+unfolding ask_walk ask_word
 walked_touches satp a c w is = by (has_paging satp) is
   where
     by : (b : Bool) → let t = cond b (ask_first a (first_entry satp a.va) (Cloaked c)) (answered (without_paging a) (Cloaked c)) in t.answer ≡ Ok w → HasTouches c w t.world

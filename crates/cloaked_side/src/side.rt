@@ -131,6 +131,8 @@ impl<'m, 'e, E: Emit> Ram for Side<'m, 'e, E> {
 
     ghost count = { λ side. frames_of side.memory.now };
 
+    // Made twice for a hart outside: for its fetches, and for its loads.
+    #[inline(always)]
     fn load(&mut self, satp: u32, access: Access, width: u32) -> Result<u32, u32> {
         let regime = Regime::Outside {
             satp,

@@ -14,11 +14,10 @@ use Rattle.cloak_model.specs.declared.image.Program.{Program}
 use Rattle.cloak_model.specs.declared.item.Item.{Item}
 use Rattle.cloak_model.specs.DomainAlone.{DomainAlone, domain_alone, domain_taken, opened_domain, take_domain_item}
 use Rattle.cloak_model.specs.BundleFault.{bundle_fault}
-use Rattle.cloak_model.specs.Exchange.{item_bytes, record_magic}
+use Rattle.cloak_model.specs.Exchange.{item_bytes, record_magic, byte_of}
 use Rattle.cloak_model.specs.Opening.{Lack, NoKey, NoPageDraw}
 use Rattle.cloak_model.specs.KernelAlone.{KernelAlone, kernel_alone, kernel_taken, opened_kernel, take_kernel_item}
 use Rattle.cloak_model.specs.Record.{IsItem, IsRecord}
-use Rattle.cloak_model.specs.RecordFault.{byte_of}
 use Rattle.record_law.proofs.Spelling.{fields_of, item_bytes-parts, tag_at}
 use Rattle.record_law.proofs.Judged.{not_both, one_record, same_item}
 use Rattle.domain_isolation.proofs.Ignoring.{taken_append}

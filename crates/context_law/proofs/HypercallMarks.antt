@@ -18,7 +18,8 @@ use Rattle.cloak_model.specs.Contexts.{Context, set_word, in_phase, moved_on, ha
 use Rattle.cloak_model.specs.DomainState.{Control}
 use Rattle.cloak_model.specs.Files.{file_resource}
 use Rattle.cloak_model.specs.declared.resource.Owner.TheVariants.{Space}
-use Rattle.cloak_model.specs.Fork.{fork_fits, forked, child, fork_cleared, fork_if, fork, end_cleared, end_if, end_context}
+use Rattle.cloak_model.specs.Fork.{fork_fits, forked, child, fork, end_context}
+use Rattle.cloak_model.proofs.ForkParts.{fork_cleared, fork_if, end_cleared, end_if}
 use Rattle.cloak_model.specs.Hypercalls.{Stepped, with_slot, with_answer, answers_word, number_word, number_told, remapped, new_call, map_call, unmap_call, file_call, thread_at, thread_call, with_spaces, fork_told, fork_call, end_told, exit_call, call_begun, kernel_call, Hypercall, New, File as FileCall, Thread, ForkSpace, Exit, Call, Unknown, hypercall}
 use Rattle.cloak_model.specs.Resources.{Resources, Mapped, first_free, new_resource}
 use Rattle.cloak_model.specs.World.{World}
@@ -72,13 +73,11 @@ module _ (slot : ℕ) (c : Context) where
   fork_cleared_none : (domain free new : ℕ) (r : Resources) (contexts : List (Option Context)) (a : Answer)
       (w : World) →
       NoMore contexts (fork_cleared domain c free new r contexts a w).answer.spaces.contexts
-  unfolding fork_cleared
   fork_cleared_none domain free new r contexts told.Ok w = forked_none free new r contexts
   fork_cleared_none domain free new r contexts _ w = same_none contexts
 
   fork_if_none : (fits : Result (Unit {0}) MapFault) (domain : ℕ) (r : Resources) (contexts : List (Option Context))
       (w : World) → NoMore contexts (fork_if fits domain c r contexts w).answer.spaces.contexts
-  unfolding fork_if
   fork_if_none (Err f) domain r contexts w = same_none contexts
   fork_if_none (Ok fits) domain r contexts w = fork_cleared_none domain _ _ r contexts _ _
 
@@ -104,13 +103,11 @@ module _ (slot : ℕ) (c : Context) where
 
   end_cleared_none : (domain space : ℕ) (r : Resources) (contexts : List (Option Context)) (a : Answer) (w : World) →
       NoMore contexts (end_cleared domain slot space r contexts a w).answer.spaces.contexts
-  unfolding end_cleared
   end_cleared_none domain space r contexts told.Ok w = set_none contexts slot None refl
   end_cleared_none domain space r contexts _ w = same_none contexts
 
   end_if_none : (others : Bool) (domain space : ℕ) (r : Resources) (contexts : List (Option Context)) (w : World) →
       NoMore contexts (end_if others domain slot space r contexts w).answer.spaces.contexts
-  unfolding end_if
   end_if_none true domain space r contexts w = set_none contexts slot None refl
   end_if_none false domain space r contexts w = end_cleared_none domain space r contexts _ _
 

@@ -25,7 +25,8 @@ use Rattle.cloak_model.specs.Hart.{Hart}
 use Rattle.cloak_model.specs.Joint.{Moment, Turn, next_hart, hart_in, cloak_of, memory_of, outside_ended, after_outside, outside_step, domain_ended, after_domain_step, pages_for, interrupt_ended, after_interrupt, by_interrupt, by_running, inside_step, turn_of, domain_met, end_domain, ends_once, ends_resumed, ends_asked, answers_violation, joint_step}
 use Rattle.cloak_model.specs.KernelStep.{ticked}
 use Rattle.cloak_model.specs.Parts.{Joint}
-use Rattle.cloak_model.specs.Resuming.{by_root, by_context, by_domain, resume}
+use Rattle.cloak_model.specs.Resuming.{resume}
+use Rattle.cloak_model.proofs.ResumeParts.{by_root, by_context, by_domain}
 use Rattle.cloak_model.specs.World.{World, Cloak, Cloaked, items_of}
 use Rattle.kernel_isolation.proofs.Numbers.{AreFrom, number_at}
 use Rattle.resource_map.proofs.Lists.{get_or-replicate_none}
@@ -105,7 +106,7 @@ domain_none j hart satp ctx reply (Some was) there d k word is =
     context_none j satp ctx reply was _ _ there (resume_none (slot_of ctx) hart reply was.control) d k word is
 
 resumed_none : (j : Joint) (hart satp ctx reply : ℕ) → NoneNew j.domains (resume j hart satp ctx reply).joint.domains
-unfolding resume
+unfolding resume by_domain by_context by_root
 resumed_none j hart satp ctx reply d k word is = domain_none j hart satp ctx reply _ refl d k word is
 
 outside_ended_none : (j : Joint) (number : ℕ) (items : List Item) (e : Kernel) →

@@ -18,7 +18,8 @@ use Rattle.cloak_model.specs.Joint.{Moment, Turn, after_domain_step, after_inter
 use Rattle.cloak_model.specs.KernelStep.{ticked}
 use Rattle.cloak_model.specs.Memory.{Seen, filled}
 use Rattle.cloak_model.specs.Parts.{Joint}
-use Rattle.cloak_model.specs.Resuming.{by_context, by_domain, by_root, resume}
+use Rattle.cloak_model.specs.Resuming.{resume}
+use Rattle.cloak_model.proofs.ResumeParts.{by_context, by_domain, by_root}
 use Rattle.cloak_model.specs.World.{World, Cloak, items_of}
 use Rattle.settling_ahead.proofs.Laws.{shown_touched}
 use Rattle.reservation_law.proofs.Keeping.{AreWhole, whole_set}
@@ -46,7 +47,7 @@ domain_leaves j hart satp ctx reply None = refl
 domain_leaves j hart satp ctx reply (Some was) = context_leaves j satp ctx reply was _ _
 
 resume_leaves : (j : Joint) (hart satp ctx reply : ℕ) → (resume j hart satp ctx reply).joint.disk ≡ j.disk
-unfolding resume
+unfolding resume by_domain by_context by_root
 resume_leaves j hart satp ctx reply = domain_leaves j hart satp ctx reply _
 
 -- A hart outside.

@@ -21,7 +21,8 @@ use Rattle.cloak_model.specs.World.{Cloak, Flat, items_of}
 use Rattle.cloak_model.specs.Contexts.{Admitted, context_at, domain_of, slot_of, admit}
 use Rattle.cloak_model.specs.DomainState.{Domain}
 use Rattle.cloak_model.specs.DomainStep.{resume_slot}
-use Rattle.cloak_model.specs.Resuming.{AfterResume, violated, with_roots, with_domain_control, space_of, by_root, by_context, by_domain, resume}
+use Rattle.cloak_model.specs.Resuming.{AfterResume, violated, space_of, resume}
+use Rattle.cloak_model.proofs.ResumeParts.{with_roots, with_domain_control, by_root, by_context, by_domain}
 use Rattle.cloak_model.specs.Parts.{Joint, DomainPart, domain_pages}
 use Rattle.cloak_model.specs.Joint.{Turn, quiet, hart_in, with_hart, cloak_outside, memory_of, outside_ended, after_outside, outside_step}
 use Rattle.cloak_model.specs.DomainAlone.{DomainAlone, Other, domain_taken, slot_on, place_for, is_granted, with_control}
@@ -236,7 +237,7 @@ outside_ended_alone : (d count : ℕ) (schedule : List ℕ) (k n : ℕ) (p : Dom
     (disk : List ℕ) (m : CloakedMemory) (items : List Item) (ending : Kernel) →
     OutsideStep d count n p j h disk m items → h.inside ≡ inside_after ending None →
     StepAlone d count schedule k n p None (outside_ended (stepped_to n j h disk m) n items ending)
-unfolding outside_ended resume
+unfolding outside_ended resume by_domain by_context by_root
 outside_ended_alone d count schedule k n p j h disk m items (Put b) o goes =
     let j' = stepped_to n j h disk m in
     let has = outside_has d count n p j h disk m items o in

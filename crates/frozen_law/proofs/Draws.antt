@@ -15,7 +15,8 @@ use Rattle.cloak_model.specs.DomainState.{Control, Domain}
 use Rattle.cloak_model.specs.DomainStep.{domain_step}
 use Rattle.cloak_model.specs.Ending.{ask_end}
 use Rattle.cloak_model.specs.Events.{Event}
-use Rattle.cloak_model.specs.Fork.{marked, ask_copies, fork_cleared, fork_if, fork, end_cleared, end_if, end_context}
+use Rattle.cloak_model.specs.Fork.{marked, ask_copies, fork, end_context}
+use Rattle.cloak_model.proofs.ForkParts.{fork_cleared, fork_if, end_cleared, end_if}
 use Rattle.cloak_model.specs.Hypercalls.{Hypercall, ForkSpace, Exit, hypercall, fork_call, exit_call}
 use Rattle.cloak_model.specs.Ledger.{vector_of}
 use Rattle.cloak_model.specs.PageMoves.{copy_pages, drop_pages}
@@ -209,13 +210,11 @@ adds_copies d (copy ∷ rest) w =
 
 adds_fork_cleared : (d : ℕ) (c : Context) (slot new : ℕ) (r : Resources) (contexts : List (Option Context)) (a : Answer)
     (w : World) → Adds 0 w (fork_cleared d c slot new r contexts a w).world
-unfolding fork_cleared
 adds_fork_cleared d c slot new r contexts told.Ok w = adds_copies d _ w
 adds_fork_cleared d c slot new r contexts _ w = adds_none w
 
 adds_fork_if : (fits : Result (Unit {0}) MapFault) (d : ℕ) (c : Context) (r : Resources)
     (contexts : List (Option Context)) (w : World) → Adds 0 w (fork_if fits d c r contexts w).world
-unfolding fork_if
 adds_fork_if (Err fault) d c r contexts w = adds_none w
 adds_fork_if (Ok fits) d c r contexts w =
     adds_then 0 0 _ _ _ (clear_keeps AnyPage Adds changes d (marked c.space r) w)
@@ -228,13 +227,11 @@ adds_fork d c r contexts w = adds_fork_if _ d c r contexts w
 
 adds_end_cleared : (d slot space : ℕ) (r : Resources) (contexts : List (Option Context)) (a : Answer) (w : World) →
     Adds 0 w (end_cleared d slot space r contexts a w).world
-unfolding end_cleared
 adds_end_cleared d slot space r contexts told.Ok w = forgets_keep AnyPage Adds changes adds_forget d _ w
 adds_end_cleared d slot space r contexts _ w = adds_none w
 
 adds_end_if : (others : Bool) (d slot space : ℕ) (r : Resources) (contexts : List (Option Context)) (w : World) →
     Adds 0 w (end_if others d slot space r contexts w).world
-unfolding end_if
 adds_end_if true d slot space r contexts w = adds_none w
 adds_end_if false d slot space r contexts w =
     adds_then 0 0 _ _ _ (clear_keeps AnyPage Adds changes d (marked space r) w)

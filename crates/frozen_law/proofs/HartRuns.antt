@@ -32,7 +32,8 @@ use Rattle.cloak_model.specs.KernelStep.{ticked}
 use Rattle.cloak_model.specs.Opening.{Opened, started_harts, started_kernel, started_joint}
 use Rattle.cloak_model.specs.Parts.{Joint}
 use Rattle.cloak_model.specs.Record.{IsWord}
-use Rattle.cloak_model.specs.Resuming.{by_root, by_context, by_domain, resume}
+use Rattle.cloak_model.specs.Resuming.{resume}
+use Rattle.cloak_model.proofs.ResumeParts.{by_root, by_context, by_domain}
 use Rattle.cloak_model.specs.Run.{Run, run_from}
 use Rattle.cloak_model.specs.StoredFiles.{FileContents}
 use Rattle.cloak_model.specs.World.{World, Flat}
@@ -78,7 +79,7 @@ domain_fits j hart satp ctx reply None all = all
 domain_fits j hart satp ctx reply (Some was) all = context_fits j satp ctx reply was _ _ all
 
 resume_fits : (j : Joint) (hart satp ctx reply : ℕ) → JointFits j → JointFits (resume j hart satp ctx reply).joint
-unfolding resume
+unfolding resume by_domain by_context by_root
 resume_fits j hart satp ctx reply all = domain_fits j hart satp ctx reply _ all
 
 ended_fits : (j : Joint) (number : ℕ) (items : List Item) (e : Kernel) → JointFits j →

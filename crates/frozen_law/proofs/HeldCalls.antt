@@ -32,7 +32,8 @@ use Rattle.cloak_model.specs.Contexts.{Context, context_at}
 use Rattle.cloak_model.specs.DomainState.{Control, Domain}
 use Rattle.cloak_model.specs.DomainStep.{DomainStepped, instruction_ended, copy_ended, after_write, phase_step, step_if, domain_step}
 use Rattle.cloak_model.specs.Events.{Event}
-use Rattle.cloak_model.specs.Fork.{Fork, End, marked, private_numbers, copies, ask_copies, ask_forgets, forked, forked_resources, fork_cleared, fork_if, fork, end_cleared, end_if, end_context}
+use Rattle.cloak_model.specs.Fork.{Fork, End, marked, private_numbers, copies, ask_copies, ask_forgets, forked, forked_resources, fork, end_context}
+use Rattle.cloak_model.proofs.ForkParts.{fork_cleared, fork_if, end_cleared, end_if}
 use Rattle.cloak_model.specs.Hypercalls.{Stepped, with_spaces, remapped, new_call, map_call, unmap_call, file_call, thread_at, thread_call, fork_told, fork_call, end_told, exit_call, call_begun, kernel_call, Hypercall, New, Map, Unmap, File as FileCall, Thread, ForkSpace, Exit, Call, Unknown, hypercall, hypercall_of}
 use Rattle.cloak_model.specs.InsideStep.{instruction_inside}
 use Rattle.cloak_model.specs.Ledger.{Ledger}
@@ -285,7 +286,7 @@ module _ (Other : PageId → Type 0) (d : Control) (sound : IsSound d.resources)
 
   fork_cleared_holds : (slot free new : ℕ) (c : Context) (a : Answer) (w : World) → OfIn Was w →
       ForkHolds slot c (fork_cleared d.number c free new d.resources d.contexts a w)
-  unfolding fork_cleared fork_told forked
+  unfolding fork_told forked
   fork_cleared_holds slot free new c told.Ok w of =
       let r' : Resources = forked_resources c.space new d.resources in
       copies_in (Kind r') d.number (copies c.space d.resources) w
@@ -297,7 +298,7 @@ module _ (Other : PageId → Type 0) (d : Control) (sound : IsSound d.resources)
 
   fork_if_holds : (slot : ℕ) (fits : Result (Unit {0}) MapFault) (c : Context) (w : World) → InWorld (KnowsOf Was) w →
       ForkHolds slot c (fork_if fits d.number c d.resources d.contexts w)
-  unfolding fork_if fork_told
+  unfolding fork_told
   fork_if_holds slot (Err fault) c w knows = of_knows Was w knows
   fork_if_holds slot (Ok fits) c w knows =
       let t = ask_clear d.number (marked c.space d.resources) w in
@@ -318,7 +319,7 @@ module _ (Other : PageId → Type 0) (d : Control) (sound : IsSound d.resources)
   end_cleared_holds : (slot : ℕ) (c : Context) (a : Answer) (w : World) →
       (a ≡ told.Ok → MarkedClear d.number (marked c.space d.resources) w) → OfIn Was w →
       EndHolds slot c (end_cleared d.number slot c.space d.resources d.contexts a w)
-  unfolding end_cleared end_told
+  unfolding end_told
   end_cleared_holds slot c told.Ok w clear of =
       let r = d.resources in
       let numbers = private_numbers c.space r in
@@ -336,7 +337,7 @@ module _ (Other : PageId → Type 0) (d : Control) (sound : IsSound d.resources)
 
   end_if_holds : (others : Bool) (slot : ℕ) (c : Context) (w : World) → InWorld (KnowsOf Was) w →
       EndHolds slot c (end_if others d.number slot c.space d.resources d.contexts w)
-  unfolding end_if end_told
+  unfolding end_told
   end_if_holds true slot c w knows = of_knows Was w knows
   end_if_holds false slot c w knows =
       let marks = marked c.space d.resources in

@@ -24,7 +24,8 @@ use Rattle.cloak_model.specs.KernelStep.{kernel_step, ticked}
 use Rattle.cloak_model.specs.Opening.{numbers_below}
 use Rattle.cloak_model.specs.Parts.{Joint}
 use Rattle.cloak_model.specs.Resources.{Resources}
-use Rattle.cloak_model.specs.Resuming.{with_roots, by_root, by_context, by_domain, resume}
+use Rattle.cloak_model.specs.Resuming.{resume}
+use Rattle.cloak_model.proofs.ResumeParts.{with_roots, by_root, by_context, by_domain}
 use Rattle.cloak_model.specs.World.{World, Cloak, Flat, Cloaked, seen_of}
 use Rattle.domain_isolation.proofs.InOrder.{decided}
 use Rattle.kernel_isolation.proofs.Accounts.{is_joint, IsJointWorld, ram_seen}
@@ -162,7 +163,7 @@ module _ (j : Joint) (from : AreFrom 0 j.domains) where
       (resume_kept (slot_of ctx) hart reply was.control low keeps) here
 
   resume_good : (hart satp ctx reply : ℕ) → hart < 4 → JointGood j → JointGood (resume j hart satp ctx reply).joint
-  unfolding resume
+  unfolding resume by_domain by_context by_root
   resume_good hart satp ctx reply low here =
       domain_good hart satp ctx reply _ low refl (here.keep (domain_of ctx)) here
 

@@ -21,7 +21,8 @@ use Rattle.cloak_model.specs.Joint.{Moment, Turn, next_hart, cloak_of, cloak_out
 use Rattle.cloak_model.specs.KernelStep.{kernel_step, ticked}
 use Rattle.cloak_model.specs.Memory.{Seen, with_mark}
 use Rattle.cloak_model.specs.Parts.{Joint}
-use Rattle.cloak_model.specs.Resuming.{with_roots, by_root, by_context, by_domain, resume}
+use Rattle.cloak_model.specs.Resuming.{resume}
+use Rattle.cloak_model.proofs.ResumeParts.{with_roots, by_root, by_context, by_domain}
 use Rattle.cloak_model.specs.World.{World, Cloak, Flat, Cloaked, Alone, seen_of}
 use Rattle.kernel_isolation.proofs.Settlings.{HasPlaces}
 use Rattle.limit_law.proofs.Endings.{answers_keep}
@@ -93,7 +94,7 @@ module _ (P Q : CloakedMemory → Type 0) (k : Moves P Q) where
   domain_kept j hart satp ctx reply (Some was) here = context_kept j satp ctx reply was _ _ here
 
   resume_kept : (j : Joint) (hart satp ctx reply : ℕ) → JointQ j → JointQ (resume j hart satp ctx reply).joint
-  unfolding resume
+  unfolding resume by_domain by_context by_root
   resume_kept j hart satp ctx reply here = domain_kept j hart satp ctx reply _ here
 
   outside_ended_kept : (j : Joint) (number : ℕ) (items : List Item) (e : Kernel) → JointQ j →

@@ -20,7 +20,8 @@ use Rattle.cloak_model.specs.DomainState.{Control, Domain}
 use Rattle.cloak_model.specs.DomainStep.{domain_step}
 use Rattle.cloak_model.specs.Ending.{all_marked, settled_for, ask_end}
 use Rattle.cloak_model.specs.Events.{Event}
-use Rattle.cloak_model.specs.Fork.{marked, private_numbers, free_numbers, ask_copies, ask_forgets, fork_cleared, fork_if, fork, end_cleared, end_if, end_context}
+use Rattle.cloak_model.specs.Fork.{marked, private_numbers, free_numbers, ask_copies, ask_forgets, fork, end_context}
+use Rattle.cloak_model.proofs.ForkParts.{fork_cleared, fork_if, end_cleared, end_if}
 use Rattle.cloak_model.specs.Hypercalls.{Hypercall, ForkSpace, Exit, hypercall, fork_call, exit_call}
 use Rattle.cloak_model.specs.Memory.{is_in_ram}
 use Rattle.cloak_model.specs.Opening.{numbers_below}
@@ -231,7 +232,6 @@ learns_copies domain marks (n ∷ numbers) (to ∷ free) w all clear =
 fork_cleared_learns : (domain : ℕ) (c : Context) (slot new : ℕ) (r : Resources) (contexts : List (Option Context))
     (a : Answer) (w : World) → (a ≡ told.Ok → MarkedClear domain (marked c.space r) w) →
     Learns 0 w (fork_cleared domain c slot new r contexts a w).world
-unfolding fork_cleared
 fork_cleared_learns domain c slot new r contexts told.Ok w clear =
     learns_copies domain (marked c.space r) (private_numbers c.space r) (free_numbers r) w (private_marked c.space r)
     (clear refl)
@@ -241,7 +241,6 @@ fork_cleared_learns domain c slot new r contexts told.Stopped w clear = learns_n
 
 fork_if_learns : (fits : Result (Unit {0}) MapFault) (domain : ℕ) (c : Context) (r : Resources)
     (contexts : List (Option Context)) (w : World) → Learns 0 w (fork_if fits domain c r contexts w).world
-unfolding fork_if
 fork_if_learns (Err fault) domain c r contexts w = learns_none w
 fork_if_learns (Ok fits) domain c r contexts w = record {
   by = λ knows.
@@ -257,13 +256,11 @@ fork_learns domain c r contexts w = fork_if_learns _ domain c r contexts w
 
 end_cleared_learns : (domain slot space : ℕ) (r : Resources) (contexts : List (Option Context)) (a : Answer)
     (w : World) → Learns 0 w (end_cleared domain slot space r contexts a w).world
-unfolding end_cleared
 end_cleared_learns domain slot space r contexts told.Ok w = forgets_keep AnyPage Learns changes learns_forget domain _ w
 end_cleared_learns domain slot space r contexts _ w = learns_none w
 
 end_if_learns : (others : Bool) (domain slot space : ℕ) (r : Resources) (contexts : List (Option Context)) (w : World) →
     Learns 0 w (end_if others domain slot space r contexts w).world
-unfolding end_if
 end_if_learns true domain slot space r contexts w = learns_none w
 end_if_learns false domain slot space r contexts w =
     learns_then 0 0 _ _ _ (clear_keeps AnyPage Learns changes domain (marked space r) w)

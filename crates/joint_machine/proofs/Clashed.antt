@@ -17,7 +17,8 @@ use Rattle.cloak_model.specs.Hart.{Hart}
 use Rattle.cloak_model.specs.Joint.{after_interrupt, after_kernel_step, after_outside, by_interrupt, by_running, after_domain_step, cloak_outside, domain_ended, hart_in, inside_step, interrupt_ended, memory_of, outside_ended, outside_step, turn_of}
 use Rattle.cloak_model.specs.KernelStep.{ticked}
 use Rattle.cloak_model.specs.Parts as model
-use Rattle.cloak_model.specs.Resuming.{by_context, by_domain, by_root, resume}
+use Rattle.cloak_model.specs.Resuming.{resume}
+use Rattle.cloak_model.proofs.ResumeParts.{by_context, by_domain, by_root}
 use Rattle.cloak_model.specs.Run.{closing, settled_below}
 use Rattle.cloak_model.specs.World.{World, Cloak, items_of}
 use Rattle.cloak_model.proofs.Clashes.{settle_clashed}
@@ -50,7 +51,7 @@ domain_leaves j hart satp ctx reply None = record { clashed = refl; console = re
 domain_leaves j hart satp ctx reply (Some was) = context_leaves j satp ctx reply was _ _
 
 resume_leaves : (j : model.Joint) (hart satp ctx reply : ℕ) → LeavesBoth j (resume j hart satp ctx reply).joint
-unfolding resume
+unfolding resume by_domain by_context by_root
 resume_leaves j hart satp ctx reply = domain_leaves j hart satp ctx reply _
 
 -- A hart outside.

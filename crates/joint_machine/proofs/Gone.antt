@@ -14,7 +14,7 @@ use Rattle.cloak_model.specs.Hart.{Hart}
 use Rattle.cloak_model.specs.Joint.{domain_ended, without_root}
 use Rattle.cloak_model.specs.Leaving.{leave}
 use Rattle.cloak_model.specs.Parts as model
-use Rattle.cloak_model.specs.Resuming.{with_roots}
+use Rattle.cloak_model.proofs.ResumeParts.{with_roots}
 use Rattle.cloak_model.specs.World.{World, items_of, violation_of}
 use Rattle.cloak_base.specs.declared.names.PageId.{PageId}
 use Rattle.cloak_base.specs.declared.names.Meta.{Meta}

@@ -13,7 +13,8 @@ use Rattle.cloak_model.specs.DomainState as program
 use Rattle.cloak_model.specs.DomainStep.{resume_slot, resume_told}
 use Rattle.cloak_model.specs.Exchange.{Piece, Emits, item_pieces}
 use Rattle.cloak_model.specs.Parts as model
-use Rattle.cloak_model.specs.Resuming.{AfterResume, by_context, by_domain, by_root, resume, space_of, violated}
+use Rattle.cloak_model.specs.Resuming.{AfterResume, resume, space_of, violated}
+use Rattle.cloak_model.proofs.ResumeParts.{by_context, by_domain, by_root}
 use Rattle.cloaked_side.specs.Holding.{Holds}
 use Rattle.cloaked_side.specs.declared.memory.Memory.{Memory}
 use Rattle.cloaked_side.proofs.Emitting.{emits_none}
@@ -194,7 +195,7 @@ module _ {E : Type 0} (gave : E → E → List Piece → Type 0) (e : E) (domain
 
 pub resumes_none : {E : Type 0} (gave : E → E → List Piece → Type 0) (e : E) (joint : Joint) (given : Option Violation) (j : model.Joint) (number satp ctx reply : ℕ) →
     StandsForJoint joint j → length joint.domains.items ≤ domain_of ctx → given ≡ Some (violation.Context ctx) → ResumesJoint gave e e joint given (resume j number satp ctx reply)
-unfolding resume by_domain
+unfolding resume by_domain by_context by_root
 resumes_none gave e joint given j number satp ctx reply s past met = subst (λ (o : Option program.Domain). ResumesJoint gave e e joint given (by_domain j number satp ctx reply o)) (sym (none_past joint.domains.items j.domains (domain_of ctx) s.domains past)) (record {
   emits = emits_none gave e;
   violation = met;
@@ -207,7 +208,7 @@ pub resumes_there : {E : Type 0} (gave : E → E → List Piece → Type 0) (e e
     new.ended ≡ old.ended → new.refused ≡ old.refused →
     ((was : program.Domain) → slice_get j.domains (domain_of ctx) ≡ Some was → StandsFor x was → ResumesIn gave e e' x' new.roots given j (domain_of ctx) (by_domain j number satp ctx reply (Some was))) →
     ResumesJoint gave e e' new given (resume j number word ctx reply)
-unfolding resume
+unfolding resume by_domain by_context by_root
 resumes_there gave e e' old new given j number satp word ctx reply x x' same s there harts disk memory domains ended refused resumes =
     let at = domain_at old.domains.items j.domains (domain_of ctx) x s.domains there in
     let was = at.0 in

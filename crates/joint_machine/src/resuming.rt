@@ -5,6 +5,7 @@ ghost use Rattle.cloak_model.specs.Csr.{satp_of};
 ghost use Rattle.cloak_model.specs.DomainState as model;
 ghost use Rattle.cloak_model.specs.Exchange.{EmitsSome};
 ghost use Rattle.cloak_model.specs.Parts as parts;
+ghost use Rattle.cloak_model.proofs.ResumeParts as resumed;
 ghost use Rattle.cloak_model.specs.Resuming as spec;
 ghost use Rattle.hypercalls.specs.Standing.{StandsFor, control_of, number_of};
 ghost use Rattle.joint_machine.specs.Turning.{AreRoots, ResumesIn, idle_space};
@@ -47,7 +48,7 @@ fn resume_in<E: Emit>(
     ensures resumes { (j : parts.Joint) (was : model.Domain) → slice_get j.domains (domain_of ctx) ≡ Some was →
         StandsFor domain.old was → AreRoots roots.old j.memory.ledger.root →
         ResumesIn E.gave e.old e.new domain.new roots.new result j (domain_of ctx)
-        (spec.by_domain j hart.0 satp ctx answer (Some was)) }
+        (resumed.by_domain j hart.0 satp ctx answer (Some was)) }
 {
     let Some(space) = idle_space(domain, ctx % 8) else {
         return Some(Violation::Context { ctx });

@@ -9,7 +9,8 @@ use Rattle.rv_isa.specs.Fields.{bits}
 use Rattle.cloak_base.specs.declared.names.Kind.{Kind}
 use Rattle.cloak_model.specs.declared.access.Access.{Access}
 use Rattle.cloak_model.specs.declared.access.Walked.{Walked}
-use Rattle.cloak_model.specs.Ask.{ask_word, ask_second, ask_after, ask_first, ask_walk, ask_inside, ask_translate, ask_led}
+use Rattle.cloak_model.specs.Ask.{ask_word, ask_walk, ask_inside, ask_translate, ask_led}
+use Rattle.cloak_model.proofs.WalkParts.{ask_second, ask_after, ask_first}
 use Rattle.cloak_model.specs.AskPages.{ask_inside_address}
 use Rattle.cloak_model.specs.Asking.{Told}
 use Rattle.cloak_model.specs.Effect.{IsWidth}
@@ -71,12 +72,10 @@ keeps_first_word a at1 (Some e) =
 
 keeps_after : (a : Access) (at1 : ℕ) (word : FirstWord) (w : World) → KeepsEnd a.va word →
     KeepsPlace a.va (ask_after a at1 word w).answer
-unfolding ask_after ask_second
 keeps_after a at1 (Ends walk) w keeps = keeps.kept walk refl
 keeps_after a at1 (GoesOn at0) w keeps = keeps_second_word a at1 at0 _
 
 keeps_first : (a : Access) (at1 : ℕ) (w : World) → KeepsPlace a.va (ask_first a at1 w).answer
-unfolding ask_first
 keeps_first a at1 w =
     let told = ask_word at1 w in
     keeps_after a at1 (first_word a at1 told.answer) told.world (keeps_first_word a at1 told.answer)

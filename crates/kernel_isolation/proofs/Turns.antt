@@ -27,7 +27,8 @@ use Rattle.cloak_model.specs.KernelAlone.{kernel_hart, with_kernel_hart, console
 use Rattle.cloak_model.specs.KernelStep.{kernel_step, ticked}
 use Rattle.cloak_model.specs.Leaving.{leave}
 use Rattle.cloak_model.specs.Parts.{Joint, KernelPart, kernel_part}
-use Rattle.cloak_model.specs.Resuming.{AfterResume, by_root, by_context, by_domain, resume}
+use Rattle.cloak_model.specs.Resuming.{AfterResume, resume}
+use Rattle.cloak_model.proofs.ResumeParts.{by_root, by_context, by_domain}
 use Rattle.cloak_model.specs.World.{World, Cloak, Flat, Cloaked, Alone, items_of, cipher_items, seen_of}
 use Rattle.std.specs.List.{find}
 use Rattle.cloak_model.specs.Ahead.{is_owed}
@@ -134,7 +135,7 @@ unseen_domain j hart satp ctx reply (Some was) steady there =
     unseen_context j satp ctx reply was _ _ steady there (resume_number (slot_of ctx) hart reply was.control)
 
 unseen : (j : Joint) (hart satp ctx reply : ℕ) → IsSteady j → IsUnseen j (resume j hart satp ctx reply)
-unfolding resume
+unfolding resume by_domain by_context by_root
 unseen j hart satp ctx reply steady = unseen_domain j hart satp ctx reply _ steady refl
 
 -- A hart outside: what its ending makes of the kernel's part, and what it writes.

@@ -17,7 +17,8 @@ use Rattle.cloak_model.specs.AskPages.{answer_item, ask_copy, ask_forget}
 use Rattle.cloak_model.specs.Contexts.{Context}
 use Rattle.cloak_model.specs.DomainState.{Control, Domain}
 use Rattle.cloak_model.specs.DomainStep.{DomainStepped, within}
-use Rattle.cloak_model.specs.Fork.{Fork, End, copies, marked, private_numbers, free_numbers, has_room, fork_fits, ask_copies, fork_cleared, forked, fork_if, fork, ask_forgets, end_cleared, end_if, end_context}
+use Rattle.cloak_model.specs.Fork.{Fork, End, copies, marked, private_numbers, free_numbers, has_room, fork_fits, ask_copies, forked, fork, ask_forgets, end_context}
+use Rattle.cloak_model.proofs.ForkParts.{fork_cleared, fork_if, end_cleared, end_if}
 use Rattle.cloak_model.specs.Halves.{inward_half}
 use Rattle.cloak_model.specs.Files.{holds_file, file_found, file_resource}
 use Rattle.cloak_model.specs.Hypercalls as hyper
@@ -106,7 +107,7 @@ fork_cleared_did : (slot : ℕ) (d : Domain) (plain : PageId → List ℕ) (c : 
     Heard d.control.number plain (item.Ok d.control.number ∷ answer_item d.control.number a ∷ []) w →
     DoesIf d plain (copy_moves d.control.number (copies c.space d.control.resources))
     (fork_end slot c d.control (fork_cleared d.control.number c free new d.control.resources d.control.contexts a)) w
-unfolding fork_cleared fork_told forked
+unfolding fork_told forked
 fork_cleared_did slot d plain c free new told.Ok w enough heard =
     let list = copies c.space d.control.resources in
     made_so d plain (copy_moves d.control.number list) _ w _ heard (copies_made d.control.number list w heard.form)
@@ -136,7 +137,7 @@ fork_if_did : (fits : Result (Unit {0}) MapFault) (slot : ℕ) (d : Domain) (pla
     Heard d.control.number plain (item.Ok d.control.number ∷ []) w →
     DoesIf d plain (copy_moves d.control.number (copies c.space d.control.resources))
     (fork_end slot c d.control (fork_if fits d.control.number c d.control.resources d.control.contexts)) w
-unfolding fork_if fork_told
+unfolding fork_told
 fork_if_did (Err fault) slot d plain c w is heard = quiet _ _ _ _ _ w heard refl refl (follows_same _)
 fork_if_did (Ok fits) slot d plain c w is heard =
     let question = Clear (marked c.space d.control.resources) in
@@ -163,7 +164,7 @@ end_cleared_did : (slot : ℕ) (d : Domain) (plain : PageId → List ℕ) (c : C
     DoesIf d plain (drop_moves d.control.number (private_numbers c.space d.control.resources))
     (exit_end slot c d.control
     (end_cleared d.control.number slot c.space d.control.resources d.control.contexts a)) w
-unfolding end_cleared end_told
+unfolding end_told
 end_cleared_did slot d plain c told.Ok w heard =
     let list = private_numbers c.space d.control.resources in
     made_so d plain (drop_moves d.control.number list) _ w _ heard (drops_made d.control.number list w heard.form)
@@ -177,7 +178,7 @@ end_if_did : (others : Bool) (slot : ℕ) (d : Domain) (plain : PageId → List 
     DoesIf d plain (drop_moves d.control.number (private_numbers c.space d.control.resources))
     (exit_end slot c d.control
     (end_if others d.control.number slot c.space d.control.resources d.control.contexts)) w
-unfolding end_if end_told
+unfolding end_told
 end_if_did true slot d plain c w heard = quiet _ _ _ _ _ w heard refl refl (follows_same _)
 end_if_did false slot d plain c w heard =
     let question = Clear (marked c.space d.control.resources) in

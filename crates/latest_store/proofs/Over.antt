@@ -21,7 +21,8 @@ use Rattle.cloak_model.specs.Hart.{Hart}
 use Rattle.cloak_model.specs.Joint.{Moment, Turn, next_hart, hart_in, outside_ended, after_outside, outside_step, domain_ended, after_domain_step, interrupt_ended, after_interrupt, by_interrupt, by_running, inside_step, turn_of, domain_met, end_domain, refuses, ends_once, ends_resumed, ends_asked, answers_violation, joint_step}
 use Rattle.cloak_model.specs.KernelStep.{ticked}
 use Rattle.cloak_model.specs.Parts.{Joint}
-use Rattle.cloak_model.specs.Resuming.{by_root, by_context, by_domain, resume}
+use Rattle.cloak_model.specs.Resuming.{resume}
+use Rattle.cloak_model.proofs.ResumeParts.{by_root, by_context, by_domain}
 use Rattle.cloak_model.specs.World.{World, items_of}
 use Rattle.domain_isolation.proofs.Endings.{end_world, end_leaves}
 use Rattle.domain_isolation.proofs.InOrder.{same_some, decided, get_set_same, get_set_other}
@@ -136,7 +137,7 @@ module _ (d : ℕ) where
 
     kernel_same : (j' : Joint) (number : ℕ) (items : List Item) (k : Kernel) → j'.domains ≡ j.domains →
         Same j' (outside_ended j' number items k).joint
-    unfolding outside_ended resume
+    unfolding outside_ended resume by_domain by_context by_root
     kernel_same j' number items (Resume ctx answer) alike =
         domain_same j' number _ ctx answer (slice_get j'.domains (domain_of ctx)) alike
         (ap (λ (domains : List Domain). slice_get domains (domain_of ctx)) (sym alike))

@@ -41,7 +41,8 @@ use Rattle.cloak_model.specs.Hypercalls.{Hypercall, New, ForkSpace, Exit, hyperc
 use Rattle.cloak_model.specs.Joint.{Turn, cloak_of, memory_of, outside_ended, after_outside, outside_step, domain_ended, after_domain_step, interrupt_ended, after_interrupt, by_interrupt, by_running, inside_step, turn_of, with_domain}
 use Rattle.cloak_model.specs.KernelStep.{ticked}
 use Rattle.cloak_model.specs.Parts.{Joint}
-use Rattle.cloak_model.specs.Resuming.{by_root, by_context, by_domain, resume}
+use Rattle.cloak_model.specs.Resuming.{resume}
+use Rattle.cloak_model.proofs.ResumeParts.{by_root, by_context, by_domain}
 use Rattle.cloak_model.specs.World.{World, Cloaked, items_of, violation_of, cipher_items}
 use Rattle.domain_isolation.proofs.Answers.{IsServing}
 use Rattle.domain_isolation.proofs.Played.{answers_of, answer_items, last_stopped, played_items, played_met}
@@ -137,7 +138,7 @@ domain_ends j hart satp ctx reply None d = refl
 domain_ends j hart satp ctx reply (Some w) d = context_ends j satp ctx reply w _ _ d
 
 resume_ends : (j : Joint) (hart satp ctx reply : ℕ) → EndsNone (resume j hart satp ctx reply).items
-unfolding resume
+unfolding resume by_domain by_context by_root
 resume_ends j hart satp ctx reply d = domain_ends j hart satp ctx reply _ d
 
 kernel_ends : (j : Joint) (number : ℕ) (items : List Item) (k : Kernel) → EndsNone items →

@@ -24,7 +24,8 @@ use Rattle.cloak_model.specs.Hart.{Hart}
 use Rattle.cloak_model.specs.Joint.{Turn, cloak_of, memory_of, outside_ended, after_outside, outside_step, domain_ended, after_domain_step, pages_for, interrupt_ended, after_interrupt, by_interrupt, by_running, inside_step, turn_of}
 use Rattle.cloak_model.specs.KernelStep.{ticked}
 use Rattle.cloak_model.specs.Parts.{Joint}
-use Rattle.cloak_model.specs.Resuming.{by_root, by_context, by_domain, resume}
+use Rattle.cloak_model.specs.Resuming.{resume}
+use Rattle.cloak_model.proofs.ResumeParts.{by_root, by_context, by_domain}
 use Rattle.cloak_model.specs.World.{World, Cloak, Cloaked, items_of}
 use Rattle.domain_isolation.proofs.InOrder.{decided}
 use Rattle.kernel_isolation.proofs.Numbers.{AreFrom, number_at}
@@ -181,7 +182,7 @@ domain_keeps j hart satp ctx reply (Some w) there =
     context_keeps j satp ctx reply w _ _ there (resume_same (slot_of ctx) hart reply w.control)
 
 resume_keeps : (j : Joint) (hart satp ctx reply : ℕ) → Keeps j (resume j hart satp ctx reply).joint
-unfolding resume
+unfolding resume by_domain by_context by_root
 resume_keeps j hart satp ctx reply = domain_keeps j hart satp ctx reply _ refl
 
 ended_keeps : (j : Joint) (number : ℕ) (items : List Item) (k : Kernel) →

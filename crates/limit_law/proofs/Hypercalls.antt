@@ -21,7 +21,8 @@ use Rattle.cloak_model.specs.declared.resource.Owner.TheVariants.{Space}
 use Rattle.cloak_model.specs.Contexts.{Context, moved_on, suspended, new_context, context_at, end_at}
 use Rattle.cloak_model.specs.DomainState.{Control}
 use Rattle.cloak_model.specs.Files.{file_resource}
-use Rattle.cloak_model.specs.Fork.{Spaces, has_room, fork_fits, forked, child, fork_cleared, fork_if, fork, is_of_space, end_cleared, end_if, end_context}
+use Rattle.cloak_model.specs.Fork.{Spaces, has_room, fork_fits, forked, child, fork, is_of_space, end_context}
+use Rattle.cloak_model.proofs.ForkParts.{fork_cleared, fork_if, end_cleared, end_if}
 use Rattle.cloak_model.specs.Hypercalls.{Stepped, with_slot, stays_inside, with_answer, answers_word, number_told, remapped, map_told, new_call, map_call, unmap_call, file_call, thread_at, thread_call, with_spaces, fork_told, fork_call, end_told, exit_call, call_begun, kernel_call, Hypercall, New, Map, Unmap, File as FileCall, Thread, ForkSpace, Exit, Call, Unknown, hypercall}
 use Rattle.cloak_model.specs.Resources.{Resources, Mapped, first_free, new_resource, drop_space}
 use Rattle.cloak_model.specs.World.{World}
@@ -234,7 +235,6 @@ fork_cleared_kept : (domain : ℕ) (c : Context) (slot new : ℕ) (r : Resources
     (a : Answer) (w : World) → c.phase ≡ Plain → IsSteady c →
     SpacesKept (record { contexts = contexts; resources = r }) → new < 8 → can_copy c.space r ≡ true →
     SpacesKept (fork_cleared domain c slot new r contexts a w).answer.spaces
-unfolding fork_cleared
 fork_cleared_kept domain c slot new r contexts told.Ok w plain s keeps low room =
     forked_kept c slot new r contexts plain s keeps low room
 fork_cleared_kept domain c slot new r contexts _ w plain s keeps low room = keeps
@@ -251,7 +251,7 @@ fork_if_kept : (fits : Result (Unit {0}) MapFault) (domain : ℕ) (c : Context) 
     (contexts : List (Option Context)) (w : World) → fork_fits c.space r contexts ≡ fits → c.phase ≡ Plain →
     IsSteady c → SpacesKept (record { contexts = contexts; resources = r }) →
     SpacesKept (fork_if fits domain c r contexts w).answer.spaces
-unfolding fork_if fork_fits
+unfolding fork_fits
 fork_if_kept (Err f) domain c r contexts w is plain s keeps = keeps
 fork_if_kept (Ok u) domain c r contexts w is plain s keeps =
     let room = fits_room (has_room c.space r contexts) u is in
@@ -280,7 +280,6 @@ fork_told_kept slot c d (Ok (Some ctx)) s plain keeps here spaces used =
 forked_used : (domain : ℕ) (c : Context) (slot new : ℕ) (r : Resources) (contexts : List (Option Context)) (a : Answer)
     (w : World) (k : ℕ) → IsInUse r k → ((n : ℕ) → IsInUse (forked c slot n r contexts).resources k) →
     IsInUse (fork_cleared domain c slot new r contexts a w).answer.spaces.resources k
-unfolding fork_cleared
 forked_used domain c slot new r contexts told.Ok w k used later = later new
 forked_used domain c slot new r contexts _ w k used later = used
 
@@ -292,7 +291,6 @@ copied_used c slot n r contexts k used = forked_still c.space n k r used
 fork_if_used : (fits : Result (Unit {0}) MapFault) (domain : ℕ) (c : Context) (r : Resources)
     (contexts : List (Option Context)) (w : World) (k : ℕ) → IsInUse r k →
     IsInUse (fork_if fits domain c r contexts w).answer.spaces.resources k
-unfolding fork_if
 fork_if_used (Err f) domain c r contexts w k used = used
 fork_if_used (Ok u) domain c r contexts w k used =
     forked_used domain c (unwrap_or (first_free contexts) 0) _ r contexts _ _ k used
@@ -342,7 +340,6 @@ end_cleared_kept : (domain slot space : ℕ) (r : Resources) (contexts : List (O
     list_any (is_of_space space) (end_at slot contexts) ≡ false →
     SpacesKept (record { contexts = contexts; resources = r }) →
     SpacesKept (end_cleared domain slot space r contexts a w).answer.spaces
-unfolding end_cleared
 end_cleared_kept domain slot space r contexts told.Ok w none keeps =
     let freed = freed_kept slot r contexts keeps in
     record {
@@ -359,7 +356,6 @@ end_if_kept : (others : Bool) (domain slot space : ℕ) (r : Resources) (context
     list_any (is_of_space space) (end_at slot contexts) ≡ others →
     SpacesKept (record { contexts = contexts; resources = r }) →
     SpacesKept (end_if others domain slot space r contexts w).answer.spaces
-unfolding end_if
 end_if_kept true domain slot space r contexts w is keeps = freed_kept slot r contexts keeps
 end_if_kept false domain slot space r contexts w is keeps =
     end_cleared_kept domain slot space r contexts _ _ is keeps

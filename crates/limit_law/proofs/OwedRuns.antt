@@ -28,7 +28,8 @@ use Rattle.cloak_model.specs.Ledger.{Keys}
 use Rattle.cloak_model.specs.Opening.{Opened, started_joint, started_ledger, started_memory}
 use Rattle.cloak_model.specs.PageMoves.{copy_pages, drop_pages, place_with}
 use Rattle.cloak_model.specs.Parts.{Joint}
-use Rattle.cloak_model.specs.Resuming.{by_root, by_context, by_domain, resume}
+use Rattle.cloak_model.specs.Resuming.{resume}
+use Rattle.cloak_model.proofs.ResumeParts.{by_root, by_context, by_domain}
 use Rattle.cloak_model.specs.World.{World, Flat, Cloaked, Alone, noted, stored_at, settled, written, with_plain}
 use Rattle.cloak_model.specs.StoredFiles.{FileContents}
 use Rattle.kernel_isolation.proofs.FilesAdded.{IsGiven, given_keeps}
@@ -142,7 +143,7 @@ domain_once j hart satp ctx reply None once = once
 domain_once j hart satp ctx reply (Some was) once = context_once j satp ctx reply was _ _ once
 
 resume_once : (j : Joint) (hart satp ctx reply : ℕ) → JointOnce j → JointOnce (resume j hart satp ctx reply).joint
-unfolding resume
+unfolding resume by_domain by_context by_root
 resume_once j hart satp ctx reply once = domain_once j hart satp ctx reply _ once
 
 ended_once : (j : Joint) (number : ℕ) (items : List Item) (e : Kernel) → JointOnce j →

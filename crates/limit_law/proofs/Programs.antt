@@ -17,7 +17,8 @@ use Rattle.cloak_model.specs.Hypercalls.{Stepped}
 use Rattle.cloak_model.specs.Joint.{Moment, Turn, next_hart, outside_ended, after_outside, outside_step, domain_ended, after_domain_step, interrupt_ended, after_interrupt, by_interrupt, by_running, inside_step, turn_of, end_domain, step_before_end, joint_step}
 use Rattle.cloak_model.specs.KernelStep.{ticked}
 use Rattle.cloak_model.specs.Parts.{Joint}
-use Rattle.cloak_model.specs.Resuming.{by_root, by_context, by_domain, resume}
+use Rattle.cloak_model.specs.Resuming.{resume}
+use Rattle.cloak_model.proofs.ResumeParts.{by_root, by_context, by_domain}
 use Rattle.cloak_model.specs.World.{World}
 use Rattle.limit_law.proofs.Endings.{answers_keep}
 
@@ -71,7 +72,7 @@ module _ (K Q : Domain → Type 0) (k : KeptInside K Q) where
 
   resume_all : (j : Joint) (hart satp ctx reply : ℕ) → hart < 4 → AllOf Q j.domains →
       AllOf Q (resume j hart satp ctx reply).joint.domains
-  unfolding resume
+  unfolding resume by_domain by_context by_root
   resume_all j hart satp ctx reply low all = domain_all j hart satp ctx reply _ low all (all (domain_of ctx))
 
   -- A hart outside.

@@ -32,7 +32,8 @@ use Rattle.cloak_model.specs.Opening.{Opened, started_joint, started_ledger, sta
 use Rattle.cloak_model.specs.PageMoves.{place_with}
 use Rattle.cloak_model.specs.Parts.{Joint}
 use Rattle.cloak_model.specs.Resources.{Resources}
-use Rattle.cloak_model.specs.Resuming.{space_of, by_root, by_context, by_domain, resume}
+use Rattle.cloak_model.specs.Resuming.{space_of, resume}
+use Rattle.cloak_model.proofs.ResumeParts.{by_root, by_context, by_domain}
 use Rattle.cloak_model.specs.StoredFiles.{FileContents}
 use Rattle.cloak_model.specs.World.{World, Cloaked}
 use Rattle.resource_map.specs.Kept.{IsInUse}
@@ -167,7 +168,7 @@ domain_rooted j hart satp ctx reply (Some was) is keeps rooted =
 
 resume_rooted : (j : Joint) (hart satp ctx reply : ℕ) → AllKeep j.domains → JointRooted j →
     JointRooted (resume j hart satp ctx reply).joint
-unfolding resume
+unfolding resume by_domain by_context by_root
 resume_rooted j hart satp ctx reply all rooted =
     domain_rooted j hart satp ctx reply _ refl (all (domain_of ctx)) rooted
 

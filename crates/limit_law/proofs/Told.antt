@@ -15,7 +15,8 @@ use Rattle.cloak_model.specs.Hypercalls.{Stepped}
 use Rattle.cloak_model.specs.Joint.{Moment, next_hart, outside_ended, after_outside, outside_step, domain_ended, after_domain_step, interrupt_ended, after_interrupt, by_interrupt, by_running, inside_step, turn_of, step_before_end}
 use Rattle.cloak_model.specs.KernelStep.{ticked}
 use Rattle.cloak_model.specs.Parts.{Joint}
-use Rattle.cloak_model.specs.Resuming.{by_root, by_context, by_domain, resume}
+use Rattle.cloak_model.specs.Resuming.{resume}
+use Rattle.cloak_model.proofs.ResumeParts.{by_root, by_context, by_domain}
 use Rattle.cloak_model.specs.World.{World}
 use Rattle.limit_law.proofs.Flags.{SameFlag, step_flag, interrupt_flag, resume_flag}
 
@@ -68,7 +69,7 @@ domain_leaves j hart satp ctx reply (Some was) is =
     context_leaves j satp ctx reply was _ _ is (resume_flag (slot_of ctx) hart reply was.control)
 
 resume_leaves : (j : Joint) (hart satp ctx reply : ℕ) → LeavesEnded j (resume j hart satp ctx reply).joint
-unfolding resume
+unfolding resume by_domain by_context by_root
 resume_leaves j hart satp ctx reply = domain_leaves j hart satp ctx reply _ refl
 
 ended_leaves : (j : Joint) (number : ℕ) (items : List Item) (e : Kernel) →

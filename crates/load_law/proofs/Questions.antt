@@ -19,7 +19,8 @@ use Rattle.cloak_model.specs.declared.answer.Answer.{Answer}
 use Rattle.cloak_model.specs.declared.answer.Answer.TheVariants as told
 use Rattle.cloak_model.specs.declared.item.Item.{Item}
 use Rattle.cloak_model.specs.declared.item.Item.TheVariants as item
-use Rattle.cloak_model.specs.Ask.{ask_word, ask_second, ask_after, ask_first, ask_walk, ask_inside, ask_translate, ask_led, opened}
+use Rattle.cloak_model.specs.Ask.{ask_word, ask_walk, ask_inside, ask_translate, ask_led, opened}
+use Rattle.cloak_model.proofs.WalkParts.{ask_second, ask_after, ask_first}
 use Rattle.cloak_model.specs.AskPages.{answer_item, inside_access, is_store, offer_events, replies, if_drawn, ask_inside_address, offered_by, ask_offer, reached, reach_by_table, put_at, stored_inside, put_by_table, ask_reach, ask_put}
 use Rattle.cloak_model.specs.Asking.{Told, Asking}
 use Rattle.cloak_model.specs.Cloaking.{CloakedMemory, AfterSettling, AfterOffer, Offer, Ready, Mismatch, Missed, settle, settle_if, settle_owed, settle_frame_if, owing_frame, owes, owed_in, with_comparison, taken, compared, unless_missed, offer}
@@ -134,18 +135,15 @@ quiet_word pa w q =
 
 quiet_second : (a : Access) (at1 at0 : ℕ) (w : World) → IsQuiet w →
     QuietTold (WalkFits a.kind) (ask_second a at1 at0 w)
-unfolding ask_second
 quiet_second a at1 at0 w q =
     record { answer = second_word_fits a at1 at0 (ask_word at0 w).answer; world = quiet_word at0 w q }
 
 quiet_after : (a : Access) (at1 : ℕ) (word : FirstWord) (w : World) → EndFits a.kind word → IsQuiet w →
     QuietTold (WalkFits a.kind) (ask_after a at1 word w)
-unfolding ask_after
 quiet_after a at1 (Ends walk) w fits q = record { answer = fits; world = q }
 quiet_after a at1 (GoesOn at0) w fits q = quiet_second a at1 at0 w q
 
 quiet_first : (a : Access) (at1 : ℕ) (w : World) → IsQuiet w → QuietTold (WalkFits a.kind) (ask_first a at1 w)
-unfolding ask_first
 quiet_first a at1 w q =
     let word = ask_word at1 w in
     quiet_after a at1 (first_word a at1 word.answer) word.world (first_word_fits a at1 word.answer) (quiet_word at1 w q)

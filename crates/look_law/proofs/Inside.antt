@@ -6,7 +6,8 @@ use Rattle.cloak_model.specs.declared.resource.MapFault.{MapFault}
 use Rattle.cloak_model.specs.Contexts.{Context}
 use Rattle.cloak_model.specs.DomainState.{Control, Domain}
 use Rattle.cloak_model.specs.DomainStep.{domain_step}
-use Rattle.cloak_model.specs.Fork.{fork_cleared, fork_if, fork, end_cleared, end_if, end_context}
+use Rattle.cloak_model.specs.Fork.{fork, end_context}
+use Rattle.cloak_model.proofs.ForkParts.{fork_cleared, fork_if, end_cleared, end_if}
 use Rattle.cloak_model.specs.Hypercalls.{Hypercall, ForkSpace, Exit, hypercall, fork_call, exit_call}
 use Rattle.cloak_model.specs.Resources.{Resources}
 use Rattle.cloak_model.specs.World.{World}
@@ -25,26 +26,22 @@ looks_wider a b w v low p = record { few = (let few = p.few in omega (arith, few
 
 pub looks_fork_cleared : (domain : ℕ) (c : Context) (slot new : ℕ) (r : Resources) (contexts : List (Option Context))
     (a : Answer) (w : World) → Looks 0 w (fork_cleared domain c slot new r contexts a w).world
-unfolding fork_cleared
 looks_fork_cleared domain c slot new r contexts told.Ok w = asks_copies domain _ w
 looks_fork_cleared domain c slot new r contexts _ w = none w
 
 pub looks_fork_if : (fits : Result (Unit {0}) MapFault) (domain : ℕ) (c : Context) (r : Resources)
     (contexts : List (Option Context)) (w : World) → Looks 0 w (fork_if fits domain c r contexts w).world
-unfolding fork_if
 looks_fork_if (Err fault) domain c r contexts w = none w
 looks_fork_if (Ok fits) domain c r contexts w =
     then_still w _ _ (asks_clear domain _ w) (looks_fork_cleared domain c _ _ r contexts _ _)
 
 pub looks_end_cleared : (domain slot space : ℕ) (r : Resources) (contexts : List (Option Context)) (a : Answer)
     (w : World) → Looks 0 w (end_cleared domain slot space r contexts a w).world
-unfolding end_cleared
 looks_end_cleared domain slot space r contexts told.Ok w = asks_forgets domain _ w
 looks_end_cleared domain slot space r contexts _ w = none w
 
 pub looks_end_if : (others : Bool) (domain slot space : ℕ) (r : Resources) (contexts : List (Option Context)) (w : World) →
     Looks 0 w (end_if others domain slot space r contexts w).world
-unfolding end_if
 looks_end_if true domain slot space r contexts w = none w
 looks_end_if false domain slot space r contexts w =
     then_still w _ _ (asks_clear domain _ w) (looks_end_cleared domain slot space r contexts _ _)

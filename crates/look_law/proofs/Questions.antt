@@ -10,7 +10,8 @@ use Rattle.cloak_model.specs.declared.answer.Answer.{Answer}
 use Rattle.cloak_model.specs.declared.answer.Answer.TheVariants as told
 use Rattle.cloak_model.specs.declared.item.Item.{Item}
 use Rattle.rv_atomic.specs.declared.atomic.AtomicOp.{AtomicOp}
-use Rattle.cloak_model.specs.Ask.{ask_word, ask_second, ask_after, ask_first, ask_walk, ask_inside, ask_translate, ask_led, opened, ask_value, ask_store, loaded_at, ask_load, stored_to, ask_store_at, ask_frame, ask_fill, ask_mark, ask_unmark, ask_marked, stored_if, reserved_at, ask_reserve, conditional_at, ask_store_conditional, combined_at, ask_combine}
+use Rattle.cloak_model.specs.Ask.{ask_word, ask_walk, ask_inside, ask_translate, ask_led, opened, ask_value, ask_store, loaded_at, ask_load, stored_to, ask_store_at, ask_frame, ask_fill, ask_mark, ask_unmark, ask_marked, stored_if, reserved_at, ask_reserve, conditional_at, ask_store_conditional, combined_at, ask_combine}
+use Rattle.cloak_model.proofs.WalkParts.{ask_second, ask_after, ask_first}
 use Rattle.cloak_model.specs.AskPages.{answer_item, replies, if_drawn, is_store, offer_events, inside_access, ask_inside_address, offered_by, ask_offer, reached, reach_by_table, get_at, got, get_by_table, put_at, stored_inside, put_by_table, settled_if_marked, clear_from, next_answer, ask_reach, ask_write, ask_get, ask_put, ask_clear, ask_copy, ask_forget}
 use Rattle.cloak_model.specs.Asking.{Told, Asking}
 use Rattle.cloak_model.specs.Cloaking.{CloakedMemory, Offer, Ready, Mismatch, Missed, settle, offer}
@@ -109,16 +110,13 @@ unfolding ask_word
 still_word pa w = either _ _ _ w (still_settled (frame_of pa) w) (still w)
 
 pub still_second : (a : Access) (at1 at0 : ℕ) (w : World) → Looks 0 w (ask_second a at1 at0 w).world
-unfolding ask_second
 still_second a at1 at0 w = still_word at0 w
 
 pub still_after : (a : Access) (at1 : ℕ) (word : FirstWord) (w : World) → Looks 0 w (ask_after a at1 word w).world
-unfolding ask_after
 still_after a at1 (Ends walk) w = still w
 still_after a at1 (GoesOn at0) w = still_second a at1 at0 w
 
 pub still_first : (a : Access) (at1 : ℕ) (w : World) → Looks 0 w (ask_first a at1 w).world
-unfolding ask_first
 still_first a at1 w = still_then _ _ _ (still_word at1 w) (still_after a at1 _ _)
 
 pub still_walk : (satp : ℕ) (a : Access) (w : World) → Looks 0 w (ask_walk satp a w).world

@@ -266,6 +266,30 @@ fn search_chain<'a>(
     None
 }
 
+/// The same, with a slot that is tried before the chain, at no call.
+#[inline(always)]
+fn search_from<'a>(
+    arena: &'a ChainArena<Entry>,
+    bucket: u32,
+    s: Slot,
+    v: &Regime,
+    page: u32,
+    kind: Kind,
+) -> Option<&'a Entry>
+    requires placed { ArePlaced arena.now }
+    requires apart { AreApart (live_in arena.now.payloads) }
+    requires in_use { IsInUse arena.now s }
+    requires within { bucket < arena.now.heads }
+    requires bucket { bucket ≡ spec.bucket_of arena.now.heads v.now page kind }
+    ensures { option_map (λ e. e.now) result ≡ find (entries.is_for v.now page kind) (live_in arena.now.payloads) }
+{
+    let e = arena.payload_ref(s);
+    if is_for(e, v, page, kind) {
+        return Some(e);
+    }
+    search_chain(arena, bucket, v, page, kind)
+}
+
 /// The entry of a regime, page and kind, with little done if the chain of its bucket is empty.
 #[inline(always)]
 pub(crate) fn search<'a>(
@@ -284,7 +308,7 @@ pub(crate) fn search<'a>(
 {
     let bucket = bucket_of(heads, v, page, kind);
     match arena.first(Chain::Bucket, bucket) {
-        Some(_) => search_chain(arena, bucket, v, page, kind),
+        Some(s) => search_from(arena, bucket, s, v, page, kind),
         None => None,
     }
 }

@@ -17,7 +17,8 @@ use Rattle.cloak_model.specs.Hart.{Hart}
 use Rattle.cloak_model.specs.Joint.{cloak_of, memory_of, outside_ended, after_outside, outside_step, domain_ended, after_domain_step, interrupt_ended, after_interrupt, by_interrupt, by_running, inside_step, turn_of}
 use Rattle.cloak_model.specs.KernelStep.{ticked}
 use Rattle.cloak_model.specs.Parts.{Joint}
-use Rattle.cloak_model.specs.Resuming.{by_root, by_context, by_domain, resume}
+use Rattle.cloak_model.specs.Resuming.{resume}
+use Rattle.cloak_model.proofs.ResumeParts.{by_root, by_context, by_domain}
 use Rattle.cloak_model.specs.World.{World, Cloaked}
 use Rattle.script_fold.proofs.StepScripts.{step_scripted}
 use Rattle.domain_isolation.proofs.Steady.{is_cloaked}
@@ -59,7 +60,7 @@ domain_keeps j hart satp ctx reply (Some w) = context_keeps j satp ctx reply w _
 
 resume_keeps : (j : Joint) (hart satp ctx reply : ℕ) →
     (resume j hart satp ctx reply).joint.memory.plain ≡ j.memory.plain
-unfolding resume
+unfolding resume by_domain by_context by_root
 resume_keeps j hart satp ctx reply = domain_keeps j hart satp ctx reply _
 
 ended_keeps : (j : Joint) (number : ℕ) (items : List Item) (k : Kernel) →

@@ -16,7 +16,8 @@ use Rattle.cloak_model.specs.Hart.{Hart}
 use Rattle.cloak_model.specs.Joint.{Moment, Turn, next_hart, hart_in, outside_ended, after_outside, outside_step, domain_ended, after_domain_step, interrupt_ended, after_interrupt, by_interrupt, by_running, inside_step, turn_of, end_domain, ends_once, ends_resumed, ends_asked, answers_violation, joint_step}
 use Rattle.cloak_model.specs.KernelStep.{ticked}
 use Rattle.cloak_model.specs.Parts.{Joint}
-use Rattle.cloak_model.specs.Resuming.{by_root, by_context, by_domain, resume}
+use Rattle.cloak_model.specs.Resuming.{resume}
+use Rattle.cloak_model.proofs.ResumeParts.{by_root, by_context, by_domain}
 use Rattle.cloak_model.specs.World.{World}
 
 abbrev KeepsCount : Joint → Joint → Type 0
@@ -43,7 +44,7 @@ domain_counts j hart satp ctx reply None = refl
 domain_counts j hart satp ctx reply (Some d) = context_counts j satp ctx reply d _ _
 
 resume_counts : (j : Joint) (hart satp ctx reply : ℕ) → KeepsCount j (resume j hart satp ctx reply).joint
-unfolding resume
+unfolding resume by_domain by_context by_root
 resume_counts j hart satp ctx reply = domain_counts j hart satp ctx reply _
 
 ended_counts : (j : Joint) (number : ℕ) (items : List Item) (k : Kernel) →

@@ -30,7 +30,8 @@ use Rattle.cloak_model.specs.Joint.{Moment, Turn, cloak_of, outside_ended, after
 use Rattle.cloak_model.specs.KernelStep.{ticked}
 use Rattle.cloak_model.specs.Opening.{Opened}
 use Rattle.cloak_model.specs.Parts.{Joint}
-use Rattle.cloak_model.specs.Resuming.{by_root, by_context, by_domain, resume}
+use Rattle.cloak_model.specs.Resuming.{resume}
+use Rattle.cloak_model.proofs.ResumeParts.{by_root, by_context, by_domain}
 use Rattle.cloak_model.specs.Run.{Run, turns_from, first_moment, run_of}
 use Rattle.cloak_model.specs.World.{World, Cloak, Cloaked}
 use Rattle.page_law.specs.Ciphers.{}
@@ -153,7 +154,7 @@ domain_load j plain hart satp ctx reply (Some w) there = context_load j plain sa
 
 resume_load : (j : Joint) (plain : PageId → List ℕ) (hart satp ctx reply : ℕ) →
     DomainsLoad j.domains plain (resume j hart satp ctx reply).joint.domains
-unfolding resume
+unfolding resume by_domain by_context by_root
 resume_load j plain hart satp ctx reply = domain_load j plain hart satp ctx reply _ refl
 
 ended_load : (j : Joint) (plain : PageId → List ℕ) (number : ℕ) (items : List Item) (k : Kernel) →

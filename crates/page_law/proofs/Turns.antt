@@ -23,7 +23,8 @@ use Rattle.cloak_model.specs.Hypercalls.{Stepped}
 use Rattle.cloak_model.specs.Joint.{Moment, Turn, cloak_of, memory_of, outside_ended, after_outside, outside_step, domain_ended, after_domain_step, pages_for, interrupt_ended, after_interrupt, by_interrupt, left, by_running, inside_step, turn_of, joint_step}
 use Rattle.cloak_model.specs.KernelStep.{ticked}
 use Rattle.cloak_model.specs.Parts.{Joint}
-use Rattle.cloak_model.specs.Resuming.{AfterResume, by_root, by_context, by_domain, resume}
+use Rattle.cloak_model.specs.Resuming.{AfterResume, resume}
+use Rattle.cloak_model.proofs.ResumeParts.{by_root, by_context, by_domain}
 use Rattle.cloak_model.specs.World.{World, Cloak, Cloaked, items_of}
 use Rattle.kernel_isolation.proofs.Numbers.{AreFrom, number_at}
 use Rattle.page_law.proofs.Draws.{OwesPagesOf, HasDrawn, draws_stay, draw_behind, draw_behind-append, AreShown, shown-append, Draws}
@@ -129,7 +130,7 @@ domain_silently j hart satp ctx reply None = violated_silently j _ refl refl
 domain_silently j hart satp ctx reply (Some d) = context_silently j satp ctx reply d _ _
 
 resumes_silently : (j : Joint) (hart satp ctx reply : ℕ) → ResumesSilently j (resume j hart satp ctx reply)
-unfolding resume
+unfolding resume by_domain by_context by_root
 resumes_silently j hart satp ctx reply = domain_silently j hart satp ctx reply _
 
 outside_ends : {count : ℕ} (m : CloakedMemory) (j : Joint) (number : ℕ) (items : List Item) (k : Kernel) →

@@ -38,7 +38,8 @@ use Rattle.cloak_model.specs.Contexts.{Context, moved_on, suspended, end_at, con
 use Rattle.cloak_model.specs.DomainState.{Control, Domain}
 use Rattle.cloak_model.specs.DomainStep.{DomainStepped, within, with_load, instruction_ended, copy_ended, phase_step, step_if, domain_step, interrupt_if, interrupt, answer_in, answer_taken, resume_told, resume_slot, after_write}
 use Rattle.cloak_model.specs.Files.{file_found, file_resource, holds_file}
-use Rattle.cloak_model.specs.Fork.{Spaces, marked, private_numbers, copies, with_copy, with_copies, forked_resources, child, forked, ask_copies, Fork, fork_stopped, fork_cleared, fork_fits, fork_if, fork, End, end_stopped, ask_forgets, end_cleared, end_if, end_context, is_of_space}
+use Rattle.cloak_model.specs.Fork.{Spaces, marked, private_numbers, copies, with_copy, with_copies, forked_resources, child, forked, ask_copies, Fork, fork_fits, fork, End, ask_forgets, end_context, is_of_space}
+use Rattle.cloak_model.proofs.ForkParts.{fork_stopped, fork_cleared, fork_if, end_stopped, end_cleared, end_if}
 use Rattle.cloak_model.specs.Hypercalls.{Stepped, with_slot, stays_inside, leaves, stopped, fault_word, bad_call, with_answer, answers_word, number_word, number_told, remapped, map_told, new_call, map_call, unmap_call, file_call, thread_at, thread_call, with_spaces, fork_told, fork_call, end_told, exit_call, call_begun, kernel_call, Hypercall, New, Map, Unmap, File as FileCall, Thread, ForkSpace, Exit, Call, Unknown, hypercall, hypercall_of}
 use Rattle.cloak_model.specs.InsideStep.{instruction_inside}
 use Rattle.cloak_model.specs.Record.{IsItem, IsWord}
@@ -295,7 +296,6 @@ fork_stopped_told r contexts w few slots world =
 fork_cleared_told : (domain : ℕ) (c : Context) (slot new : ℕ) (r : Resources) (contexts : List (Option Context))
     (a : Answer) (w : World) → domain < 4 → slot < 8 → ContextFits c → NumbersFit r → SlotsFit contexts →
     WorldFits w → ToldFits ForkFits (fork_cleared domain c slot new r contexts a w)
-unfolding fork_cleared
 fork_cleared_told domain c slot new r contexts told.Ok w d s here few slots world =
     let made : Fork = record {
       answer = Ok (Some (record { 0 = context_number domain slot }));
@@ -320,7 +320,6 @@ free_low (Some k) n few low = omega (arith, few, low)
 fork_if_told : (fits : Result (Unit {0}) MapFault) (domain : ℕ) (c : Context) (r : Resources)
     (contexts : List (Option Context)) (w : World) → domain < 4 → ContextFits c → NumbersFit r → SlotsFit contexts →
     WorldFits w → ToldFits ForkFits (fork_if fits domain c r contexts w)
-unfolding fork_if
 fork_if_told (Err f) domain c r contexts w d here few slots world =
     record { answer = record { answer = tt; spaces = record { slots = slots; numbers = few } }; world = world }
 fork_if_told (Ok fits) domain c r contexts w d here few slots world =
@@ -381,7 +380,6 @@ drop_fits space r few = let same = length-map r.held (without_space space) in om
 
 end_cleared_told : (domain slot space : ℕ) (r : Resources) (contexts : List (Option Context)) (a : Answer) (w : World) →
     NumbersFit r → SlotsFit contexts → WorldFits w → ToldFits EndFits (end_cleared domain slot space r contexts a w)
-unfolding end_cleared
 end_cleared_told domain slot space r contexts told.Ok w few slots world =
     let made : End = record {
       ending = ends.SpaceGone space;
@@ -401,7 +399,6 @@ end_cleared_told domain slot space r contexts told.Stopped w few slots world =
 
 end_if_told : (others : Bool) (domain slot space : ℕ) (r : Resources) (contexts : List (Option Context)) (w : World) →
     NumbersFit r → SlotsFit contexts → WorldFits w → ToldFits EndFits (end_if others domain slot space r contexts w)
-unfolding end_if
 end_if_told true domain slot space r contexts w few slots world =
     record { answer = record { slots = set_slot contexts slot None slots tt; numbers = few }; world = world }
 end_if_told false domain slot space r contexts w few slots world =

@@ -31,7 +31,8 @@ use Rattle.cloak_model.specs.KernelStep.{kernel_step, ticked}
 use Rattle.cloak_model.specs.Leaving.{leave}
 use Rattle.cloak_model.specs.Parts.{Joint}
 use Rattle.cloak_model.specs.Record.{IsItem, IsWord}
-use Rattle.cloak_model.specs.Resuming.{AfterResume, with_roots, by_root, by_context, by_domain, resume}
+use Rattle.cloak_model.specs.Resuming.{AfterResume, resume}
+use Rattle.cloak_model.proofs.ResumeParts.{with_roots, by_root, by_context, by_domain}
 use Rattle.cloak_model.specs.World.{World, Cloak, Flat, Cloaked, items_of}
 use Rattle.settling_ahead.proofs.Touching.{writes_touched_alone}
 use Rattle.kernel_isolation.proofs.Accounts.{is_joint, ram_seen}
@@ -130,7 +131,7 @@ domain_fits j hart satp ctx reply (Some was) fits here c r =
 
 resume_fits : (j : Joint) (hart satp ctx reply : ℕ) → JointFits j → IsWord ctx → IsWord reply →
     ResumeFits (resume j hart satp ctx reply)
-unfolding resume
+unfolding resume by_domain by_context by_root
 resume_fits j hart satp ctx reply fits c r =
     domain_fits j hart satp ctx reply _ fits (found_fits j.domains (domain_of ctx) fits.programs) c r
 

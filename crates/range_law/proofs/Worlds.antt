@@ -15,7 +15,8 @@ use Rattle.cloak_model.specs.declared.access.Access.{Access}
 use Rattle.cloak_model.specs.declared.answer.Answer.{Answer}
 use Rattle.cloak_model.specs.declared.answer.Answer.TheVariants as answer
 use Rattle.cloak_model.specs.declared.item.Item.{Item}
-use Rattle.cloak_model.specs.Ask.{ask_word, ask_second, ask_after, ask_first, ask_walk, ask_inside, ask_translate, ask_led, opened, ask_count, ask_value, ask_store, loaded_at, ask_load, stored_to, ask_store_at, ask_mark, ask_unmark, ask_marked, reserved_at, ask_reserve, is_reserved, stored_value, stored_if, conditional_at, ask_store_conditional, combined_at, ask_combine, ask_frame, ask_fill}
+use Rattle.cloak_model.specs.Ask.{ask_word, ask_walk, ask_inside, ask_translate, ask_led, opened, ask_count, ask_value, ask_store, loaded_at, ask_load, stored_to, ask_store_at, ask_mark, ask_unmark, ask_marked, reserved_at, ask_reserve, is_reserved, stored_value, stored_if, conditional_at, ask_store_conditional, combined_at, ask_combine, ask_frame, ask_fill}
+use Rattle.cloak_model.proofs.WalkParts.{ask_second, ask_after, ask_first}
 use Rattle.cloak_model.specs.AskPages.{answer_item, replies, if_drawn, inside_access, ask_inside_address, is_store, offered_by, ask_offer, reached, reach_by_table, get_at, got, get_by_table, put_at, stored_inside, put_by_table, settled_if_marked, clear_from, ask_reach, ask_read, ask_write, ask_get, ask_put, ask_clear, ask_copy, ask_forget}
 use Rattle.cloak_model.specs.Asking.{Told, Asking, answered, then_ask}
 use Rattle.cloak_model.specs.Cloaking.{Offer, Ready, Mismatch, Missed, seen_in, with_seen}
@@ -186,19 +187,16 @@ word_told pa w fits =
     (record { answer = tt; world = settled_fits (frame_of pa) w fits }) (record { answer = tt; world = fits })
 
 second_told : (a : Access) (at1 at0 : ℕ) (w : World) → WorldFits w → ToldFits CauseFits (ask_second a at1 at0 w)
-unfolding ask_second
 second_told a at1 at0 w fits =
     then_fits Anything CauseFits (ask_word at0) (λ word. answered (second_word a at1 at0 word)) w (word_told at0 w fits)
     (λ word v p there. record { answer = second_word_fits a at1 at0 word; world = there })
 
 after_told : (a : Access) (at1 : ℕ) (word : FirstWord) (w : World) → EndFits word → WorldFits w →
     ToldFits CauseFits (ask_after a at1 word w)
-unfolding ask_after
 after_told a at1 (Ends walk) w ends fits = record { answer = ends; world = fits }
 after_told a at1 (GoesOn at0) w ends fits = second_told a at1 at0 w fits
 
 first_told : (a : Access) (at1 : ℕ) (w : World) → WorldFits w → ToldFits CauseFits (ask_first a at1 w)
-unfolding ask_first
 first_told a at1 w fits =
     then_fits Anything CauseFits (ask_word at1) (λ word. ask_after a at1 (first_word a at1 word)) w
     (word_told at1 w fits) (λ word v p there. after_told a at1 (first_word a at1 word) v (first_word_fits a at1 word) there)

@@ -3,7 +3,8 @@ use Rattle.std.proofs.Common.{◌≡◌, ◌<◌, ◌^◌, ℕ, List, [], ◌∷
 use Rattle.std.specs.List.{AllByRecursion}
 use Rattle.cloak_model.specs.declared.item.Item.{Item}
 use Rattle.cloak_model.specs.declared.item.Item.TheVariants as item
-use Rattle.cloak_model.specs.Record.{IsItemWidth, IsWord}
+use Rattle.cloak_model.specs.Record.{IsWord}
+use Rattle.cloak_model.specs.Effect.{IsWidth}
 use Rattle.record_text.specs.declared.place.RecordPlace.{RecordPlace}
 use Rattle.record_text.specs.declared.place.RecordPlace.TheVariants as place
 use Rattle.record_json.specs.JsonLaw.{AreObjectLines, HasFields, HasNumber}
@@ -17,7 +18,7 @@ word_fits name n word = fits_number name n (omega (arith, word))
 byte_fits : (name : List ℕ) (n : ℕ) → n < 256 → FitsMember (with_number name n)
 byte_fits name n low = fits_number name n (omega (arith, low))
 
-width_low : (width : ℕ) → IsItemWidth width → width < 256
+width_low : (width : ℕ) → IsWidth width → width < 256
 width_low width is = elim is [
   | inl one ↦ omega (arith, one)
   | inr more ↦ elim more [

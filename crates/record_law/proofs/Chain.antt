@@ -7,7 +7,8 @@ use Rattle.cloak_model.specs.declared.record.Tag.TheVariants as tag
 use Rattle.cloak_model.specs.declared.record.Wrong.{Wrong}
 use Rattle.cloak_model.specs.declared.record.Wrong.TheVariants.{Cut, NoTag, NoNumber}
 use Rattle.cloak_model.specs.Fields.{first_of, number}
-use Rattle.cloak_model.specs.RecordFault.{may_stand, is_width, wrong_item}
+use Rattle.cloak_model.specs.RecordFault.{may_stand, wrong_item}
+use Rattle.cloak_model.specs.Effect.{is_width}
 use Rattle.record_law.specs.Items.{size_of, has_bad_width, is_numbered}
 
 abbrev tests : Bool → Bool → Bool → Bool → Option Wrong

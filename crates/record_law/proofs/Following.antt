@@ -3,7 +3,7 @@ use Rattle.std.proofs.Common.{◌≡◌, ℕ, suc, ◌≤◌, Bool, true, false,
 use Rattle.std.proofs.lemmas.Bool.{ltb-false, le-ltb, eqb-true}
 use Rattle.cloak_model.specs.declared.item.Item.{Item}
 use Rattle.cloak_model.specs.declared.item.Item.TheVariants as item
-use Rattle.cloak_model.specs.Exchange.{item_bytes}
+use Rattle.cloak_model.specs.Exchange.{item_bytes, byte_of}
 use Rattle.cloak_model.specs.Record.{IsItem}
 use Rattle.cloak_model.specs.declared.record.Stage.{Stage}
 use Rattle.cloak_model.specs.declared.record.Stage.TheVariants.{Opening, Steps, Closing, Over}
@@ -12,7 +12,7 @@ use Rattle.cloak_model.specs.declared.record.Tag.TheVariants as tag
 use Rattle.cloak_model.specs.declared.record.Wrong.{Wrong}
 use Rattle.cloak_model.specs.declared.record.Wrong.TheVariants.{Cut, NoTag, NoNumber}
 use Rattle.cloak_model.specs.Fields.{number}
-use Rattle.cloak_model.specs.RecordFault.{byte_of, tag_of, may_stand, wrong_item, wrong_behind}
+use Rattle.cloak_model.specs.RecordFault.{tag_of, may_stand, wrong_item, wrong_behind}
 use Rattle.record_law.specs.Items.{size_of, has_bad_width, is_numbered}
 use Rattle.record_law.specs.Items.{item_in}
 use Rattle.record_law.proofs.Chain.{wrong_item-tests}

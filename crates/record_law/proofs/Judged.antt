@@ -9,7 +9,7 @@ use Rattle.std.proofs.lemmas.List.Concat.{flat_map-cons}
 use Rattle.std.proofs.lemmas.Grind.{flat_map-append}
 use Rattle.cloak_model.specs.declared.item.Item.{Item}
 use Rattle.cloak_model.specs.declared.item.Item.TheVariants as item
-use Rattle.cloak_model.specs.Exchange.{item_bytes, record_magic, record_of}
+use Rattle.cloak_model.specs.Exchange.{item_bytes, record_magic, record_of, byte_of}
 use Rattle.cloak_model.specs.Record.{IsItem, IsRecord}
 use Rattle.cloak_model.specs.declared.record.Stage.{Stage}
 use Rattle.cloak_model.specs.declared.record.Stage.TheVariants.{Opening, Steps, Closing, Over}
@@ -17,7 +17,7 @@ use Rattle.cloak_model.specs.declared.record.Tag.{Tag}
 use Rattle.cloak_model.specs.declared.fault.RecordFault.{RecordFault}
 use Rattle.cloak_model.specs.declared.fault.RecordFault.TheVariants.{Short, BadMagic}
 use Rattle.cloak_model.specs.declared.record.Wrong.{Wrong}
-use Rattle.cloak_model.specs.RecordFault.{byte_of, tag_of, stage_after, stage_behind, wrong_behind, Begins, IsWrong, fault_of, magic_fault, HasFault}
+use Rattle.cloak_model.specs.RecordFault.{tag_of, stage_after, stage_behind, wrong_behind, Begins, IsWrong, fault_of, magic_fault, HasFault}
 use Rattle.record_law.specs.Items.{size_of}
 use Rattle.record_law.specs.Items.{item_in}
 use Rattle.record_law.proofs.Spelling.{IsBytes, IsBytes-drop, tag_at, fields_of, item_bytes-parts, fields_read}

@@ -8,12 +8,12 @@ use Rattle.std.proofs.lemmas.Nat.{le_bytes_4, from_le_bytes-to_le_bytes_4}
 use Rattle.cloak_model.specs.Bits.{word}
 use Rattle.cloak_model.specs.declared.item.Item.{Item}
 use Rattle.cloak_model.specs.declared.item.Item.TheVariants as item
-use Rattle.cloak_model.specs.Exchange.{item_bytes, shown_words}
-use Rattle.cloak_model.specs.Record.{IsItem, IsItemWidth, IsWord}
+use Rattle.cloak_model.specs.Exchange.{item_bytes, shown_words, byte_of}
+use Rattle.cloak_model.specs.Record.{IsItem, IsWord}
 use Rattle.cloak_model.specs.declared.record.Tag.{Tag}
 use Rattle.cloak_model.specs.declared.record.Tag.TheVariants as tag
 use Rattle.cloak_model.specs.Fields.{number}
-use Rattle.cloak_model.specs.RecordFault.{byte_of, is_width}
+use Rattle.cloak_model.specs.Effect.{is_width, IsWidth}
 use Rattle.record_law.specs.Items.{size_of, has_bad_width}
 use Rattle.record_law.specs.Items.{item_in}
 
@@ -100,7 +100,7 @@ item_bytes-parts _ = refl
 abbrev again : (n : ℕ) → n < 2 ^ 32 → from_le_bytes w32 (to_le_bytes w32 n) ≡ n
 again n lt = from_le_bytes-to_le_bytes_4 n lt
 
-width_known : (w : ℕ) → IsItemWidth w → is_width w ≡ true
+width_known : (w : ℕ) → IsWidth w → is_width w ≡ true
 width_known w (inl one) = rw one refl
 width_known w (inr (inl two)) = rw two refl
 width_known w (inr (inr four)) = rw four refl
@@ -177,7 +177,7 @@ either : (a b : Bool) → (a || b) ≡ true → (a ≡ true) ⊎ (b ≡ true)
 either true b e = inl refl
 either false b e = inr e
 
-width_known_by : (w : ℕ) → is_width w ≡ true → IsItemWidth w
+width_known_by : (w : ℕ) → is_width w ≡ true → IsWidth w
 width_known_by w e =
     elim (either (eqb w 1) (eqb w 2 || eqb w 4) e) [
       | inl one ↦ inl (eqb-true _ _ one)

@@ -11,10 +11,10 @@ use Rattle.cloak_model.specs.declared.record.Wrong.{Wrong}
 use Rattle.cloak_model.specs.declared.record.Wrong.TheVariants.{Cut}
 use Rattle.cloak_model.specs.declared.fault.RecordFault.{RecordFault}
 use Rattle.cloak_model.specs.declared.fault.RecordFault.TheVariants.{Short}
-use Rattle.cloak_model.specs.Exchange.{item_bytes, record_magic, record_of}
+use Rattle.cloak_model.specs.Exchange.{item_bytes, record_magic, record_of, byte_of}
 use Rattle.cloak_model.specs.Fields.{number}
 use Rattle.cloak_model.specs.Record.{IsItem, IsRecord}
-use Rattle.cloak_model.specs.RecordFault.{IsWrong, Begins, byte_of, tag_of, stage_after, stage_behind, may_stand, wrong_item, wrong_behind, fault_of, magic_fault}
+use Rattle.cloak_model.specs.RecordFault.{IsWrong, Begins, tag_of, stage_after, stage_behind, may_stand, wrong_item, wrong_behind, fault_of, magic_fault}
 use Rattle.record_law.specs.Items.{size_of, is_numbered, item_in}
 use Rattle.record_law.proofs.Spelling.{IsBytes, tag_at, fields_of, item_bytes-parts, fields_spelled}
 use Rattle.record_law.proofs.Following.{Succeeds, item_rights, tag_known, numbered_same, bytes_tail}

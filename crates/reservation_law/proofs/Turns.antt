@@ -28,7 +28,8 @@ use Rattle.cloak_model.specs.KernelStep.{kernel_step, ticked}
 use Rattle.cloak_model.specs.Leaving.{leave}
 use Rattle.cloak_model.specs.Memory.{Seen, value_at, mark_of}
 use Rattle.cloak_model.specs.Parts.{Joint}
-use Rattle.cloak_model.specs.Resuming.{AfterResume, by_root, by_context, by_domain, resume}
+use Rattle.cloak_model.specs.Resuming.{AfterResume, resume}
+use Rattle.cloak_model.proofs.ResumeParts.{by_root, by_context, by_domain}
 use Rattle.cloak_model.specs.World.{World, Cloak, Flat, Cloaked, Alone, items_of, seen_of, violation_of, cipher_items}
 use Rattle.kernel_isolation.proofs.Accounts.{is_joint, IsJointWorld, Account, ram_seen}
 use Rattle.kernel_isolation.proofs.Ends.{EndsIn, end_shows}
@@ -219,7 +220,7 @@ unseen_domain j hart satp ctx reply None = record { harts = refl; memory = refl;
 unseen_domain j hart satp ctx reply (Some was) = unseen_context j satp ctx reply was _ _
 
 unseen : (j : Joint) (hart satp ctx reply : ℕ) → IsUnseen j (resume j hart satp ctx reply)
-unfolding resume
+unfolding resume by_domain by_context by_root
 unseen j hart satp ctx reply = unseen_domain j hart satp ctx reply (slice_get j.domains (domain_of ctx))
 
 -- How a step outside ends.

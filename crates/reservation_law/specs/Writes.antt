@@ -7,7 +7,7 @@ use Rattle.cloak_model.specs.declared.item.Item.{Item}
 use Rattle.cloak_model.specs.declared.item.Item.TheVariants.{Cipher, Put}
 use Rattle.cloak_model.specs.Ahead.{settle_touched}
 use Rattle.cloak_model.specs.Cloaking.{seen_in}
-use Rattle.cloak_model.specs.Hart.{Hart}
+use Rattle.cloak_model.specs.Hart.{Hart, hart_after}
 use Rattle.cloak_model.specs.Joint.{hart_in}
 use Rattle.cloak_model.specs.Parts.{Joint}
 use Rattle.cloak_model.specs.Run.{Run}
@@ -49,7 +49,7 @@ items_extents items = flat_map item_extents items
 
 -- the hart that makes a step
 abbrev pub hart_of_step : Bundle → ℕ → ℕ
-hart_of_step b n = slice_index b.kernel.schedule (n % length b.kernel.schedule)
+hart_of_step b n = hart_after b.kernel.schedule n
 
 -- what a hart outside does, on what the kernel sees after the frames that its step touches were settled
 abbrev pub outside_deed : Joint → Hart → Option ℕ → Deed

@@ -18,7 +18,7 @@ use Rattle.alone_views.specs.DomainStanding.{hart_at}
 use Rattle.alone_views.specs.KernelEnding.{is_end}
 use Rattle.step_lines.specs.Ahead.{reach_of}
 use Rattle.step_lines.specs.Contexts.{context_sight, context_step_line}
-use Rattle.step_lines.specs.Leading.{is_width}
+use Rattle.cloak_model.specs.Effect.{is_width}
 use Rattle.step_lines.specs.Lines.{item_line}
 use Rattle.step_lines.specs.declared.contexts.ContextAhead.{ContextAhead}
 use Rattle.step_lines.specs.declared.contexts.LastAnswer.{LastAnswer}

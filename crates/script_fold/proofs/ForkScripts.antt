@@ -13,6 +13,7 @@ use Rattle.cloak_model.specs.Asking.{Asking, then_ask}
 use Rattle.cloak_model.specs.Resources.{Resources, first_free}
 use Rattle.cloak_model.specs.Contexts.{Context, end_at, with_context}
 use Rattle.cloak_model.specs.Fork as forks
+use Rattle.cloak_model.proofs.ForkParts as fork_parts
 use Rattle.script_fold.proofs.Runs.{runs_in, free_taken}
 use Rattle.script_fold.proofs.Scripts.{Clear, Copy, Forget, EndClaims, IsStop, Scripted, OnlyChanges, scripted_gives, scripted_asks, changes_then, changes_end}
 
@@ -44,8 +45,8 @@ unfoldable fork_cleared_scripted : (d : ℕ) (c : Context) (slot new : ℕ) (r :
     (contexts : List (Option Context)) →
     ((hart s : ℕ) → runs_in hart (with_context slot (forks.child new c) contexts) s ≡ runs_in hart contexts s) →
     (a : Answer) →
-    Scripted d (of_fork contexts) (forks.fork_cleared d c slot new r contexts a)
-unfolding forks.fork_cleared forks.forked
+    Scripted d (of_fork contexts) (fork_parts.fork_cleared d c slot new r contexts a)
+unfolding forks.forked
 fork_cleared_scripted d c slot new r contexts free told.Ok =
     (copies_scripted d (of_fork contexts) (forks.copies c.space r) _ (changes_end d (of_fork contexts) _ free tt)).whole
 fork_cleared_scripted d c slot new r contexts free (told.Absent cause) =
@@ -72,13 +73,13 @@ has_free space r contexts = has_free_if contexts (is_some (first_free contexts))
 
 fork_if_scripted : (d : ℕ) (fits : Result (Unit {0}) MapFault) (c : Context) (r : Resources)
     (contexts : List (Option Context)) → HasFree contexts fits →
-    Scripted d (of_fork contexts) (forks.fork_if fits d c r contexts)
-unfolding forks.fork_if fork_cleared_scripted IsStop
+    Scripted d (of_fork contexts) (fork_parts.fork_if fits d c r contexts)
+unfolding fork_cleared_scripted IsStop
 fork_if_scripted d (Err fault) c r contexts free = scripted_gives d (of_fork contexts) _ (λ hart s. refl)
 fork_if_scripted d (Ok fits) c r contexts free =
     let new = unwrap_or (first_free r.spaces) 0 in
     let slot = unwrap_or (first_free contexts) 0 in
-    scripted_asks d (of_fork contexts) (Clear (forks.marked c.space r)) (forks.fork_cleared d c slot new r contexts)
+    scripted_asks d (of_fork contexts) (Clear (forks.marked c.space r)) (fork_parts.fork_cleared d c slot new r contexts)
     (fork_cleared_scripted d c slot new r contexts (free_taken (forks.child new c) contexts refl free)) refl
 
 pub fork_scripted : (d : ℕ) (c : Context) (r : Resources) (contexts : List (Option Context)) →
@@ -112,8 +113,7 @@ forgets_scripted d e (n ∷ list) next second =
     (forgets_scripted d e list next second)
 
 unfoldable end_cleared_scripted : (d slot space : ℕ) (r : Resources) (contexts : List (Option Context)) (a : Answer) →
-    Scripted d (of_end slot contexts) (forks.end_cleared d slot space r contexts a)
-unfolding forks.end_cleared
+    Scripted d (of_end slot contexts) (fork_parts.end_cleared d slot space r contexts a)
 end_cleared_scripted d slot space r contexts told.Ok =
     (forgets_scripted d (of_end slot contexts) (forks.private_numbers space r) _
     (changes_end d (of_end slot contexts) _ (λ goes. refl) tt)).whole
@@ -125,12 +125,12 @@ end_cleared_scripted d slot space r contexts told.Stopped =
     scripted_gives d (of_end slot contexts) _ (λ goes. absurd (goes refl))
 
 end_if_scripted : (d : ℕ) (others : Bool) (slot space : ℕ) (r : Resources) (contexts : List (Option Context)) →
-    Scripted d (of_end slot contexts) (forks.end_if others d slot space r contexts)
-unfolding forks.end_if end_cleared_scripted IsStop
+    Scripted d (of_end slot contexts) (fork_parts.end_if others d slot space r contexts)
+unfolding end_cleared_scripted IsStop
 end_if_scripted d true slot space r contexts = scripted_gives d (of_end slot contexts) _ (λ goes. refl)
 end_if_scripted d false slot space r contexts =
     scripted_asks d (of_end slot contexts) (Clear (forks.marked space r))
-    (forks.end_cleared d slot space r contexts) (end_cleared_scripted d slot space r contexts) refl
+    (fork_parts.end_cleared d slot space r contexts) (end_cleared_scripted d slot space r contexts) refl
 
 pub end_scripted : (d slot space : ℕ) (r : Resources) (contexts : List (Option Context)) →
     Scripted d (of_end slot contexts) (forks.end_context d slot space r contexts)

@@ -8,7 +8,8 @@ use Rattle.cloak_model.specs.Events.{Event, Look, Read}
 use Rattle.cloak_model.specs.World.{World, Cloak, Flat, Cloaked, Alone, noted, stored_at, settled, Handed, written, with_plain, cipher_items, regime_of}
 use Rattle.cloak_model.specs.Asking.{Told, Asking}
 use Rattle.cloak_model.specs.Walk.{Walk, FirstWord, Ends, GoesOn, first_entry}
-use Rattle.cloak_model.specs.Ask.{ask_word, ask_second, ask_after, ask_first, ask_walk, ask_inside, ask_translate, ask_led, known, opened}
+use Rattle.cloak_model.specs.Ask.{ask_word, ask_walk, ask_inside, ask_translate, ask_led, known, opened}
+use Rattle.cloak_model.proofs.WalkParts.{ask_second, ask_after, ask_first}
 use Rattle.cloak_base.specs.declared.names.Kind.{Kind}
 use Rattle.cloak_model.specs.declared.answer.Answer.{Answer}
 use Rattle.cloak_model.specs.declared.item.Item.{Item}
@@ -114,16 +115,13 @@ module _ (R : World → World → Type 0) (k : Opens R) where
   keeps_word pa w = keeps_either R _ _ _ w (k.settles.settled (frame_of pa) w) (k.settles.same w)
 
   keeps_second : (a : Access) (at1 at0 : ℕ) (w : World) → R w (ask_second a at1 at0 w).world
-  unfolding ask_second
   keeps_second a at1 at0 w = keeps_word at0 w
 
   keeps_after : (a : Access) (at1 : ℕ) (word : FirstWord) (w : World) → R w (ask_after a at1 word w).world
-  unfolding ask_after
   keeps_after a at1 (Ends walk) w = k.settles.same w
   keeps_after a at1 (GoesOn at0) w = keeps_second a at1 at0 w
 
   keeps_first : (a : Access) (at1 : ℕ) (w : World) → R w (ask_first a at1 w).world
-  unfolding ask_first
   keeps_first a at1 w = k.settles.chained _ _ _ (keeps_word at1 w) (keeps_after a at1 _ _)
 
   pub keeps_walk : (satp : ℕ) (a : Access) (w : World) → R w (ask_walk satp a w).world

@@ -13,7 +13,8 @@ use Rattle.cloak_base.specs.declared.names.PageId.{PageId}
 use Rattle.cloak_model.specs.declared.access.Access.{Access}
 use Rattle.cloak_model.specs.declared.access.Walked.{Walked}
 use Rattle.cloak_model.specs.declared.item.Item.{Item}
-use Rattle.cloak_model.specs.Ask.{shown_word, ask_word, ask_second, ask_after, ask_first, ask_walk, ask_inside, ask_translate}
+use Rattle.cloak_model.specs.Ask.{shown_word, ask_word, ask_walk, ask_inside, ask_translate}
+use Rattle.cloak_model.proofs.WalkParts.{ask_second, ask_after, ask_first}
 use Rattle.cloak_model.specs.AskPages.{is_store}
 use Rattle.cloak_model.specs.Asking.{Told}
 use Rattle.cloak_model.specs.Cloaking.{CloakedMemory, AfterSettling, AfterOffer, Ready, Mismatch, owed_in, owes, owing_frame, settle, settle_if, settle_frame_if, with_comparison, is_clash, taken, compared, unless_missed, offer}
@@ -71,7 +72,6 @@ first_still : (satp : ℕ) (a : Access) (c : Cloak) (first : FirstWord) → has_
     → is_in_ram c.memory.ram (first_entry satp a.va) ≡ true → owed_in c.memory (frame_of (first_entry satp a.va)) ≡ None
     → first_word a (first_entry satp a.va) (word_in_ram c.memory.ram (first_entry satp a.va)) ≡ first
     → ask_walk satp a (Cloaked c) ≡ ask_after a (first_entry satp a.va) first (Cloaked (after (Touch (frame_of (first_entry satp a.va)) ∷ []) c))
-unfolding ask_first
 first_still satp a c first paging inside clean word =
     let at1 = first_entry satp a.va in
     paged_if satp a c paging
@@ -80,7 +80,7 @@ first_still satp a c first paging inside clean word =
 
 leads_still : (satp : ℕ) (a : Access) (c : Cloak) (w : Walked) → AreClean c.memory w → Leads c.memory.ram satp a w
     → ask_walk satp a (Cloaked c) ≡ record { answer = Ok w; world = Cloaked (after (touches (tables_of w)) c) }
-unfolding ask_walk ask_after ask_second
+unfolding ask_walk
 leads_still satp a c w clean (Bare paging is) =
     ap (λ (b : Bool). cond b (ask_first a (first_entry satp a.va) (Cloaked c)) (let t : Told Walk = record { answer = without_paging a; world = Cloaked c } in t)) paging
     ∙ ap (λ (events : List Event). let t : Told Walk = record { answer = without_paging a; world = Cloaked (record c { events = events }) } in t) (sym (append-nil c.events))

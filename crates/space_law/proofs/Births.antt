@@ -7,7 +7,8 @@ use Rattle.cloak_model.specs.declared.answer.Answer.TheVariants as told
 use Rattle.cloak_model.specs.declared.resource.MapFault.{MapFault}
 use Rattle.cloak_model.specs.Contexts.{Context, context_at}
 use Rattle.cloak_model.specs.DomainState.{Control}
-use Rattle.cloak_model.specs.Fork.{fork_cleared, fork_if, fork, end_cleared, end_if, end_context}
+use Rattle.cloak_model.specs.Fork.{fork, end_context}
+use Rattle.cloak_model.proofs.ForkParts.{fork_cleared, fork_if, end_cleared, end_if}
 use Rattle.cloak_model.specs.Hypercalls.{Hypercall, ForkSpace, Exit, hypercall, fork_call, exit_call}
 use Rattle.cloak_model.specs.Resources.{Resources, page_at}
 use Rattle.cloak_model.specs.World.{World, Cloaked}
@@ -20,26 +21,22 @@ module _ (mapped : SpaceId → ℕ → Option PageId) (s : Option SpaceId) where
 
   pub maps_fork_cleared : (domain : ℕ) (c : Context) (slot new : ℕ) (r : Resources) (contexts : List (Option Context))
       (a : Answer) (w : World) → Maps mapped s w (fork_cleared domain c slot new r contexts a w).world
-  unfolding fork_cleared
   maps_fork_cleared domain c slot new r contexts told.Ok w = asks_copies mapped s domain _ w
   maps_fork_cleared domain c slot new r contexts _ w = maps_refl mapped s w
 
   pub maps_fork_if : (fits : Result (Unit {0}) MapFault) (domain : ℕ) (c : Context) (r : Resources)
       (contexts : List (Option Context)) (w : World) → Maps mapped s w (fork_if fits domain c r contexts w).world
-  unfolding fork_if
   maps_fork_if (Err fault) domain c r contexts w = maps_refl mapped s w
   maps_fork_if (Ok fits) domain c r contexts w =
       maps_trans mapped s w _ _ (asks_clear mapped s domain _ w) (maps_fork_cleared domain c _ _ r contexts _ _)
 
   pub maps_end_cleared : (domain slot space : ℕ) (r : Resources) (contexts : List (Option Context)) (a : Answer)
       (w : World) → Maps mapped s w (end_cleared domain slot space r contexts a w).world
-  unfolding end_cleared
   maps_end_cleared domain slot space r contexts told.Ok w = asks_forgets mapped s domain _ w
   maps_end_cleared domain slot space r contexts _ w = maps_refl mapped s w
 
   pub maps_end_if : (others : Bool) (domain slot space : ℕ) (r : Resources) (contexts : List (Option Context)) (w : World) →
       Maps mapped s w (end_if others domain slot space r contexts w).world
-  unfolding end_if
   maps_end_if true domain slot space r contexts w = maps_refl mapped s w
   maps_end_if false domain slot space r contexts w =
       maps_trans mapped s w _ _ (asks_clear mapped s domain _ w) (maps_end_cleared domain slot space r contexts _ _)

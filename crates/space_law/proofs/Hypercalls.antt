@@ -23,7 +23,8 @@ use Rattle.cloak_model.specs.declared.resource.MapFault.{MapFault}
 use Rattle.cloak_model.specs.Contexts.{Context}
 use Rattle.cloak_model.specs.DomainState.{Control, Domain}
 use Rattle.cloak_model.specs.DomainStep.{DomainStepped, instruction_ended, copy_ended, after_write, phase_step, step_if, domain_step, interrupt_if, interrupt, answer_taken, resume_told, resume_slot}
-use Rattle.cloak_model.specs.Fork.{Fork, End, Spaces, forked_resources, forked, fork_cleared, fork_if, fork, end_cleared, end_if, end_context}
+use Rattle.cloak_model.specs.Fork.{Fork, End, Spaces, forked_resources, forked, fork, end_context}
+use Rattle.cloak_model.proofs.ForkParts.{fork_cleared, fork_if, end_cleared, end_if}
 use Rattle.cloak_model.specs.Hypercalls.{Stepped, with_spaces, remapped, new_call, map_call, unmap_call, file_call, thread_at, thread_call, fork_told, fork_call, end_told, exit_call, call_begun, kernel_call, Hypercall, New, Map, Unmap, File, Thread, ForkSpace, Exit, Call, Unknown, hypercall}
 use Rattle.cloak_model.specs.Resources.{Resources, regions_in, page_at, first_free, drop_space}
 use Rattle.cloak_model.specs.World.{World}
@@ -101,7 +102,7 @@ pub record ForkKeeps (r : Resources) (made : Fork) : Type 0 where
 pub fork_cleared_keeps : (domain : ℕ) (c : Context) (slot new : ℕ) (r : Resources) (contexts : List (Option Context))
     (a : Answer) (w : World) → HasFree r (Ok tt) → new ≡ unwrap_or (first_free r.spaces) 0 →
     ForkKeeps r (fork_cleared domain c slot new r contexts a w).answer
-unfolding fork_cleared forked forked_resources
+unfolding forked forked_resources
 fork_cleared_keeps domain c slot new r contexts told.Ok w free lowest = record {
   regions = λ space. new_space_regions r new _ space (ap (regions_in r) lowest ∙ free);
 }
@@ -112,7 +113,6 @@ fork_cleared_keeps domain c slot new r contexts told.Stopped w free lowest = rec
 pub fork_if_keeps : (fits : Result (Unit {0}) MapFault) (domain : ℕ) (c : Context) (r : Resources)
     (contexts : List (Option Context)) (w : World) → HasFree r fits →
     ForkKeeps r (fork_if fits domain c r contexts w).answer
-unfolding fork_if
 fork_if_keeps (Err fault) domain c r contexts w free = record { regions = λ space. inl refl }
 fork_if_keeps (Ok fits) domain c r contexts w free = fork_cleared_keeps domain c _ _ r contexts _ _ free refl
 
@@ -143,7 +143,7 @@ pub record EndKeeps (r : Resources) (made : End) : Type 0 where
 
 pub end_cleared_keeps : (domain slot space : ℕ) (r : Resources) (contexts : List (Option Context)) (a : Answer)
     (w : World) → EndKeeps r (end_cleared domain slot space r contexts a w).answer
-unfolding end_cleared drop_space
+unfolding drop_space
 end_cleared_keeps domain slot space r contexts told.Ok w = record {
   regions = λ other spared. inl (other_regions r space None other spared);
 }
@@ -153,7 +153,6 @@ end_cleared_keeps domain slot space r contexts told.Stopped w = record { regions
 
 pub end_if_keeps : (others : Bool) (domain slot space : ℕ) (r : Resources) (contexts : List (Option Context)) (w : World) →
     EndKeeps r (end_if others domain slot space r contexts w).answer
-unfolding end_if
 end_if_keeps true domain slot space r contexts w = record { regions = λ other spared. inl refl }
 end_if_keeps false domain slot space r contexts w = end_cleared_keeps domain slot space r contexts _ _
 

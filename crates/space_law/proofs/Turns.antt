@@ -21,7 +21,8 @@ use Rattle.cloak_model.specs.Hart.{Hart}
 use Rattle.cloak_model.specs.Joint.{hart_in, memory_of, after_kernel_step, outside_ended, after_outside, outside_step, cloak_of, cloak_outside, pages_for, domain_ended, with_domain, after_domain_step, interrupt_ended, after_interrupt, by_interrupt, by_running, inside_step, turn_of}
 use Rattle.cloak_model.specs.KernelStep.{ticked}
 use Rattle.cloak_model.specs.Parts.{Joint}
-use Rattle.cloak_model.specs.Resuming.{by_root, by_context, by_domain, resume}
+use Rattle.cloak_model.specs.Resuming.{resume}
+use Rattle.cloak_model.proofs.ResumeParts.{by_root, by_context, by_domain}
 use Rattle.cloak_model.specs.World.{World, Cloaked}
 use Rattle.cloak_model.specs.DomainAlone.{runs_on}
 use Rattle.shadow_fold.specs.Events.{changed_by, asked_if, asked_running, asked_inside, asked_of}
@@ -87,7 +88,7 @@ module _ (s : SpaceId) (va : ℕ) (q : PageId) where
       context_has j satp ctx reply d _ _ there (resume_keeps (slot_of ctx) hart reply d.control) has
 
   pub resume_has : (j : Joint) (hart satp ctx reply : ℕ) → Has j → Has (resume j hart satp ctx reply).joint
-  unfolding resume
+  unfolding resume by_domain by_context by_root
   resume_has j hart satp ctx reply has = domain_has j hart satp ctx reply (slice_get j.domains (domain_of ctx)) refl has
 
   -- A hart outside.

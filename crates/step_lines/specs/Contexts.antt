@@ -1,7 +1,7 @@
 -- What a step of a program did, as texts: by what its context was about to do, by the last answer, and by what the context
 -- is after it.
 use Rattle.std.specs.Prelude.{ℕ, ◌-◌, Bool, true, false, ◌==◌, List, [], ◌∷◌, ◌++◌, codes, decimal, length, slice_index, Option, Some, None, is_some, if◌then◌else◌}
-use Rattle.cloak_model.specs.Contexts.{Context}
+use Rattle.cloak_model.specs.Contexts.{Context, exit_number}
 use Rattle.cloak_model.specs.declared.context.Phase.{Phase}
 use Rattle.cloak_model.specs.declared.context.Phase.TheVariants.{Plain, CopyIn, Waiting, CopyOut}
 use Rattle.cloak_model.specs.Report.{hexadecimal}
@@ -35,7 +35,7 @@ hypercall_name number =
     if number == 0x4F560004 then codes "FILE" else
     if number == 0x4F560005 then codes "THREAD" else
     if number == 0x4F560006 then codes "FORK" else
-    if number == 0x4F560007 then codes "EXIT" else
+    if number == exit_number then codes "EXIT" else
     if number == 0x4F560008 then codes "CALL" else codes "that is none:"
 
 abbrev pub register_word : List ℕ → ℕ → List ℕ

@@ -1,5 +1,6 @@
 -- How a step of a hart outside ended, beside what changed: a host call, a trap, or a context that is resumed.
 use Rattle.std.specs.Prelude.{ℕ, ◌==◌, ◌||◌, Bool, true, false, List, [], ◌∷◌, ◌++◌, codes, decimal, slice_index, Option, Some, None, if◌then◌else◌}
+use Rattle.cloak_model.specs.Csr.{timer_cause}
 use Rattle.cloak_model.specs.Report.{hexadecimal}
 use Rattle.cloak_model.specs.declared.outcome.Kernel.{Kernel}
 use Rattle.cloak_model.specs.declared.outcome.Kernel.TheVariants.{Stay, Put, Halt, Resume, Trapped}
@@ -40,7 +41,7 @@ host_calls a = host_if (is_ecall_word a.word) a.sight.regs
 
 -- a breakpoint, a call and the timer tell nothing in stval
 abbrev pub tells_value : ℕ → Bool
-tells_value cause = if (cause == 3) || ((cause == 8) || (cause == 0x80000005)) then false else true
+tells_value cause = if (cause == 3) || ((cause == 8) || (cause == timer_cause)) then false else true
 
 abbrev pub trap_value : Bool → ℕ → List ℕ
 trap_value tells value = if tells then codes ", stval " ++ hexadecimal value else []
@@ -68,7 +69,7 @@ step_effects a now ram (Resume ctx answer) = resume_text ctx answer ∷ []
 
 -- the step took the timer interrupt, and made no instruction
 abbrev pub is_interrupt : HartSight → Kernel → Bool
-is_interrupt now Trapped = cause_in now == 0x80000005
+is_interrupt now Trapped = cause_in now == timer_cause
 is_interrupt now other = false
 
 -- the word that was executed, or would have been

@@ -1,9 +1,10 @@
 -- Where the accesses of a hart lead, and what stands there.
-use Rattle.std.specs.Prelude.{ℕ, ◌%◌, ◌==◌, ◌&&◌, ◌||◌, Bool, List, length, Option, Some, None, Ok, Err, if◌then◌else◌}
+use Rattle.std.specs.Prelude.{ℕ, ◌%◌, ◌==◌, ◌&&◌, Bool, List, length, Option, Some, None, Ok, Err, if◌then◌else◌}
 use Rattle.cloak_base.specs.Constants.{is_in_frames}
 use Rattle.cloak_base.specs.declared.names.Kind.{Kind}
 use Rattle.cloak_model.specs.declared.access.Access.{Access}
 use Rattle.cloak_model.specs.Csr.{satp_of}
+use Rattle.cloak_model.specs.Effect.{is_width}
 use Rattle.cloak_model.specs.Hart.{Hart}
 use Rattle.cloak_model.specs.KernelStep.{access}
 use Rattle.cloak_model.specs.Memory.{is_in_ram, value_at}
@@ -21,9 +22,6 @@ led_by ram satp a = place_led ram (walk ram satp a)
 -- and of a hart
 abbrev pub led : List (List ℕ) → Hart → Kind → ℕ → Option ℕ
 led ram h kind va = led_by ram (satp_of h.csrs) (access h kind va)
-
-abbrev pub is_width : ℕ → Bool
-is_width width = (width == 1) || ((width == 2) || (width == 4))
 
 -- there are so many bytes at an address that is a multiple of their count
 abbrev pub is_readable : ℕ → ℕ → ℕ → Bool

@@ -2,7 +2,7 @@
 ghost use Rattle.std.specs.Prelude.{◌≡◌, ◌≤◌, true, length};
 ghost use Rattle.cloak_base.specs.Constants.{is_in_frames};
 ghost use Rattle.cloak_model.specs.Csr as csrs;
-ghost use Rattle.cloak_model.specs.Effect.{IsWidth};
+ghost use Rattle.cloak_model.specs.Effect.{IsWidth, is_width};
 ghost use Rattle.cloak_model.specs.KernelStep.{access};
 ghost use Rattle.step_lines.specs.Leading as spec;
 
@@ -94,7 +94,7 @@ pub fn led(frames: &[[u8; 4096]], h: &Hart, kind: Kind, va: u32) -> Option<u32>
 
 /// An access has this width.
 pub fn is_width(width: u32) -> bool
-    ensures value { result ≡ spec.is_width width }
+    ensures value { result ≡ is_width width }
     ensures width { result ≡ true → IsWidth width }
 {
     matches!(width, 1 | 2 | 4)

@@ -4,7 +4,7 @@ ghost use Rattle.std.specs.Prelude.{◌≡◌, ◌==◌, ◌+◌, ◌*◌, ◌<�
 ghost use Rattle.rv_isa.specs.Fields as fields;
 ghost use Rattle.cloak_model.specs.Walk as spec;
 
-use cloak_base::{Kind, Mode};
+use cloak_base::{Kind, Mode, RAM_START};
 use cloak_model::{Access, has_bit};
 
 #[inline]
@@ -79,7 +79,7 @@ pub fn frame_of(pa: u64) -> u32
     requires { pa < 2 ^ 34 }
     ensures { result ≡ (spec.frame_at pa).0 }
 {
-    (pa.saturating_sub(0x8000_0000) / 4096) as u32
+    (pa.saturating_sub(RAM_START as u64) / 4096) as u32
 }
 
 /// Where the entry of level 1 lies.

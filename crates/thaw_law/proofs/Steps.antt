@@ -19,7 +19,8 @@ use Rattle.cloak_model.specs.Hart.{Hart}
 use Rattle.cloak_model.specs.Joint.{Moment, Turn, quiet, next_hart, hart_in, cloak_of, cloak_outside, memory_of, after_kernel_step, outside_ended, after_outside, outside_step, domain_ended, with_domain, after_domain_step, pages_for, interrupt_ended, after_interrupt, by_interrupt, by_running, inside_step, turn_of, domain_met, end_domain, ends_once, ends_resumed, ends_asked, answers_violation, joint_step}
 use Rattle.cloak_model.specs.KernelStep.{ticked}
 use Rattle.cloak_model.specs.Parts.{Joint}
-use Rattle.cloak_model.specs.Resuming.{AfterResume, with_roots, by_root, by_context, by_domain, resume}
+use Rattle.cloak_model.specs.Resuming.{AfterResume, resume}
+use Rattle.cloak_model.proofs.ResumeParts.{with_roots, by_root, by_context, by_domain}
 use Rattle.cloak_model.specs.World.{World, Cloaked, items_of}
 use Rattle.thaw_law.specs.Past.{PastLoads, with_loads_before, with_past, moment_with_past, turn_with_past}
 use Rattle.thaw_law.proofs.Programs.{past_at, get_with_loads, set_with_loads, told_after, domain_step_after}
@@ -70,7 +71,7 @@ module _ (console : List ℕ) (loads : List PastLoads) where
 
   resume_after : (j : Joint) (hart satp ctx reply : ℕ) →
       resume (after j) hart satp ctx reply ≡ resumed_after (resume j hart satp ctx reply)
-  unfolding resume
+  unfolding resume by_domain by_context by_root
   resume_after j hart satp ctx reply =
       ap (by_domain (after j) hart satp ctx reply) (get_with_loads loads j.domains (domain_of ctx))
       ∙ domain_after j hart satp ctx reply (slice_get j.domains (domain_of ctx))

@@ -55,7 +55,7 @@ unfolding
     instructions registers.zero_registers
     effect.effect csr.with_pending csr.csr_read csr.csr_write csr.trap_entry csr.trap_return csr.interrupt_due
     hart.started walk.first_leaf walk.second_leaf walk.first_word walk.second_word walk.walk walk.walk_tables
-    ask.ask_word ask.ask_second ask.ask_after ask.ask_first ask.ask_walk ask.ask_inside ask.ask_translate
+    ask.ask_word ask.ask_walk ask.ask_inside ask.ask_translate
     ask.ask_led ask.ask_count ask.ask_value ask.ask_store ask.loaded_at ask.ask_load ask.stored_to
     ask.ask_store_at ask.ask_mark ask.ask_unmark ask.ask_marked ask.reserved_at ask.ask_reserve ask.stored_if
     ask.conditional_at ask.ask_store_conditional ask.combined_at ask.ask_combine ask.ask_frame ask.ask_fill
@@ -74,7 +74,7 @@ unfolding
     resources.unmap_region resources.drop_space contexts.started_contexts contexts.resume_if contexts.resume_at
     contexts.shown contexts.admit calls.begin_call calls.copy_in_step calls.copy_out_step calls.finish_call
     files.file_found files.file_resource fork.fork_fits fork.forked_resources fork.forked fork.ask_copies
-    fork.fork_cleared fork.fork_if fork.fork fork.ask_forgets fork.end_cleared fork.end_if fork.end_context
+    fork.fork fork.ask_forgets fork.end_context
     ask_pages.replies ask_pages.if_drawn ask_pages.ask_inside_address ask_pages.offered_by ask_pages.ask_offer
     ask_pages.reached ask_pages.reach_by_table ask_pages.get_at ask_pages.got ask_pages.get_by_table ask_pages.put_at
     ask_pages.stored_inside ask_pages.put_by_table ask_pages.settled_if_marked ask_pages.clear_from
@@ -107,7 +107,7 @@ unfolding
     cloaking.unless_missed page_moves.place_with page_moves.place
     page_moves.copy_pages page_moves.drop_pages touched.access_frames touched.transfer_frames touched.effect_frames
     touched.touched_after touched.touched ahead.settle_while ahead.settle_touched ahead.made_after ahead.settled_step
-    leaving.shown_registers leaving.leave resuming.by_root resuming.by_context resuming.by_domain resuming.resume
+    leaving.shown_registers leaving.leave resuming.resume
     opening.started_ledger opening.started_kernel opening.started_memory opening.started_joint opening.opened_with
     opening.opened_by opening.drawn_keys joint.outside_ended joint.after_outside joint.outside_step joint.domain_ended
     joint.after_domain_step joint.interrupt_ended joint.after_interrupt joint.by_interrupt joint.by_running

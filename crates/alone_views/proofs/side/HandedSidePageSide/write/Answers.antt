@@ -1,4 +1,4 @@
-use Rattle.std.proofs.Common.{◌∙◌, refl, ap, List, ℕ, [], slice_index_or, slice_set}
+use Rattle.std.proofs.Common.{◌∙◌, refl, ap, ℕ, [], slice_index_or, slice_set}
 use Rattle.cloak_model.specs.Memory.{with_value_in}
 use Rattle.alone_views.proofs.SideFollows.{write_follows}
 use Rattle.alone_views.proofs.side.HandedSidePageSide.write.Goals as goal
