@@ -10,6 +10,10 @@
 //! of every list of calls. The order in which frames are touched before an offer is up to the layer above. What
 //! freezing and thawing a frame do is told of the pager alone (`specs/Freezing`): a pager with a frozen frame stands
 //! for no memory that has the newest bytes of its page.
+//!
+//! No body changes `law_of_calls`. These changed definitions were tried on a copy, and with none of them did its
+//! proof go through: a content that is restored need not be sealed; an offer may take a draw; a touch that finds no
+//! draw loses no page; a reading is told also of a page whose newest bytes are lost.
 #![tactic(auto)]
 
 mod frame_right;

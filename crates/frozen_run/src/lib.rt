@@ -5,6 +5,10 @@
 //! first test that a file fails, and otherwise the state of the image that it spells. `law_of_frozen_states` says that a
 //! file spells one at most, and has no fault exactly if it spells one. What a state says of cloaked pages and of
 //! programs is ciphertext, and no key is here.
+//!
+//! No body changes `law_of_frozen_states`. These changed definitions were tried on a copy, and with none of them did
+//! its proof go through: register 0 may hold any word; a program counter may be any number; a vector may have any
+//! length.
 #![tactic(auto)]
 
 mod pen;

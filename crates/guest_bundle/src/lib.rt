@@ -9,6 +9,10 @@
 //! Each field is tested as soon as it is read whole, and a fault carries the offset of the field's first byte.
 //!
 //! The law on versions (`law_of_versions`): both versions of a bundle have the same joint run.
+//!
+//! No body changes the law. These changed definitions were tried on a copy, and with none of them did its proof go
+//! through: 2 is no version; all keys must be 0 in version 2, and not in version 1; in the file the stack pointer of a
+//! program stands once more in the place of its key, or the count of frames in the place of that of harts.
 #![tactic(auto)]
 
 mod fields;

@@ -4,6 +4,10 @@
 //! another and then none; of any other file the items before its first fault, and then that fault (`specs/RecordFault`),
 //! as often as it is asked. It makes the item in the place of its kind among those that its caller keeps. It reads the file
 //! ahead, into a window of its own, and takes no memory.
+//!
+//! No body changes `law_of_reading`. These changed definitions were tried on a copy, and with none of them did its
+//! proof go through: no item may be returned anywhere, not only at the record's end; a fault may be one of another
+//! place; a reader may stand after any items that are as long as what it has read.
 #![tactic(auto)]
 
 mod ahead;

@@ -5,6 +5,10 @@
 //! take `prepare_run`, which opens its machine from the files that the words name, or says why there is none;
 //! `write_steps`, `run_steps` and `write_end`, which write its parts; `Unheard`, which writes nothing; and
 //! `stop_status`. Of any two runs that were made `law_of_two_runs` says what the kernel, or a program, sees of them alone.
+//!
+//! No body changes `law_of_two_runs`. These changed definitions were tried on a copy, and with none of them did its
+//! proof go through: the two runs have one inward half for program 0, where the kernel is meant; the second image has
+//! the program at the next number; the items are those of the record's file as it was before the call.
 #![tactic(auto)]
 
 mod command;

@@ -75,11 +75,17 @@ pub fn is_all_blank(text: &[u8]) -> bool
     text.iter().all(|b| is_blank(*b))
 }
 
+fn is_byte(b: u8, c: u8) -> bool
+    ensures { result ≡ (b == c) }
+{
+    b == c
+}
+
 fn len_before(text: &[u8], c: u8) -> usize
     ensures value { result ≡ position_or_len (λ b. b == c) text.now }
     ensures within { result ≤ length text.now }
 {
-    text.iter().take_while(|b| **b != c).count()
+    text.iter().take_while(|b| !is_byte(**b, c)).count()
 }
 
 /// What stands before the first byte `c`, or all.

@@ -7,6 +7,10 @@
 //!
 //! The layer above may rely on this: which files and pages a table has is all that these bytes say. Whether a page's
 //! bytes fit what the table knows of them is seen as the page is offered.
+//!
+//! No body changes `law_of_stores`. These changed definitions were tried on a copy, and with none of them did its
+//! proof go through: a file of 201,524 bytes is too long; the number of a file may be 2^32; the counter is not
+//! compared.
 #![tactic(auto)]
 
 mod cursor;

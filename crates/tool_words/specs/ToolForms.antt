@@ -11,8 +11,8 @@ abbrev pub named_option : List ℕ → Rule
 named_option name = record (new_rule name) { long = Some name; value_names = 1 }
 
 -- an option whose value is a number, as a step, 0 to 2^32 - 1
-abbrev pub step_option : List ℕ → Rule
-step_option name = record (named_option name) { parser = Some (Signed (pos 0) (pos 4294967295)) }
+abbrev pub number_option : List ℕ → Rule
+number_option name = record (named_option name) { parser = Some (Signed (pos 0) (pos 4294967295)) }
 
 -- an option whose value is the number of a program, 0 to 3
 abbrev pub program_option : List ℕ → Rule
@@ -31,7 +31,7 @@ asm_form = command_with (codes "asm") (position (codes "TEXT") ∷ position (cod
 
 abbrev pub disasm_form : App
 disasm_form = command_with (codes "disasm")
-    (position (codes "FILE") ∷ named_option (codes "base") ∷ step_option (codes "segment") ∷ step_option (codes "program")
+    (position (codes "FILE") ∷ named_option (codes "base") ∷ number_option (codes "segment") ∷ number_option (codes "program")
     ∷ [])
 
 abbrev pub pack_form : App
@@ -39,13 +39,13 @@ pack_form = command_with (codes "pack") (position (codes "MANIFEST") ∷ positio
 
 abbrev pub show_form : App
 show_form = command_with (codes "show")
-    (position (codes "RECORD") ∷ step_option (codes "from") ∷ step_option (codes "to")
-    ∷ named_option (codes "only") ∷ flag (codes "counts") ∷ flag (codes "json") ∷ step_option (codes "follow") ∷ [])
+    (position (codes "RECORD") ∷ number_option (codes "from") ∷ number_option (codes "to")
+    ∷ named_option (codes "only") ∷ flag (codes "counts") ∷ flag (codes "json") ∷ number_option (codes "follow") ∷ [])
 
 abbrev pub trace_form : App
 trace_form = command_with (codes "trace")
-    (position (codes "BUNDLE") ∷ position (codes "RECORD") ∷ program_option (codes "program") ∷ step_option (codes "from")
-    ∷ step_option (codes "to") ∷ step_option (codes "hart") ∷ [])
+    (position (codes "BUNDLE") ∷ position (codes "RECORD") ∷ program_option (codes "program") ∷ number_option (codes "from")
+    ∷ number_option (codes "to") ∷ number_option (codes "hart") ∷ [])
 
 abbrev pub draw_form : App
 draw_form = command_with (codes "draw")

@@ -31,18 +31,10 @@ fn named_option<'a>(alloc: Global, name: &'a str, value: &'a str, help: &'a str)
 
 /// An option whose value is a number, which help calls `value`.
 fn number_option<'a>(alloc: Global, name: &'a str, value: &'a str, help: &'a str) -> Arg<'a>
-    ensures rule { rule_of result ≡ spec.step_option name.entry.now }
+    ensures rule { rule_of result ≡ spec.number_option name.entry.now }
     ensures local { result.global ≡ false }
 {
     named_option(alloc, name, value, help).value_parser(value_parser!(u32))
-}
-
-/// An option whose value is a step.
-fn step_option<'a>(alloc: Global, name: &'a str, help: &'a str) -> Arg<'a>
-    ensures rule { rule_of result ≡ spec.step_option name.entry.now }
-    ensures local { result.global ≡ false }
-{
-    number_option(alloc, name, "N", help)
 }
 
 /// An option whose value is the number of a program, 0 to 3.
@@ -135,8 +127,8 @@ fn show_form<'a>(alloc: Global) -> Result<Command<'a>, NoMemory>
     ensures { IfOk result (HasForm spec.show_form) }
 {
     let record = position(alloc, "RECORD", "The record of a run");
-    let from = step_option(alloc, "from", "The first step; 0 is the opening");
-    let to = step_option(alloc, "to", "The last step");
+    let from = number_option(alloc, "from", "N", "The first step; 0 is the opening");
+    let to = number_option(alloc, "to", "N", "The last step");
     let only = kinds_option(
         alloc,
         "only",
@@ -152,9 +144,10 @@ fn show_form<'a>(alloc: Global) -> Result<Command<'a>, NoMemory>
         "json",
         "Show objects of JSON, a line for each item, instead of text",
     );
-    let follow = step_option(
+    let follow = number_option(
         alloc,
         "follow",
+        "N",
         "Begin at this step: another name for --from, which counts if both are given",
     );
     let show = Command::new(alloc, "show")
@@ -174,8 +167,8 @@ fn trace_form<'a>(alloc: Global) -> Result<Command<'a>, NoMemory>
 {
     let bundle = position(alloc, "BUNDLE", "The guest image");
     let record = position(alloc, "RECORD", "The record of its run");
-    let from = step_option(alloc, "from", "The first step");
-    let to = step_option(alloc, "to", "The last step");
+    let from = number_option(alloc, "from", "N", "The first step");
+    let to = number_option(alloc, "to", "N", "The last step");
     let program = program_option(
         alloc,
         "program",

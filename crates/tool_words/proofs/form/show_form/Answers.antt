@@ -6,12 +6,12 @@ use Rattle.tool_words.proofs.form.show_form.Goals as goal
 pub returns : goal.returns
 returns c =
     let name = c.position-record.ensures in
-    let from = c.step_option-from.ensures in
-    let to = c.step_option-to.ensures in
+    let from = c.number_option-from.ensures in
+    let to = c.number_option-to.ensures in
     let only = c.kinds_option-only.ensures in
     let counts = c.flag-counts.ensures in
     let json = c.flag-json.ensures in
-    let follow = c.step_option-follow.ensures in
+    let follow = c.number_option-follow.ensures in
     let bare : app_of c.about.result ≡ new_app (codes "show") = search rules in
     let own : app_of c.in_ok-show.show ≡ show_form =
     c.in_ok-show.ensures.shape follow.local
