@@ -57,7 +57,7 @@ fork_goes_on stands_for old new domain c slot space r contexts settled n s ok nu
     let number_of : CtxId = record { 0 = context_number domain slot } in
     let given = forked c slot space r contexts in
     let is : made_both n s ≡ made_both number_of given =
-        subst (λ m. made_both m s ≡ made_both number_of given) (sym number) (subst (λ t. made_both number_of t ≡ made_both number_of given) (sym spaces) refl) in
+    subst (λ m. made_both m s ≡ made_both number_of given) (sym number) (subst (λ t. made_both number_of t ≡ made_both number_of given) (sym spaces) refl) in
     subst (λ x. Follows stands_for old new (made_both n s) (fork_cleared domain c slot space r contexts x)) (sym ok)
     (λ first w stands unclashed. record { answer = is; stands = (follows first w stands unclashed).stands })
 

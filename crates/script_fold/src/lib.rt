@@ -6,8 +6,10 @@
 //! steps do. The laws here have one of these properties: the page tables that spaces were first resumed with.
 //!
 //! No body changes a law, so there is no wrong body to refuse here. With these changed definitions, tried on a copy,
-//! the proofs did not go through: the pages of a resource are dropped with all page tables that are recorded; the
-//! count of draws is kept like a page table; so is the number of items that were written.
+//! the proofs did not go through: the pages of a resource are dropped with all page tables that are recorded; a frame
+//! that is settled forgets them; the count of draws is kept like a page table; so is the number of items that were
+//! written. Of a step: it forgets the page tables of its program; it keeps the ciphertexts that were last shown. Of an
+//! end: it forgets the page tables of its domain; it keeps what the frames are owed.
 #![tactic(auto)]
 
 ghost use Rattle.script_fold.specs.Tables.{EndKeepsTables, StepKeepsTables};

@@ -9,8 +9,8 @@
 //! bytes fit what the table knows of them is seen as the page is offered.
 //!
 //! No body changes `law_of_stores`. These changed definitions were tried on a copy, and with none of them did its
-//! proof go through: a file of 201,524 bytes is too long; the number of a file may be 2^32; the counter is not
-//! compared.
+//! proof go through: a file of 201,524 bytes is too long; the number of a file may be 2^32; two files of a program
+//! may have one number; the counter is not compared.
 #![tactic(auto)]
 
 mod cursor;

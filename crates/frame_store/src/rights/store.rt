@@ -1,46 +1,71 @@
-ghost use Rattle.std.specs.Prelude.{◌≡◌, ℕ, ◌+◌, ◌<◌, ◌≤◌, List, length, vec_capacity, slice_get, slice_set, Some, IfOk, replicate};
+ghost use Rattle.std.specs.Prelude.{◌≡◌, ◌≢◌, ℕ, ◌<◌, ◌≤◌, List, length, vec_capacity, slice_get, slice_set, Some, IfOk, replicate};
 ghost use Rattle.std.specs.Borrow.{sem};
 ghost use Rattle.cloak_base.specs.Pages.{zero_page};
-ghost use Rattle.frame_store.specs.Frames.{all_frames};
+ghost use Rattle.frame_store.specs.Frames.{AreSlots, in_slots};
 
 use super::{ChangedRight, CleanRight, OutsideRight};
 use cloak_base::{Frame, NoMemory, PageId};
 use std::alloc::Global;
 use std::marker::Model;
 
-/// A frame in which nothing was stored yet.
+/// What a frame has in which nothing was stored yet.
 static ZEROS: [u8; 4096] = [0; 4096];
 
-/// The bytes of all frames. Its value is the list of the frames, each a list of its 4096 bytes. Frames after the last
-/// one in which something was stored are zeros, and only their room is there: the system gives it memory as something
-/// is stored.
+/// The bytes of all frames. Its value is the list of the frames, each a list of its 4096 bytes. Each frame in which
+/// something was stored stands in a slot of its own. All others are zeros, and stand in slot 0. There is room for a slot
+/// for each frame from the opening on, but the system gives memory only to what is written: so a frame takes memory as
+/// something is stored in it, whatever its number.
 #[derive(Drop)]
 pub struct FrameStore {
+    /// The slots: the first one has zeros.
     frames: Vec<[u8; 4096]>,
-    count: usize,
+    /// The slot of each frame.
+    slots: Vec<u32>,
 }
 
 impl Model for FrameStore {
-    ghost use Rattle.std.specs.Prelude.{List, ℕ, length, vec_capacity};
-    ghost use Rattle.frame_store.specs.Frames.{all_frames, HasRoom};
+    ghost use Rattle.std.specs.Prelude.{List, ℕ, vec_capacity};
+    ghost use Rattle.frame_store.specs.Frames.{in_slots, AreSlots};
 
     ghost Value = { List (List ℕ) };
 
-    ghost view = { λ s. all_frames s.frames.items s.count };
+    ghost view = { λ s. in_slots s.frames.items s.slots.items };
 
-    ghost invariant = { λ s. HasRoom (length s.frames.items) s.count (vec_capacity s.frames) };
+    ghost invariant = { λ s. AreSlots s.frames.items s.slots.items (vec_capacity s.frames) };
 }
 
-/// Makes frames of zeros up to this one.
-#[tactic(auto, unfolding(cloak_base::specs::Pages::zero_page))]
-fn reach(frames: &mut Vec<[u8; 4096]>, f: usize)
-    requires { f < vec_capacity frames.old }
-    ensures frames { frames.new.items ≡ all_frames frames.old.items (f + 1) }
-    ensures capacity { vec_capacity frames.new ≡ vec_capacity frames.old }
+/// Gives a frame in which nothing was stored a slot of its own, of zeros.
+#[cold]
+#[inline(never)]
+fn take_slot(frames: &mut Vec<[u8; 4096]>, slots: &mut Vec<u32>, f: usize) -> usize
+    requires slots { AreSlots frames.old.items slots.old.items (vec_capacity frames.old) }
+    requires unstored { slice_get slots.old.items f ≡ Some 0 }
+    ensures slots { AreSlots frames.new.items slots.new.items (vec_capacity frames.new) }
+    ensures same { in_slots frames.new.items slots.new.items ≡ in_slots frames.old.items slots.old.items }
+    ensures slot { slice_get slots.new.items f ≡ Some result }
+    ensures stored { result ≢ 0 }
 {
-    while frames.len() <= f {
-        frames.push_reserved([0; 4096]);
+    let slot = frames.len();
+    slots[f] = slot as u32;
+    frames.push_reserved(ZEROS);
+    slot
+}
+
+/// The slot of a frame in which something is to be stored.
+#[inline(always)]
+fn reach(frames: &mut Vec<[u8; 4096]>, slots: &mut Vec<u32>, f: usize) -> usize
+    requires slots { AreSlots frames.old.items slots.old.items (vec_capacity frames.old) }
+    requires there { f < length slots.old.items }
+    ensures slots { AreSlots frames.new.items slots.new.items (vec_capacity frames.new) }
+    ensures same { in_slots frames.new.items slots.new.items ≡ in_slots frames.old.items slots.old.items }
+    ensures slot { slice_get slots.new.items f ≡ Some result }
+    ensures stored { result ≢ 0 }
+{
+    let slot = slots[f] as usize;
+    if slot == 0 {
+        return take_slot(frames, slots, f);
     }
+    slot
 }
 
 impl FrameStore {
@@ -55,31 +80,22 @@ impl FrameStore {
         ensures count { IfOk result (λ p. length p.1.items ≡ n) }
         ensures rights { IfOk result (λ p. (k : ℕ) → k < n → slice_get p.1.items k ≡ Some (record { 0 = k })) }
     {
-        let frames = Vec::with_capacity(alloc, n as usize)?;
+        let mut frames = Vec::with_capacity(alloc, n as usize + 1)?;
+        frames.push_reserved(ZEROS);
+        let slots = vec![in alloc; 0; n as usize]?;
         let mut rights = Vec::with_capacity(alloc, n as usize)?;
         for i in 0..n {
             rights.push(OutsideRight { frame: Frame(i) })?;
         }
-        Ok((
-            FrameStore {
-                frames,
-                count: n as usize,
-            },
-            rights,
-        ))
+        Ok((FrameStore { frames, slots }, rights))
     }
 
     /// The bytes of a frame.
-    #[tactic(auto, unfolding(cloak_base::specs::Pages::zero_page))]
     fn at(&self, f: Frame) -> &[u8; 4096]
         requires { f.0 < length self.now }
         ensures { slice_get self.now f.0 ≡ Some result.now }
     {
-        if (f.0 as usize) < self.frames.len() {
-            &self.frames[f.0 as usize]
-        } else {
-            &ZEROS
-        }
+        &self.frames[self.slots[f.0 as usize] as usize]
     }
 
     /// Stores all bytes of a frame.
@@ -87,15 +103,15 @@ impl FrameStore {
         requires { f.0 < length self.old }
         ensures { self.new ≡ slice_set self.old f.0 new.now }
     {
-        reach(&mut self.frames, f.0 as usize);
-        self.frames[f.0 as usize] = *new;
+        let slot = reach(&mut self.frames, &mut self.slots, f.0 as usize);
+        self.frames[slot] = *new;
     }
 
     /// How many frames there are.
     pub fn count(&self) -> usize
         ensures { result ≡ length self.now }
     {
-        self.count
+        self.slots.len()
     }
 
     pub fn outside(&self, r: &OutsideRight) -> &[u8; 4096]
@@ -110,8 +126,8 @@ impl FrameStore {
         ensures* writes_back { sem 𝓛 (LendsFrameBytes self.entry r.now.0 result) }
         ensures value { slice_get self.old r.now.0 ≡ Some result.now }
     {
-        reach(&mut self.frames, r.frame.0 as usize);
-        &mut self.frames[r.frame.0 as usize]
+        let slot = reach(&mut self.frames, &mut self.slots, r.frame.0 as usize);
+        &mut self.frames[slot]
     }
 
     pub fn plain(&self, r: &CleanRight) -> &[u8; 4096]
@@ -133,8 +149,8 @@ impl FrameStore {
         ensures* writes_back { sem 𝓛 (LendsFrameBytes self.entry r.now.frame.0 result) }
         ensures value { slice_get self.old r.now.frame.0 ≡ Some result.now }
     {
-        reach(&mut self.frames, r.frame.0 as usize);
-        &mut self.frames[r.frame.0 as usize]
+        let slot = reach(&mut self.frames, &mut self.slots, r.frame.0 as usize);
+        &mut self.frames[slot]
     }
 
     /// The frame holds page `q`, as it was last shown.

@@ -1,8 +1,9 @@
-use Rattle.std.proofs.Common.{sym}
-use Rattle.frame_store.proofs.Kept.{stored}
+use Rattle.std.proofs.Common.{◌∙◌}
+use Rattle.frame_store.proofs.Slots.{stored}
 use Rattle.frame_store.proofs.rights.store.FrameStore.fill.Goals as goal
 
 pub returns : goal.returns
 returns c =
-    stored c.self.inside.frames.items c.reach.new.frames.items c.args.self.now c.self.inside.count c.args.f.0 c.args.new.now
-    (sym c.self.view_is) c.reach.ensures.frames c.requires c.self.invariant.few
+    let e = c.reach-slot.ensures in
+    stored c.reach-slot.new.frames.items c.reach-slot.new.slots.items c.args.self.now _ c.args.f.0 c.reach-slot.result c.args.new.now
+    e.slots (e.same ∙ c.self.view_is) e.slot e.stored
