@@ -1,5 +1,5 @@
 -- Machines that run alone take the items of a record, one after another.
-use Rattle.std.proofs.Common.{◌≡◌, ◌≢◌, ◌<◌, ◌≤◌, ◌+◌, ◌*◌, ◌/◌, ◌%◌, ℕ, true, List, [], ◌∷◌, ◌++◌, length, slice_get, slice_index_or, slice_set, Option, Some, None, option_map, unwrap_or, Result, Ok, Err, refl, sym, ap, subst, ◌∙◌, inl, inr, arith}
+use Rattle.std.proofs.Common.{◌≡◌, ◌<◌, ◌≤◌, ◌+◌, ◌*◌, ◌/◌, ◌%◌, ℕ, true, List, [], ◌∷◌, ◌++◌, length, slice_get, slice_index_or, slice_set, Option, Some, None, option_map, unwrap_or, Result, Ok, Err, refl, sym, ap, subst, ◌∙◌, inl, inr, arith}
 use Rattle.std.proofs.lemmas.Bool.{cases_lt}
 use Rattle.std.proofs.lemmas.List.{get_or-set_other, get_or-set_same, get_or_append_left}
 use Rattle.std.proofs.Math.Seq.{get_or-append_seam}
@@ -21,8 +21,11 @@ use Rattle.alone_views.specs.declared.unfit.Unfit.{Unfit}
 use Rattle.alone_views.specs.DomainStanding.{StandsForDomain, TakesDomainItem, answer_by}
 use Rattle.alone_views.specs.KernelStanding.{StandsForKernel, TakesItem, answer_for, unfit_step}
 use Rattle.alone_views.specs.KernelEnding.{EndsAs, is_end}
-use Rattle.replayed_run.specs.Alone.{FitsAlone, IsUnfitForProgram, context_in, standing, standing_told, words_of}
-use Rattle.replayed_run.specs.Machines.{EndsStep, ProgramStands, ProgramsStand, ProgramsTake, StandAlone, TakeAlone, TookItem}
+use Rattle.alone_views.specs.declared.asked.AskedAccess.{AskedAccess}
+use Rattle.alone_views.specs.declared.asked.AskedAccess.TheVariants as asked
+use Rattle.replayed_run.specs.Questions.{access_if, access_in, question_in}
+use Rattle.replayed_run.specs.Alone.{IsUnfitForProgram, context_in, standing, standing_told, words_of}
+use Rattle.replayed_run.specs.Machines.{ProgramStands, ProgramsStand, ProgramsTake, StandAlone, TakeAlone}
 use Rattle.replayed_run.specs.declared.machines.HartWords.{HartWords}
 use Rattle.replayed_run.specs.declared.machines.Machines.{Machines}
 use Rattle.replayed_run.specs.declared.machines.StandingContext.{StandingContext}
@@ -332,6 +335,32 @@ context_is b items machines programs ctx machine r stand same low is tells =
     ∙ (standing_as ctx
     (context_at (domain_alone (ctx / 8) b.kernel.schedule at.0 items).part.domain.control.contexts (ctx % 8))
     ∙ ap (λ (p : Option Program). standing ctx (context_in b items ctx p)) (sym at.1))
+
+-- what a program asks for
+pub question_is : (b : Bundle) (items : List Item) (machines : Machines) (programs : List DomainAlone) (d n : ℕ)
+    (machine : DomainAlone) (r : AskedAccess) → StandAlone b items machines → programs ≡ machines.programs.items →
+    d < length programs → machine ≡ slice_index_or programs d machine →
+    ((number : ℕ) (schedule : List ℕ) (s : domain.DomainAlone) → StandsForDomain number schedule machine s →
+    s.unfit ≡ None → r ≡ access_in n s) → r ≡ question_in b items d n
+question_is b items machines programs d n machine r stand same low is tells =
+    let at = program_at b items programs d
+    (subst (λ (l : List DomainAlone). ProgramsStand b items l) (sym same) stand.programs) low in
+    let stands : ProgramStands b items d at.0 machine =
+    subst (λ (m : DomainAlone). ProgramStands b items d at.0 m)
+    (ap (λ (l : List DomainAlone). slice_index_or l d machine) (sym same) ∙ sym is)
+    (stand.programs.each d at.0 machine at.1) in
+    tells d b.kernel.schedule (domain_alone d b.kernel.schedule at.0 items) stands.stands stands.fits
+    ∙ ap (λ (p : Option Program). access_if b items d n p) (sym at.1)
+
+-- no program of this number asks
+pub question_past : (b : Bundle) (items : List Item) (machines : Machines) (programs : List DomainAlone) (d n : ℕ) →
+    StandAlone b items machines → programs ≡ machines.programs.items → length programs ≤ d →
+    asked.Nothing ≡ question_in b items d n
+question_past b items machines programs d n stand same past =
+    let all = ap (λ (l : List DomainAlone). length l) same in
+    let count = stand.programs.count in
+    sym (ap (λ (p : Option Program). access_if b items d n p)
+    (slice_get_past b.programs d (omega (arith, past, all, count))))
 
 -- there is no such program
 pub context_past : (b : Bundle) (items : List Item) (machines : Machines) (programs : List DomainAlone) (ctx : ℕ) →

@@ -1,5 +1,5 @@
 -- What is noted of items and one more.
-use Rattle.std.proofs.Common.{◌≡◌, ◌+◌, ◌*◌, ◌/◌, ◌&&◌, ℕ, Bool, true, false, not, List, [], ◌∷◌, ◌++◌, Option, Some, add-one, refl, sym, ap, subst, ◌∙◌, append_assoc, append-nil}
+use Rattle.std.proofs.Common.{◌≡◌, ◌+◌, ◌*◌, ◌/◌, ◌&&◌, ℕ, Bool, true, false, not, List, [], ◌∷◌, ◌++◌, Option, Some, add-one, refl, sym, ap, ◌∙◌, append_assoc, append-nil}
 use Rattle.std.specs.List.{fold}
 use Rattle.std.proofs.lemmas.List.Sums.{fold-append}
 use Rattle.cloak_model.specs.declared.image.Bundle.{Bundle}
@@ -7,16 +7,17 @@ use Rattle.cloak_model.specs.declared.item.Item.{Item}
 use Rattle.cloak_model.specs.declared.outcome.Kernel.{Kernel}
 use Rattle.cloak_model.specs.KernelAlone as model
 use Rattle.cloak_model.specs.KernelAlone.{kernel_alone, kernel_hart}
-use Rattle.alone_views.specs.KernelEnding.{is_end, plain_ending}
+use Rattle.alone_views.specs.KernelEnding.{plain_ending}
 use Rattle.replayed_run.specs.Alone.{standing_told, words_of}
 use Rattle.replayed_run.specs.ContextsTold.{resumed_at}
 use Rattle.replayed_run.specs.Machines.{StandAlone}
 use Rattle.replayed_run.specs.Noted.{Noted, asked_at_end, asked_from, asked_unless, is_in_space, is_left, no_notes, noted_in, noted_more, notes_after, resume_noted}
+use Rattle.replayed_run.specs.Questions.{Questioned, no_questions, question_for, questioned_in, questioned_more, questions_after}
 use Rattle.replayed_run.specs.Watching.{Watches, notes_of}
 use Rattle.replayed_run.specs.declared.machines.HartWords.{HartWords}
 use Rattle.replayed_run.specs.declared.machines.StandingContext.{StandingContext}
-use Rattle.replayed_run.specs.declared.notes.Asking.{Asking}
 use Rattle.replayed_run.specs.declared.notes.Notes.{Notes}
+use Rattle.replayed_run.specs.declared.questions.Questions.{Questions}
 use Rattle.replayed_run.specs.declared.watch.Watch.{Watch}
 
 -- the items that were noted
@@ -40,13 +41,39 @@ notes_more b items i =
     ap (λ (n : Noted). n.notes) (noted_in_more b items i)
     ∙ ap (λ (l : List Item). notes_after b l (l ++ i ∷ []) (noted_in b items).notes i) (noted_items b items)
 
+-- the items that were questioned
+items_questioned : (b : Bundle) (n : Questioned) (items : List Item) →
+    (fold (questioned_more b) n items).items ≡ n.items ++ items
+unfolding questioned_more
+items_questioned b n [] = sym (append-nil n.items)
+items_questioned b n (i ∷ items) = items_questioned b (questioned_more b n i) items ∙ append_assoc n.items (i ∷ []) items
+
+questioned_items : (b : Bundle) (items : List Item) → (questioned_in b items).items ≡ items
+questioned_items b items = items_questioned b (record { items = []; questions = no_questions }) items
+
+questions_more : (b : Bundle) (items : List Item) (i : Item) →
+    (questioned_in b (items ++ i ∷ [])).questions
+    ≡ questions_after (questioned_in b items).questions
+    (question_for b items (questioned_in b items).questions.answers i) i
+unfolding questioned_more
+questions_more b items i =
+    let q = (questioned_in b items).questions in
+    ap (λ (n : Questioned). n.questions)
+    (fold-append (questioned_more b) (record { items = []; questions = no_questions }) items (i ∷ []))
+    ∙ ap (λ (l : List Item). questions_after q (question_for b l q.answers i) i) (questioned_items b items)
+
 -- the machines took an item, and it was noted
 pub watches_more : (b : Bundle) (items : List Item) (i : Item) (old new : Watch) → Watches b items old →
     StandAlone b (items ++ i ∷ []) new.machines →
-    notes_of new ≡ notes_after b items (items ++ i ∷ []) (notes_of old) i → Watches b (items ++ i ∷ []) new
-watches_more b items i old new watched stand noted = record {
+    notes_of new ≡ notes_after b items (items ++ i ∷ []) (notes_of old) i →
+    new.questions ≡ questions_after old.questions (question_for b items old.questions.answers i) i →
+    Watches b (items ++ i ∷ []) new
+watches_more b items i old new watched stand noted asked = record {
   machines = stand;
   notes = noted ∙ (ap (λ (n : Notes). notes_after b items (items ++ i ∷ []) n i) watched.notes ∙ sym (notes_more b items i));
+  questions = asked
+      ∙ (ap (λ (q : Questions). questions_after q (question_for b items q.answers i) i) watched.questions
+      ∙ sym (questions_more b items i));
 }
 
 -- for which context a hart asked, by how the last plain step ended

@@ -1,5 +1,6 @@
 pub mod Silent
 pub mod Leading
+pub mod Questions
 pub mod Alone
 pub mod ContextsTold
 pub mod Machines

@@ -1,5 +1,5 @@
 -- What the machines that run alone stand for after the items of a record.
-use Rattle.std.specs.Prelude.{ℕ, ◌≡◌, true, List, [], ◌∷◌, ◌++◌, length, slice_get, slice_index_or, Option, Some, None, Result, Ok, Err}
+use Rattle.std.specs.Prelude.{ℕ, ◌≡◌, true, List, [], ◌∷◌, ◌++◌, length, slice_get, slice_index_or, Some, None, Result, Ok, Err}
 use Rattle.cloak_model.specs.declared.image.Bundle.{Bundle}
 use Rattle.cloak_model.specs.declared.image.Program.{Program}
 use Rattle.cloak_model.specs.declared.item.Item.{Item}

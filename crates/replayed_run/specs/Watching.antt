@@ -1,5 +1,5 @@
 -- What a run stands for that is made again from the items of its record.
-use Rattle.std.specs.Prelude.{ℕ, ◌≡◌, ◌++◌, List, [], ◌∷◌, Result, Ok, Err}
+use Rattle.std.specs.Prelude.{◌≡◌, ◌++◌, List, [], ◌∷◌, Result, Ok, Err}
 use Rattle.cloak_model.specs.declared.image.Bundle.{Bundle}
 use Rattle.cloak_model.specs.declared.item.Item.{Item}
 use Rattle.cloak_model.specs.KernelAlone as model
@@ -8,6 +8,7 @@ use Rattle.alone_views.specs.declared.unfit.Unfit.{Unfit}
 use Rattle.replayed_run.specs.Alone.{IsUnfitAlone}
 use Rattle.replayed_run.specs.Machines.{StandAlone, TookItem}
 use Rattle.replayed_run.specs.Noted.{noted_in}
+use Rattle.replayed_run.specs.Questions.{questioned_in}
 use Rattle.replayed_run.specs.declared.notes.Notes.{Notes}
 use Rattle.replayed_run.specs.declared.watch.Watch.{Watch}
 
@@ -15,10 +16,12 @@ use Rattle.replayed_run.specs.declared.watch.Watch.{Watch}
 abbrev pub notes_of : Watch → Notes
 notes_of w = w.notes
 
--- The machines that run alone took these items, which fit them, and what is noted of them is noted.
+-- The machines that run alone took these items, which fit them, and what is noted of them is noted, with the
+-- questions that the programs asked.
 pub record Watches (b : Bundle) (items : List Item) (w : Watch) : Type 0 where
   pub machines : StandAlone b items w.machines
   pub notes : notes_of w ≡ (noted_in b items).notes
+  pub questions : w.questions ≡ (questioned_in b items).questions
 
 -- After these items one more was taken, or did not fit one of the machines.
 abbrev pub WatchTakes : {A : Type 0} → Bundle → List Item → Item → Watch → Result A Unfit → Type 0
@@ -30,7 +33,8 @@ pub record WatchTook (b : Bundle) (items : List Item) (i : Item) (at : model.Ker
   pub took : TookItem b items i w.machines
   pub place : (kernel_alone b.kernel items).place ≡ at
 
--- Machines and notes stay.
+-- Machines, notes and questions stay.
 pub record KeepsRun (old new : Watch) : Type 0 where
   pub machines : new.machines ≡ old.machines
   pub notes : notes_of new ≡ notes_of old
+  pub questions : new.questions ≡ old.questions

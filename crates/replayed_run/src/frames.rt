@@ -1,9 +1,10 @@
 //! Frames that are only read: words, walks by page tables, and instructions.
 ghost use Rattle.std.specs.Prelude.{◌≡◌, ◌<◌, IfSome, length};
 ghost use Rattle.cloak_model.specs.Walk as spec;
+ghost use Rattle.replayed_run.specs.Leading as leading;
 ghost use Rattle.replayed_run.specs.Leading.{frame_in, frame_led};
 
-use cloak_base::{Kind, Mode, RAM_START};
+use cloak_base::{Kind, Mode, PageId, RAM_START};
 use cloak_model::word_in;
 use host_calls::Hart;
 use sv32_walk::{WordMemory, walk};
@@ -61,8 +62,20 @@ pub struct Tables {
     pub mxr: bool,
 }
 
+/// A page that a program asked for, and the frame in which the kernel presents it.
+#[derive(Clone, Copy)]
+pub struct PresentedPage {
+    pub page: PageId,
+    /// The address of the access.
+    pub address: u32,
+    pub kind: Kind,
+    pub frame: usize,
+}
+
 /// The page tables of a hart as it is.
-pub fn tables_of(hart: &Hart) -> Tables {
+pub fn tables_of(hart: &Hart) -> Tables
+    ensures { result ≡ leading.tables_of hart.now }
+{
     Tables {
         satp: hart.csrs.satp(),
         sum: hart.csrs.sum(),

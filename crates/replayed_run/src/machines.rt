@@ -7,10 +7,12 @@ ghost use Rattle.cloak_model.specs.declared.item.Item.{Item};
 ghost use Rattle.cloak_model.specs.KernelAlone.{kernel_alone, kernel_hart};
 ghost use Rattle.alone_views.specs.KernelPlaces.{stood_place};
 ghost use Rattle.replayed_run.specs.Alone as alone;
+ghost use Rattle.replayed_run.specs.Questions as question;
 ghost use Rattle.replayed_run.specs.Machines.{ProgramsStand, ProgramsTake, StandAlone, TakeAlone};
 
+use crate::questions::access_in;
 use crate::silent::Silent;
-use alone_views::{DomainAlone, KernelAlone, KernelPlace, Unfit};
+use alone_views::{AskedAccess, DomainAlone, KernelAlone, KernelPlace, Unfit};
 use cloak_base::{HartId, NoMemory};
 use cloak_model::{Bundle, Item};
 use host_calls::Hart;
@@ -138,6 +140,34 @@ impl Machines {
             }
         } else {
             None
+        }
+    }
+
+    /// What the open step of a program asks for after this many answers.
+    fn question(&self, domain: u8, answers: usize) -> AskedAccess
+        ensures { (b : Bundle) (items : List Item) → StandAlone b items self.now →
+            result ≡ question.question_in b items domain answers }
+    {
+        let programs = self.programs.as_slice();
+        let number = domain as usize;
+        if number < programs.len() {
+            access_in(&programs[number], answers)
+        } else {
+            AskedAccess::Nothing
+        }
+    }
+
+    /// The question for which an item is the answer, after this many answers in the step.
+    pub fn question_for(&self, item: &Item, answers: usize) -> AskedAccess
+        ensures { (b : Bundle) (items : List Item) → StandAlone b items self.now →
+            result ≡ question.question_for b items answers item.now }
+    {
+        match *item {
+            Item::Ok { domain } => self.question(domain, answers),
+            Item::Absent { domain, .. } => self.question(domain, answers),
+            Item::Word { domain, .. } => self.question(domain, answers),
+            Item::Stopped { domain } => self.question(domain, answers),
+            _ => AskedAccess::Nothing,
         }
     }
 }

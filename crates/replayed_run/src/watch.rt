@@ -1,6 +1,6 @@
 //! A run as it is made again from the items of its record: the kernel, the programs, what is noted of them, and which page each
 //! frame shows.
-ghost use Rattle.std.specs.Prelude.{◌≡◌, ◌/◌, ◌*◌, ◌++◌, ◌&&◌, [], ◌∷◌, List, ℕ, IfOk, false, not};
+ghost use Rattle.std.specs.Prelude.{◌≡◌, ◌/◌, ◌*◌, ◌++◌, ◌&&◌, [], ◌∷◌, List, ℕ, IfOk, false, not, option_copied, slice_get};
 ghost use Rattle.cloak_model.specs.Bundle.{IsInGrammar};
 ghost use Rattle.cloak_model.specs.KernelAlone.{kernel_alone, kernel_hart};
 ghost use Rattle.cloak_model.specs.Record.{IsItem};
@@ -10,16 +10,20 @@ ghost use Rattle.alone_views.specs.KernelPlaces.{stood_place};
 ghost use Rattle.replayed_run.specs.Alone as alone;
 ghost use Rattle.replayed_run.specs.Alone.{standing_told};
 ghost use Rattle.replayed_run.specs.ContextsTold.{table_of, told_of};
+ghost use Rattle.replayed_run.specs.Leading as leading;
+ghost use Rattle.replayed_run.specs.Leading.{frame_for};
+ghost use Rattle.replayed_run.specs.Questions.{questioned_in};
 ghost use Rattle.replayed_run.specs.Machines.{StandAlone};
 ghost use Rattle.replayed_run.specs.Noted as noted;
 ghost use Rattle.replayed_run.specs.Noted.{notes_after};
 ghost use Rattle.replayed_run.specs.Watching.{KeepsRun, WatchTakes, WatchTook, Watches, notes_of};
 
 use crate::contexts::{FirstTable, ToldContext};
-use crate::frames::{Tables, frame_at, tables_of};
+use crate::frames::{PresentedPage, Tables, frame_at, tables_of};
 use crate::machines::{HartWords, Machines, StandingContext};
 use crate::notes::{Asking, Notes, asked_from};
 use crate::pages::{Pages, Showing};
+use crate::questions::Questions;
 use alone_views::{AskedAccess, KernelPlace, Unfit};
 use cloak_base::{Kind, Mode, NoMemory, PageId, Shown};
 use cloak_model::{Bundle, Item};
@@ -33,8 +37,7 @@ pub struct Watch {
     machines: Machines,
     notes: Notes,
     pages: Pages,
-    /// How many answers the programs got in the last step.
-    answers: usize,
+    questions: Questions,
 }
 
 /// Every byte is zero.
@@ -59,7 +62,7 @@ impl Watch {
             machines: Machines::open(alloc, bundle)?,
             notes: Notes::new(),
             pages: Pages::open(alloc, bundle.kernel.frames, bundle.programs.as_slice())?,
-            answers: 0,
+            questions: Questions::none(),
         })
     }
 
@@ -87,27 +90,50 @@ impl Watch {
     }
 
     /// The hart of a number.
-    pub fn hart_at(&self, number: usize) -> Option<&Hart> {
+    pub fn hart_at(&self, number: usize) -> Option<&Hart>
+        ensures { (b : Bundle) (items : List Item) → Watches b items self.now →
+            option_copied result ≡ slice_get (kernel_alone b.kernel items).kernel.harts number }
+    {
         self.machines.kernel.harts().get(number)
     }
 
+    /// The page tables of a hart.
+    fn tables_at(&self, number: usize) -> Option<Tables>
+        ensures { (b : Bundle) (items : List Item) → Watches b items self.now →
+            result ≡ leading.tables_by (slice_get (kernel_alone b.kernel items).kernel.harts number) }
+    {
+        match self.hart_at(number) {
+            None => None,
+            Some(hart) => Some(tables_of(hart)),
+        }
+    }
+
     /// The page tables of the hart whose step is open.
-    pub fn tables(&self) -> Option<Tables> {
+    pub fn tables(&self) -> Option<Tables>
+        ensures { (b : Bundle) (items : List Item) → Watches b items self.now →
+            result ≡ leading.tables_in (kernel_alone b.kernel items) }
+    {
         match self.place() {
-            KernelPlace::Outside { hart } | KernelPlace::Inside { hart, .. } => {
-                Some(tables_of(self.hart_at(hart)?))
-            }
-            _ => None,
+            KernelPlace::Outside { hart } => self.tables_at(hart),
+            KernelPlace::Inside { hart, .. } => self.tables_at(hart),
+            KernelPlace::Between => None,
+            KernelPlace::Left => None,
         }
     }
 
     /// The frames as the kernel sees them.
-    pub fn frames(&self) -> &[[u8; 4096]] {
+    pub fn frames(&self) -> &[[u8; 4096]]
+        ensures { (b : Bundle) (items : List Item) → Watches b items self.now →
+            result.now ≡ (kernel_alone b.kernel items).kernel.ram }
+    {
         self.machines.kernel.frames()
     }
 
     /// The frame that an address of a program leads to.
-    pub fn frame_for(&self, tables: Tables, address: u32, kind: Kind) -> Option<usize> {
+    pub fn frame_for(&self, tables: Tables, address: u32, kind: Kind) -> Option<usize>
+        ensures { (b : Bundle) (items : List Item) → Watches b items self.now →
+            result ≡ frame_for (kernel_alone b.kernel items).kernel.ram tables address kind }
+    {
         frame_at(self.frames(), tables, Mode::U, address, kind)
     }
 
@@ -153,31 +179,45 @@ impl Watch {
         self.machines.context(ctx)
     }
 
-    /// The question that the last answer in this step, which a program got, is for.
-    pub fn last_asked(&self, domain: u8) -> AskedAccess {
-        let Some(program) = self.machines.programs.get(domain as usize) else {
-            return AskedAccess::Nothing;
-        };
-        let [first, second] = program.asked();
-        match self.answers {
-            1 => first,
-            2 => second,
-            _ => AskedAccess::Nothing,
+    /// The page of a question, and the frame in which the kernel presents it.
+    fn presented_under(
+        &self,
+        tables: Option<Tables>,
+        page: PageId,
+        address: u32,
+        kind: Kind,
+    ) -> Option<PresentedPage>
+        ensures { (b : Bundle) (items : List Item) → Watches b items self.now →
+            result ≡ leading.presented_under (kernel_alone b.kernel items).kernel.ram tables page address kind }
+    {
+        match tables {
+            None => None,
+            Some(tables) => match self.frame_for(tables, address, kind) {
+                None => None,
+                Some(frame) => Some(PresentedPage {
+                    page,
+                    address,
+                    kind,
+                    frame,
+                }),
+            },
         }
     }
 
-    /// The page of a question, and the frame in which the kernel presents it.
-    pub fn presented(&self, domain: u8) -> Option<(PageId, usize)> {
-        let AskedAccess::Page {
-            page,
-            address,
-            kind,
-        } = self.last_asked(domain)
-        else {
-            return None;
-        };
-        let frame = self.frame_for(self.tables()?, address, kind)?;
-        Some((page, frame))
+    /// The page of the last question, and the frame in which the kernel presents it.
+    pub fn presented(&self) -> Option<PresentedPage>
+        ensures { (b : Bundle) (items : List Item) → Watches b items self.now →
+            result ≡ leading.presented_by (kernel_alone b.kernel items) (questioned_in b items).questions.last }
+    {
+        match self.questions.last {
+            AskedAccess::Page {
+                page,
+                address,
+                kind,
+            } => self.presented_under(self.tables(), page, address, kind),
+            AskedAccess::Nothing => None,
+            AskedAccess::Uncloaked { .. } => None,
+        }
     }
 
     /// A context is in this space.
@@ -260,7 +300,6 @@ impl Watch {
     {
         self.notes.step = number;
         self.notes.has_resumed = false;
-        self.answers = 0;
     }
 
     /// Notes an item that the machines took, before which the kernel was at this place.
@@ -302,10 +341,10 @@ impl Watch {
     }
 
     /// A program was granted its last question.
-    fn note_grant(&mut self, domain: u8)
+    fn note_grant(&mut self)
         ensures { KeepsRun self.old self.new }
     {
-        if let Some((page, frame)) = self.presented(domain) {
+        if let Some(PresentedPage { page, frame, .. }) = self.presented() {
             self.pages.reach(page, frame);
         }
     }
@@ -316,13 +355,7 @@ impl Watch {
     {
         match item {
             Item::Cipher { frame, bytes } => return self.note_cipher(*frame, bytes),
-            Item::Ok { domain } => {
-                self.answers = self.answers.saturating_add(1);
-                self.note_grant(*domain);
-            }
-            Item::Absent { .. } | Item::Word { .. } | Item::Stopped { .. } => {
-                self.answers = self.answers.saturating_add(1);
-            }
+            Item::Ok { .. } => self.note_grant(),
             _ => {}
         }
         None
@@ -334,8 +367,11 @@ impl Watch {
             WatchTakes b items item.now self.new result }
     {
         let place = self.machines.place();
+        let question = self.machines.question_for(item, self.questions.answers);
+        let questions = self.questions.after(item, question);
         self.machines.take(item)?;
         self.note(place, item);
+        self.questions = questions;
         Ok(self.note_page(item))
     }
 }

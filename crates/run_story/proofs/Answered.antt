@@ -16,7 +16,6 @@ use Rattle.command_parts.specs.declared.status.Status.TheVariants as status
 use Rattle.read_back.specs.declared.ending.Ending.{Ending}
 use Rattle.read_back.specs.declared.ending.Ending.TheVariants as ending
 use Rattle.replayed_run.specs.Noted.{noted_in}
-use Rattle.replayed_run.specs.Watching.{notes_of}
 use Rattle.replayed_run.specs.declared.notes.Notes.{Notes}
 use Rattle.run_story.specs.Answering.{ExplainAnswers, HasBundleFault, HasStory, LacksStory, ReadingEnds, ShowsEnding, ShowsStory, ShowsUntold, last_sentence}
 use Rattle.run_story.specs.Passages.{summary}

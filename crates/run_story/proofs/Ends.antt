@@ -1,5 +1,5 @@
 -- How far a record is read, and how that ends.
-use Rattle.std.proofs.Common.{◌≡◌, ◌≢◌, ℕ, List, [], ◌∷◌, ◌++◌, Option, Some, None, IfOk, IfSome, Result, Ok, Err, string_bytes, sym, subst}
+use Rattle.std.proofs.Common.{◌≡◌, ◌≢◌, ℕ, List, [], ◌∷◌, ◌++◌, Option, Some, IfOk, IfSome, Result, Ok, Err, string_bytes, subst}
 use Rattle.cloak_model.specs.declared.image.Bundle.{Bundle}
 use Rattle.cloak_model.specs.declared.item.Item.{Item}
 use Rattle.cloak_model.specs.declared.fault.RecordFault.{RecordFault}
@@ -89,7 +89,7 @@ page_of_item b items i before now story (Err (untold.Ended ending.Unread)) tells
 -- the page was told that was owed
 pub page_told : (b : Bundle) (items : List Item) (p : Presented) (old new : Story) (more : List ℕ) (before now : ℕ)
     (r : Result (Unit {0}) Untold) → TellsBut b items p old → KeepsStory old new → TellsOn r →
-    IfOk r (λ done. string_bytes new.text ≡ string_bytes old.text ++ page_text p.step p.hart p.ctx more) →
+    IfOk r (λ done. string_bytes new.text ≡ string_bytes old.text ++ page_text p.step p.hart p.ctx p.found more) →
     now ≡ before → TellsPage b items before now new r
 page_told b items p old new more before now (Ok done) tells keeps on text counts =
     (tells_page b items p old new more tells keeps text, counts)

@@ -12,9 +12,9 @@ use Rattle.replayed_run.specs.Watching.{Watches, notes_of}
 use Rattle.replayed_run.specs.declared.notes.Asking.{Asking}
 use Rattle.replayed_run.specs.declared.notes.Notes.{Notes}
 use Rattle.replayed_run.specs.declared.watch.Watch.{Watch}
-use Rattle.run_story.specs.Passages.{AreToldBy, IsToldBy, page_text}
-use Rattle.run_story.specs.Telling.{AddsOutcome, GrewBy, GrowsBy, KeepsStory, Knows, LacksNext, NotesItem, OwesPage, StoryTakes, Tells, TellsBut, due_of}
-use Rattle.run_story.specs.Told.{ByPage, ByResume, Due, Fits, IsUnfitNext, OfNone, Outcome, Uncaused, Violated, Violation, due_after, due_met, ended_after, none_outcome, outcome_of, refused_after, resume_outcome, told_in, uncaused_after, violations_after}
+use Rattle.run_story.specs.Passages.{AreToldBy, page_text}
+use Rattle.run_story.specs.Telling.{AddsOutcome, GrowsBy, KeepsStory, Knows, LacksNext, NotesItem, StoryTakes, Tells, TellsBut, due_of}
+use Rattle.run_story.specs.Told.{ByPage, ByResume, Due, Fits, IsUnfitNext, OfNone, Outcome, Uncaused, Violated, Violation, due_after, due_met, ended_after, none_outcome, outcome_of, presented_in, refused_after, resume_outcome, told_in, uncaused_after, violations_after}
 use Rattle.run_story.specs.declared.presented.AskedResume.{AskedResume}
 use Rattle.run_story.specs.declared.presented.Presented.{Presented}
 use Rattle.run_story.specs.declared.presented.Refused.{Refused}
@@ -38,6 +38,12 @@ pub record Met (b : Bundle) (items : List Item) (i : Item) (step : ℕ) (old mid
 
 abbrev pub noted_outcome : Bundle → Item → ℕ → Story → Outcome
 noted_outcome b i step mid = outcome_of b step mid.ended (due_of mid.target) (notes_of mid.watch).asked i
+
+-- with it the rest was noted
+abbrev pub NotesNext : Bundle → List Item → Item → ℕ → Story → Story → Result (Option Presented) Untold → Type 0
+NotesNext b items i step mid new r =
+    let now = items ++ i ∷ [] in
+    NotesItem b (kernel_alone b.kernel now).place (presented_in b now) i step mid new r
 
 step_is : (b : Bundle) (items : List Item) (i : Item) (step : ℕ) (old mid : Story) → Tells b items old →
     Met b items i step old mid → step ≡ (noted_in b items).notes.step
@@ -71,13 +77,14 @@ outcome_is b items i step old mid tells met =
 -- what is known with the item, if it has its cause
 knows_more : (b : Bundle) (items : List Item) (i : Item) (step : ℕ) (old mid new : Story)
     (r : Result (Option Presented) Untold) → Tells b items old → Met b items i step old mid →
-    NotesItem b (kernel_alone b.kernel (items ++ i ∷ [])).place i step mid new r →
+    NotesNext b items i step mid new r →
     new.refused ≡ refused_after mid.refused (noted_outcome b i step mid) →
     uncaused_after None (noted_in b items).notes.step (outcome_next b items i) ≡ None → Knows b (items ++ i ∷ []) new
 knows_more b items i step old mid new r tells met notes refused caused = record {
   watches = subst (λ (w : Watch). Watches b (items ++ i ∷ []) w) (sym notes.watch) met.watches;
   due = notes.due
-      ∙ (ap (λ (d : Due). due_after (kernel_alone b.kernel (items ++ i ∷ [])).place d i)
+      ∙ (ap (λ (d : Due). due_after (kernel_alone b.kernel (items ++ i ∷ [])).place (presented_in b (items ++ i ∷ []))
+      d i)
       (due_is b items i step old mid tells met) ∙ sym (due_more b items i));
   ended = notes.ended
       ∙ (ap (λ (e : List (Option ℕ)). ended_after e step i) (ended_is b items i step old mid tells met)
@@ -93,7 +100,7 @@ knows_more b items i step old mid new r tells met notes refused caused = record 
 -- it was told
 tells_more : (b : Bundle) (items : List Item) (i : Item) (step : ℕ) (old mid new : Story) → Tells b items old →
     Met b items i step old mid →
-    NotesItem b (kernel_alone b.kernel (items ++ i ∷ [])).place i step mid new (Ok None) → Tells b (items ++ i ∷ []) new
+    NotesNext b items i step mid new (Ok None) → Tells b (items ++ i ∷ []) new
 tells_more b items i step old mid new tells met notes =
     let is = outcome_is b items i step old mid tells met in
     let grows : GrowsBy (outcome_next b items i) (string_bytes mid.text) (string_bytes new.text) =
@@ -109,10 +116,10 @@ tells_more b items i step old mid new tells met notes =
 -- it is a page, which is told later
 owes_more : (b : Bundle) (items : List Item) (i : Item) (step : ℕ) (old mid new : Story) (p : Presented) →
     Tells b items old → Met b items i step old mid →
-    NotesItem b (kernel_alone b.kernel (items ++ i ∷ [])).place i step mid new (Ok (Some p)) →
+    NotesNext b items i step mid new (Ok (Some p)) →
     TellsBut b (items ++ i ∷ []) p new
 owes_more b items i step old mid new p tells met notes =
-    let is : outcome_next b items i ≡ Violated (ByPage p.step p.hart p.ctx) =
+    let is : outcome_next b items i ≡ Violated (ByPage p.step p.hart p.ctx (Some p.found)) =
     sym (outcome_is b items i step old mid tells met) ∙ notes.adds.page in
     record {
       knows = knows_more b items i step old mid new (Ok (Some p)) tells met notes
@@ -128,7 +135,7 @@ owes_more b items i step old mid new p tells met notes =
 -- it has no cause
 uncaused_next : (b : Bundle) (items : List Item) (i : Item) (step at : ℕ) (old mid new : Story) → Tells b items old →
     Met b items i step old mid →
-    NotesItem b (kernel_alone b.kernel (items ++ i ∷ [])).place i step mid new (Err (untold.Ended (ending.Unfit at))) →
+    NotesNext b items i step mid new (Err (untold.Ended (ending.Unfit at))) →
     IsUnfitNext b items i at
 uncaused_next b items i step at old mid new tells met notes = record {
   before = tells_fit b items old tells;
@@ -140,7 +147,7 @@ uncaused_next b items i step at old mid new tells met notes = record {
 
 pub story_takes : (b : Bundle) (items : List Item) (i : Item) (step : ℕ) (old mid new : Story)
     (r : Result (Option Presented) Untold) → Tells b items old → Met b items i step old mid →
-    NotesItem b (kernel_alone b.kernel (items ++ i ∷ [])).place i step mid new r → StoryTakes b items i new r
+    NotesNext b items i step mid new r → StoryTakes b items i new r
 story_takes b items i step old mid new (Ok None) tells met notes = tells_more b items i step old mid new tells met notes
 story_takes b items i step old mid new (Ok (Some p)) tells met notes =
     owes_more b items i step old mid new p tells met notes
@@ -159,7 +166,7 @@ lacks_unfit b items i s step tells unfit = record { before = tells_fit b items s
 -- a page was told that was owed
 pub tells_page : (b : Bundle) (items : List Item) (p : Presented) (old new : Story) (more : List ℕ) →
     TellsBut b items p old → KeepsStory old new →
-    string_bytes new.text ≡ string_bytes old.text ++ page_text p.step p.hart p.ctx more → Tells b items new
+    string_bytes new.text ≡ string_bytes old.text ++ page_text p.step p.hart p.ctx p.found more → Tells b items new
 tells_page b items p old new more tells keeps text = record {
   knows = record {
     watches = subst (λ (w : Watch). Watches b items w) (sym keeps.watch) tells.knows.watches;
@@ -169,8 +176,9 @@ tells_page b items p old new more tells keeps text = record {
     caused = tells.knows.caused;
   };
   text = subst (λ (vs : List Violation). AreToldBy vs (string_bytes new.text)) (sym tells.violations)
-      (told_grows (Violated (ByPage p.step p.hart p.ctx)) tells.before (string_bytes old.text) (string_bytes new.text)
-      tells.text (page_text p.step p.hart p.ctx more, text, inr (more, refl)));
+      (told_grows (Violated (ByPage p.step p.hart p.ctx (Some p.found))) tells.before (string_bytes old.text)
+      (string_bytes new.text)
+      tells.text (page_text p.step p.hart p.ctx p.found more, text, inr (more, refl)));
 }
 
 -- What one call adds.

@@ -1,5 +1,5 @@
 -- What items tell with one more.
-use Rattle.std.proofs.Common.{◌≡◌, ℕ, List, [], ◌∷◌, ◌++◌, Option, None, Some, refl, sym, ap, subst, ◌∙◌, append_assoc, append-nil}
+use Rattle.std.proofs.Common.{◌≡◌, ℕ, List, [], ◌∷◌, ◌++◌, Option, None, refl, sym, ap, subst, ◌∙◌, append_assoc, append-nil}
 use Rattle.std.specs.List.{fold}
 use Rattle.std.proofs.lemmas.List.Sums.{fold-append}
 use Rattle.cloak_model.specs.declared.image.Bundle.{Bundle}
@@ -8,7 +8,7 @@ use Rattle.cloak_model.specs.KernelAlone.{kernel_alone}
 use Rattle.replayed_run.specs.Noted.{noted_in}
 use Rattle.run_story.specs.Passages.{AreToldBy, IsToldBy}
 use Rattle.run_story.specs.Telling.{GrowsBy}
-use Rattle.run_story.specs.Told.{Due, Outcome, Quiet, Told, Uncaused, Violated, Violation, due_after, due_met, ended_after, none_told, outcome_of, refused_after, told_in, told_more, told_next, told_with, uncaused_after, violations_after}
+use Rattle.run_story.specs.Told.{Outcome, Quiet, Told, Uncaused, Violated, Violation, due_after, due_met, ended_after, none_told, outcome_of, presented_in, refused_after, told_in, told_more, told_next, told_with, uncaused_after, violations_after}
 
 -- the items that were told
 items_told : (b : Bundle) (t : Told) (items : List Item) → (fold (told_more b) t items).items ≡ t.items ++ items
@@ -35,7 +35,7 @@ told_in_more b items i =
 
 pub due_more : (b : Bundle) (items : List Item) (i : Item) →
     (told_in b (items ++ i ∷ [])).due
-    ≡ due_after (kernel_alone b.kernel (items ++ i ∷ [])).place
+    ≡ due_after (kernel_alone b.kernel (items ++ i ∷ [])).place (presented_in b (items ++ i ∷ []))
     (due_met b items (noted_in b items).notes (told_in b items).due i) i
 unfolding told_next told_with
 due_more b items i = ap (λ (t : Told). t.due) (told_in_more b items i)

@@ -1,8 +1,12 @@
 -- The sentences of a story.
 use Rattle.std.specs.Prelude.{ℕ, ◌≡◌, ◌⊎◌, ◌/◌, ◌==◌, ◌++◌, List, [], ◌∷◌, codes, decimal, Option, Some, None, string_bytes, if◌then◌else◌}
 use Rattle.cloak_model.specs.Report.{hexadecimal}
+use Rattle.cloak_base.specs.declared.names.Kind.{Kind}
+use Rattle.cloak_base.specs.declared.names.Kind.TheVariants as kind
+use Rattle.cloak_base.specs.declared.names.PageId.{PageId}
 use Rattle.replayed_run.specs.declared.contexts.FirstTable.{FirstTable}
 use Rattle.replayed_run.specs.declared.contexts.ToldContext.{ToldContext}
+use Rattle.replayed_run.specs.declared.frames.PresentedPage.{PresentedPage}
 use Rattle.replayed_run.specs.declared.notes.Asking.{Asking}
 use Rattle.run_story.specs.Told.{ByPage, ByResume, OfNone, Violation}
 use Rattle.run_story.specs.declared.presented.AskedResume.{AskedResume}
@@ -76,17 +80,40 @@ question_text step ctx =
     ++ decimal (ctx / 8) ++ codes " ")
     ++ (codes "is not what was last shown of that page.\n" ++ end_text ctx)
 
--- A page, with more about it: its access, what was done to it before, what was found, and the rule.
-abbrev pub page_text : ℕ → ℕ → ℕ → List ℕ → List ℕ
-page_text step hart ctx more =
-    (codes "A violation at step " ++ decimal step ++ codes ": context " ++ decimal ctx ++ codes ", on hart "
-    ++ decimal hart ++ codes ", ")
-    ++ (more ++ end_text ctx)
+-- A page that was presented, with more about it: what was done to it before, what was found, and the rule.
+
+abbrev pub access_name : Kind → List ℕ
+access_name kind.Fetch = codes "fetched an instruction"
+access_name kind.Load = codes "loaded"
+access_name kind.Store = codes "stored"
+
+abbrev pub page_name : PageId → List ℕ
+page_name q =
+    codes "page " ++ decimal q.page ++ codes " of resource " ++ decimal q.resource ++ codes " of program " ++ decimal q.domain
+
+-- the access that was stopped, and the frame to which it led
+abbrev pub access_text : PresentedPage → List ℕ
+access_text p =
+    access_name p.kind
+    ++ (codes " at "
+    ++ (hexadecimal p.address
+    ++ (codes ", which is "
+    ++ (page_name p.page ++ (codes ".\nThe kernel's page table leads there to frame " ++ decimal p.frame)))))
+
+-- the step of a context
+abbrev pub running_text : ℕ → ℕ → ℕ → List ℕ
+running_text step hart ctx =
+    codes "A violation at step " ++ decimal step ++ codes ": context " ++ decimal ctx ++ codes ", on hart " ++ decimal hart
+    ++ codes ", "
+
+abbrev pub page_text : ℕ → ℕ → ℕ → PresentedPage → List ℕ → List ℕ
+page_text step hart ctx p more =
+    running_text step hart ctx ++ (access_text p ++ (more ++ end_text ctx))
 
 abbrev pub passage_text : Passage → List ℕ
 passage_text (passage.Resume asking why) = resume_text asking why
 passage_text (passage.Gone step asked ended) = none_text step asked ended
-passage_text (passage.Page step hart ctx more) = page_text step hart ctx (string_bytes more)
+passage_text (passage.Page p more) = page_text p.step p.hart p.ctx p.found (string_bytes more)
 passage_text (passage.Question step ctx) = question_text step ctx
 
 -- The last sentence, by the number of steps, of programs that ended, and of resumes that were refused.
@@ -109,10 +136,14 @@ summary steps ended refused =
 
 -- Violations as they are told.
 
+-- a text tells of a page that was presented
+abbrev pub TellsPageOf : ℕ → ℕ → ℕ → Option PresentedPage → List ℕ → Type 0
+TellsPageOf step hart ctx None text = ⊥
+TellsPageOf step hart ctx (Some p) text = (more : List ℕ) × (text ≡ page_text step hart ctx p more)
+
 -- a violation is told by this text
 abbrev pub IsToldBy : Violation → List ℕ → Type 0
-IsToldBy (ByPage step hart ctx) text =
-    (text ≡ question_text step ctx) ⊎ ((more : List ℕ) × (text ≡ page_text step hart ctx more))
+IsToldBy (ByPage step hart ctx p) text = (text ≡ question_text step ctx) ⊎ TellsPageOf step hart ctx p text
 IsToldBy (ByResume asking why) text = text ≡ resume_text asking why
 IsToldBy (OfNone step asked ended) text = text ≡ none_text step asked ended
 

@@ -5,6 +5,7 @@ use Rattle.cloak_model.specs.declared.item.Item.{Item}
 use Rattle.cloak_model.specs.KernelAlone.{KernelPlace}
 use Rattle.read_back.specs.declared.ending.Ending.TheVariants as ending
 use Rattle.replayed_run.specs.Watching.{Watches, notes_of}
+use Rattle.replayed_run.specs.declared.frames.PresentedPage.{PresentedPage}
 use Rattle.run_story.specs.Passages.{AreToldBy, IsToldBy, summary}
 use Rattle.run_story.specs.Told.{ByPage, ByResume, Due, IsUnfitNext, Nothing, OfNone, Outcome, Question, Quiet, Resume, Uncaused, Violated, Violation, due_after, ended_after, ended_count, outcome_of, refused_after, told_in}
 use Rattle.run_story.specs.declared.presented.Presented.{Presented}
@@ -17,8 +18,8 @@ use Rattle.run_story.specs.declared.untold.Untold.TheVariants as untold
 -- what a target is
 abbrev pub due_of : Target → Due
 due_of target.Nothing = Nothing
-due_of (target.Question hart ctx) = Question hart ctx
-due_of (target.Page presented) = Question presented.hart presented.ctx
+due_of (target.Question hart ctx found) = Question hart ctx found
+due_of (target.Page presented) = Question presented.hart presented.ctx (Some presented.found)
 due_of (target.Context asking why) = Resume asking why
 
 -- What a story says besides its text is what these items tell, which fit.
@@ -38,7 +39,7 @@ pub record Tells (b : Bundle) (items : List Item) (s : Story) : Type 0 where
 pub record TellsBut (b : Bundle) (items : List Item) (p : Presented) (s : Story) : Type 0 where
   pub knows : Knows b items s
   pub before : List Violation
-  pub violations : (told_in b items).violations ≡ before ++ ByPage p.step p.hart p.ctx ∷ []
+  pub violations : (told_in b items).violations ≡ before ++ ByPage p.step p.hart p.ctx (Some p.found) ∷ []
   pub text : AreToldBy before (string_bytes s.text)
 
 -- why a story does not go on with an item
@@ -85,13 +86,13 @@ pub record GrewBy (o : Outcome) (old new : Story) : Type 0 where
 
 -- a text tells a violation, which is no refused resume
 abbrev pub IsEndTold : Violation → List ℕ → Type 0
-IsEndTold (ByPage step hart ctx) text = IsToldBy (ByPage step hart ctx) text
+IsEndTold (ByPage step hart ctx p) text = IsToldBy (ByPage step hart ctx p) text
 IsEndTold (ByResume asking why) text = IsToldBy (ByResume asking why) text
 IsEndTold (OfNone step asked ended) text = ⊥
 
 -- It is a page, which is told later.
 pub record OwesPage (o : Outcome) (p : Presented) (old new : Story) : Type 0 where
-  pub page : o ≡ Violated (ByPage p.step p.hart p.ctx)
+  pub page : o ≡ Violated (ByPage p.step p.hart p.ctx (Some p.found))
   pub text : new.text ≡ old.text
   pub refused : new.refused ≡ old.refused
 
@@ -103,11 +104,12 @@ AddsOutcome o step old new (Err untold.NoMemory) = Unit {0}
 AddsOutcome o step old new (Err (untold.Ended (ending.Unfit at))) = (at ≡ step) × (o ≡ Uncaused)
 AddsOutcome o step old new (Err (untold.Ended _)) = ⊥
 
--- The item was noted in this step, with which the kernel alone is at this place.
-pub record NotesItem (b : Bundle) (place : KernelPlace) (i : Item) (step : ℕ) (old new : Story)
+-- The item was noted in this step, with which the kernel alone is at this place, and this was presented for the last
+-- question.
+pub record NotesItem (b : Bundle) (place : KernelPlace) (p : Option PresentedPage) (i : Item) (step : ℕ) (old new : Story)
     (r : Result (Option Presented) Untold) : Type 0 where
   pub watch : new.watch ≡ old.watch
-  pub due : due_of new.target ≡ due_after place (due_of old.target) i
+  pub due : due_of new.target ≡ due_after place p (due_of old.target) i
   pub ended : new.ended ≡ ended_after old.ended step i
   pub adds : AddsOutcome (outcome_of b step old.ended (due_of old.target) (notes_of old.watch).asked i) step old new r
 

@@ -114,7 +114,7 @@ fn tell_page<S: Shelf>(
     let Ok(more) = format!(in alloc; "{more}") else {
         return Err(Untold::NoMemory);
     };
-    story.tell(&Passage::Page(presented.step, presented.hart, presented.ctx, more))
+    story.tell(&Passage::Page(*presented, more))
 }
 
 /// Takes an item of a record, and tells the violation that it ends with.

@@ -205,7 +205,7 @@ impl Deeds {
         if self.is_last(&showing) {
             return self.keep(step, PageDeed::LastShown(showing));
         }
-        if page == self.target.page || self.is_of_interest(frame) {
+        if page == self.target.found.page || self.is_of_interest(frame) {
             return self.keep(step, PageDeed::Shown { page, frame });
         }
         Ok(())
@@ -213,7 +213,11 @@ impl Deeds {
 
     /// Where the address leads.
     fn leads(&self, watch: &Watch) -> Option<usize> {
-        watch.frame_for(self.target.tables, self.target.address, self.target.kind)
+        watch.frame_for(
+            self.target.tables,
+            self.target.found.address,
+            self.target.found.kind,
+        )
     }
 
     /// What the open step of the kernel is about to find, if one is open.
@@ -281,7 +285,7 @@ impl Deeds {
         let from = before.leads;
         let to = self.leads(watch);
         if from != to {
-            let address = self.target.address;
+            let address = self.target.found.address;
             self.keep(before.step, PageDeed::Leads { address, from, to })?;
         }
         Ok(())

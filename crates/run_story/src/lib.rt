@@ -8,7 +8,7 @@
 //! The layer above may rely on this: which violations items tell is a definition (`specs/Told`), and so are their sentences
 //! (`specs/Passages`). A record is explained exactly if it is one and each item fits. Then a passage was shown for each of the
 //! violations in their order, and the last sentence. Of a page the passage says by definition the step, the hart, the context
-//! and the program; what it says more of it no clause names.
+//! and the program, and which access of which page was stopped and to which frame it led; what it says more no clause names.
 #![tactic(auto)]
 
 mod command;

@@ -8,9 +8,11 @@ ghost use Rattle.replayed_run.specs.Watching.{Watches, notes_of};
 ghost use Rattle.run_story.specs.Told as spec;
 ghost use Rattle.run_story.specs.Telling.{due_of};
 
-use alone_views::{AskedAccess, KernelPlace};
-use cloak_base::{HartId, Kind, PageId};
-use replayed_run::{FirstTable, HartWords, Showing, StandingContext, Tables, ToldContext, Watch};
+use alone_views::KernelPlace;
+use cloak_base::HartId;
+use replayed_run::{
+    FirstTable, HartWords, PresentedPage, Showing, StandingContext, Tables, ToldContext, Watch,
+};
 use sha2::{Digest, Sha256};
 
 /// A page that a frame was presented for.
@@ -19,9 +21,7 @@ pub struct Presented {
     pub step: u32,
     pub hart: usize,
     pub ctx: u32,
-    pub page: PageId,
-    pub address: u32,
-    pub kind: Kind,
+    pub found: PresentedPage,
     pub tables: Tables,
     pub frame: u32,
     /// The digest of what the frame has.
@@ -55,23 +55,24 @@ pub enum Refused {
 pub enum Target {
     Nothing,
     /// A page, of which no more is told, for a question of this context on this hart.
-    Question { hart: usize, ctx: u32 },
+    Question {
+        hart: usize,
+        ctx: u32,
+        found: Option<PresentedPage>,
+    },
     Page(Presented),
     Context(AskedResume, Refused),
 }
 
 /// The page of a program's question that was stopped, and the frame that was presented for it. Nothing is told if that frame
 /// has what was last shown of the page.
-fn presented_page(watch: &Watch, domain: u8, hart: usize, ctx: u32) -> Option<Presented>
+fn presented_page(watch: &Watch, found: PresentedPage, hart: usize, ctx: u32) -> Option<Presented>
     ensures hart { IfSome result (λ p. p.hart ≡ hart) }
     ensures ctx { IfSome result (λ p. p.ctx ≡ ctx) }
+    ensures found { IfSome result (λ p. p.found ≡ found) }
 {
-    let (page, frame) = watch.presented(domain)?;
-    let AskedAccess::Page { address, kind, .. } = watch.last_asked(domain) else {
-        return None;
-    };
-    let digest = Sha256::digest(watch.frames().get(frame)?.as_slice());
-    let showing = watch.pages().shown(page);
+    let digest = Sha256::digest(watch.frames().get(found.frame)?.as_slice());
+    let showing = watch.pages().shown(found.page);
     if let Some(shown) = showing {
         if shown.digest == digest {
             return None;
@@ -81,33 +82,34 @@ fn presented_page(watch: &Watch, domain: u8, hart: usize, ctx: u32) -> Option<Pr
         step: watch.step(),
         hart,
         ctx,
-        page,
-        address,
-        kind,
+        found,
         tables: watch.tables()?,
-        frame: frame.min(u32::MAX as usize) as u32,
+        frame: found.frame.min(u32::MAX as usize) as u32,
         digest,
         showing,
     })
 }
 
-/// The question of a context that was stopped.
-fn page_target(watch: &Watch, domain: u8, hart: usize, ctx: u32) -> Target
-    ensures { due_of result ≡ spec.Question hart ctx }
+/// The question of a context that was stopped, for which this was presented.
+fn page_target(watch: &Watch, found: Option<PresentedPage>, hart: usize, ctx: u32) -> Target
+    ensures { due_of result ≡ spec.Question hart ctx found }
 {
-    match presented_page(watch, domain, hart, ctx) {
-        Some(presented) => Target::Page(presented),
-        None => Target::Question { hart, ctx },
+    match found {
+        None => Target::Question { hart, ctx, found },
+        Some(page) => match presented_page(watch, page, hart, ctx) {
+            Some(presented) => Target::Page(presented),
+            None => Target::Question { hart, ctx, found },
+        },
     }
 }
 
 /// What was presented as a program's question was stopped.
-pub fn question_target(watch: &Watch, domain: u8) -> Target
+pub fn question_target(watch: &Watch) -> Target
     ensures { (b : Bundle) (items : List Item) → Watches b items watch.now →
-        due_of result ≡ spec.question_due (kernel_alone b.kernel items).place }
+        due_of result ≡ spec.question_due (kernel_alone b.kernel items).place (spec.presented_in b items) }
 {
     match watch.place() {
-        KernelPlace::Inside { hart, ctx } => page_target(watch, domain, hart, ctx),
+        KernelPlace::Inside { hart, ctx } => page_target(watch, watch.presented(), hart, ctx),
         KernelPlace::Outside { .. } => Target::Nothing,
         KernelPlace::Between => Target::Nothing,
         KernelPlace::Left => Target::Nothing,

@@ -194,7 +194,7 @@ impl Story {
             Target::Nothing => Err(unfit(step)),
             Target::Context(_, _) => Ok(None),
             Target::Page(presented) => Ok(Some(Presented { step, ..presented })),
-            Target::Question { hart, ctx } => self.tell_end(&Passage::Question(step, ctx)),
+            Target::Question { hart, ctx, found } => self.tell_end(&Passage::Question(step, ctx)),
         }
     }
 
@@ -227,11 +227,11 @@ impl Story {
     /// Notes an item that the watch took in this step.
     fn note(&mut self, item: &Item, step: u32) -> Result<Option<Presented>, Untold>
         ensures { (b : Bundle) (items : List Item) → Watches b items self.old.watch →
-            NotesItem b (kernel_alone b.kernel items).place item.now step self.old self.new result }
+            NotesItem b (kernel_alone b.kernel items).place (spec.presented_in b items) item.now step self.old self.new result }
     {
         match item {
-            Item::Stopped { domain } => {
-                self.target = question_target(&self.watch, *domain);
+            Item::Stopped { .. } => {
+                self.target = question_target(&self.watch);
                 Ok(None)
             }
             Item::Ended { domain } => self.note_ended(step, u32::from(*domain)),

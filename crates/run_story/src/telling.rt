@@ -9,7 +9,7 @@ ghost use Rattle.run_story.specs.Passages as spec;
 use crate::deeds::{Deeds, FrameChange, PageDeed, PageEvent};
 use crate::presented::{AskedResume, Presented, Refused};
 use cloak_base::{Kind, PageId};
-use replayed_run::{Asking, DiskCall, FirstTable, Showing, ToldContext};
+use replayed_run::{Asking, DiskCall, FirstTable, PresentedPage, Showing, ToldContext};
 use std::fmt;
 
 /// A violation, as it is told.
@@ -19,9 +19,8 @@ pub enum Passage {
     Resume(AskedResume, Refused),
     /// In this step a resume was refused: there is no such program, or it ended in that step before.
     Gone(u32, Asking, Option<u32>),
-    /// In this step, on this hart, a program ended by the page that a frame was presented for, for a question of this context,
-    /// with more about it.
-    Page(u32, usize, u32, String),
+    /// A program ended by the page that a frame was presented for, for its question, with more about it.
+    Page(Presented, String),
     /// In this step a program ended by a page for this context, of which no more is told.
     Question(u32, u32),
 }
@@ -49,22 +48,13 @@ struct StepName(u32);
 #[derive(Clone, Copy)]
 struct FrameName(Option<usize>);
 
-/// What an access does.
-#[derive(Clone, Copy)]
-struct AccessName(Kind);
-
 /// What a host call does that reaches the disk.
 #[derive(Clone, Copy)]
 struct CallName(DiskCall);
 
 impl fmt::Display for PageName {
     fn fmt<W: fmt::Write>(&self, f: &mut fmt::Formatter<W>) -> fmt::Result {
-        let PageId {
-            domain,
-            resource,
-            page,
-        } = self.0;
-        write!(f, "page {page} of resource {resource} of program {domain}")
+        write_page_name(self.0, f)
     }
 }
 
@@ -92,16 +82,6 @@ impl fmt::Display for FrameName {
             Some(frame) => write!(f, "frame {frame}"),
             None => f.write_str("no frame"),
         }
-    }
-}
-
-impl fmt::Display for AccessName {
-    fn fmt<W: fmt::Write>(&self, f: &mut fmt::Formatter<W>) -> fmt::Result {
-        f.write_str(match self.0 {
-            Kind::Fetch => "fetched an instruction",
-            Kind::Load => "loaded",
-            Kind::Store => "stored",
-        })
     }
 }
 
@@ -174,15 +154,9 @@ impl fmt::Display for PageEvent {
     }
 }
 
-/// The program's access that was stopped.
-fn write_access<W: fmt::Write>(presented: &Presented, f: &mut fmt::Formatter<W>) -> fmt::Result {
-    let Presented { address, frame, .. } = *presented;
-    let (access, page) = (AccessName(presented.kind), PageName(presented.page));
-    write!(f, "{access} at {address:08x}, which is {page}.\n")?;
-    write!(
-        f,
-        "The kernel's page table leads there to frame {frame}, and what that frame has is not what was last shown of "
-    )?;
+/// The page of which the bytes of a frame are not what was last shown.
+fn write_whose<W: fmt::Write>(presented: &Presented, f: &mut fmt::Formatter<W>) -> fmt::Result {
+    f.write_str(", and what that frame has is not what was last shown of ")?;
     f.write_str(match presented.showing {
         Some(_) => "the page.\n",
         None => "the page, or of the page from which a fork copied it, up to that fork.\n",
@@ -227,7 +201,7 @@ fn write_found<W: fmt::Write>(
 
 impl fmt::Display for PageStory<'_> {
     fn fmt<W: fmt::Write>(&self, f: &mut fmt::Formatter<W>) -> fmt::Result {
-        write_access(self.presented, f)?;
+        write_whose(self.presented, f)?;
         write_events(self.deeds, f)?;
         write_found(self.presented, self.deeds.origin(), f)?;
         f.write_str(
@@ -404,20 +378,74 @@ fn write_none<W: fmt::Write>(
     write_left(asked.ctx, ended, f)
 }
 
-/// A page that was presented.
-fn write_page<W: fmt::Write>(
+/// What an access did.
+fn write_access_name<W: fmt::Write>(kind: Kind, f: &mut fmt::Formatter<W>) -> fmt::Result
+    ensures { DisplaysOnOk W.write_str_gives f.old result (Some (spec.access_name kind)) f.new }
+{
+    match kind {
+        Kind::Fetch => f.write_str("fetched an instruction"),
+        Kind::Load => f.write_str("loaded"),
+        Kind::Store => f.write_str("stored"),
+    }
+}
+
+/// A page, by its numbers.
+fn write_page_name<W: fmt::Write>(page: PageId, f: &mut fmt::Formatter<W>) -> fmt::Result
+    ensures { DisplaysOnOk W.write_str_gives f.old result (Some (spec.page_name page)) f.new }
+{
+    let PageId {
+        domain,
+        resource,
+        page,
+    } = page;
+    write!(f, "page {page} of resource {resource} of program {domain}")
+}
+
+/// The program's access that was stopped, and the frame to which it led.
+fn write_access<W: fmt::Write>(presented: PresentedPage, f: &mut fmt::Formatter<W>) -> fmt::Result
+    ensures { DisplaysOnOk W.write_str_gives f.old result (Some (spec.access_text presented)) f.new }
+{
+    let frame = presented.frame;
+    write_access_name(presented.kind, f)?;
+    f.write_str(" at ")?;
+    write_word(presented.address, f)?;
+    f.write_str(", which is ")?;
+    write_page_name(presented.page, f)?;
+    write!(f, ".\nThe kernel's page table leads there to frame {frame}")
+}
+
+/// The step of a context.
+fn write_running<W: fmt::Write>(
     step: u32,
     hart: usize,
     ctx: u32,
-    more: &str,
     f: &mut fmt::Formatter<W>,
 ) -> fmt::Result
-    ensures { DisplaysOnOk W.write_str_gives f.old result (Some (spec.page_text step hart ctx more.now)) f.new }
+    ensures { DisplaysOnOk W.write_str_gives f.old result (Some (spec.running_text step hart ctx)) f.new }
 {
     write!(
         f,
         "A violation at step {step}: context {ctx}, on hart {hart}, "
-    )?;
+    )
+}
+
+/// A page that was presented.
+fn write_page<W: fmt::Write>(
+    presented: &Presented,
+    more: &str,
+    f: &mut fmt::Formatter<W>,
+) -> fmt::Result
+    ensures { DisplaysOnOk W.write_str_gives f.old result
+        (Some (spec.page_text presented.now.step presented.now.hart presented.now.ctx presented.now.found more.now)) f.new }
+{
+    let Presented {
+        step,
+        hart,
+        ctx,
+        ..
+    } = *presented;
+    write_running(step, hart, ctx, f)?;
+    write_access(presented.found, f)?;
     f.write_str(more)?;
     write_end(ctx, f)
 }
@@ -442,7 +470,7 @@ impl fmt::Display for Passage {
         match self {
             Passage::Resume(asking, why) => write_resume(asking, *why, f),
             Passage::Gone(step, asked, ended) => write_none(*step, *asked, *ended, f),
-            Passage::Page(step, hart, ctx, more) => write_page(*step, *hart, *ctx, more, f),
+            Passage::Page(presented, more) => write_page(presented, more, f),
             Passage::Question(step, ctx) => write_question(*step, *ctx, f),
         }
     }

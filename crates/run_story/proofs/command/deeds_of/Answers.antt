@@ -1,4 +1,4 @@
-use Rattle.std.proofs.Common.{◌∙◌, refl, arith}
+use Rattle.std.proofs.Common.{refl, arith}
 use Rattle.run_story.proofs.command.deeds_of.Goals as goal
 
 pub loop-tag-init : goal.loop-tag-init

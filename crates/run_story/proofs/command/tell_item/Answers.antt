@@ -1,5 +1,5 @@
 use Rattle.std.proofs.Common.{refl}
-use Rattle.run_story.proofs.Ends.{lacks_next, page_of_item}
+use Rattle.run_story.proofs.Ends.{lacks_next}
 use Rattle.run_story.proofs.command.tell_item.Goals as goal
 
 pub returns-in-Err-clause-tells : goal.returns-in-Err-clause-tells

@@ -1,6 +1,5 @@
 use Rattle.std.proofs.Common.{◌≡◌, ◌∙◌, ◌&&◌, ℕ, Bool, not, sym, ap, arith}
-use Rattle.replayed_run.specs.Alone.{standing_told}
-use Rattle.replayed_run.specs.Noted.{is_in_space, is_left}
+use Rattle.replayed_run.specs.Noted.{is_left}
 use Rattle.replayed_run.proofs.NotedMore.{left_more, left_none}
 use Rattle.replayed_run.proofs.watch.Watch.is_left.Goals as goal
 

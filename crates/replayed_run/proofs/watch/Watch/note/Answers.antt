@@ -1,4 +1,4 @@
-use Rattle.std.proofs.Common.{◌≡◌, ◌∙◌, ◌++◌, [], ◌∷◌, false, sym, ap, Option}
+use Rattle.std.proofs.Common.{◌∙◌, ◌++◌, [], ◌∷◌, false, sym, ap, Option}
 use Rattle.cloak_model.specs.declared.item.Item.{Item}
 use Rattle.cloak_model.specs.KernelAlone.{kernel_alone}
 use Rattle.alone_views.specs.KernelEnding.{is_end}

@@ -1,4 +1,4 @@
-use Rattle.std.proofs.Common.{◌≡◌, ◌∙◌, true, sym, ap}
+use Rattle.std.proofs.Common.{◌∙◌, true, sym, ap}
 use Rattle.alone_views.specs.KernelPlaces.{stood_place}
 use Rattle.replayed_run.specs.declared.contexts.ToldContexts.{ToldContexts}
 use Rattle.replayed_run.specs.declared.notes.Notes.{Notes}

@@ -1,4 +1,6 @@
-use Rattle.std.proofs.Common.{[], ◌∷◌, ◌++◌, ◌∙◌, sym, subst}
+use Rattle.std.proofs.Common.{[], ◌∷◌, ◌++◌, ◌∙◌, ap, sym, subst}
+use Rattle.alone_views.specs.declared.asked.AskedAccess.{AskedAccess}
+use Rattle.replayed_run.specs.Questions.{questions_after}
 use Rattle.replayed_run.specs.Machines.{StandAlone, TookItem}
 use Rattle.replayed_run.specs.declared.machines.Machines.{Machines}
 use Rattle.replayed_run.proofs.NotedMore.{watches_more}
@@ -13,3 +15,7 @@ returns c = λ b items is watched.
     (subst (λ (m : Machines). StandAlone b (items ++ c.args.item.now ∷ []) m) (sym same) took.stands)
     (c.note_page.ensures.notes ∙ c.note.ensures.notes b items
     (record { took = took; place = sym (c.place-place.ensures b items watched.machines) }))
+    (c.note_page.ensures.questions
+    ∙ (c.after-questions.ensures
+    ∙ ap (λ (q : AskedAccess). questions_after c.args.self.now.questions q c.args.item.now)
+    (c.question_for-question.ensures b items watched.machines)))

@@ -8,9 +8,10 @@ use Rattle.run_story.proofs.story.Story.note_ended.Goals as goal
 
 pub returns-in-Question-clause-adds : goal.returns-in-Question-clause-adds
 returns-in-Question-clause-adds c =
+    let met = ByPage c.args.step c.in-Question.hart c.in-Question.ctx c.in-Question.found in
     let mid : Story = record c.args.self.now { ended = c.set_ended.new.ended } in
     subst (λ (t : Target). AddsOutcome (end_outcome c.args.step (due_of t)) c.args.step c.args.self.now
     c.tell_end.new.self c.tell_end.result) (sym c.in-Question.is)
-    (adds_from (Violated (ByPage c.args.step c.in-Question.hart c.in-Question.ctx)) c.args.step c.args.self.now mid
+    (adds_from (Violated met) c.args.step c.args.self.now mid
     c.tell_end.new.self c.tell_end.result refl refl
-    (c.tell_end.ensures.adds c.args.step (ByPage c.args.step c.in-Question.hart c.in-Question.ctx) (inl refl)))
+    (c.tell_end.ensures.adds c.args.step met (inl refl)))

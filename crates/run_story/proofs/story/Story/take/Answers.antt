@@ -1,4 +1,4 @@
-use Rattle.std.proofs.Common.{[], ◌∷◌, ◌++◌, ◌∙◌, ap, sym, subst}
+use Rattle.std.proofs.Common.{[], ◌∷◌, ◌++◌, ap, sym, subst}
 use Rattle.replayed_run.specs.Watching.{Watches}
 use Rattle.replayed_run.specs.declared.watch.Watch.{Watch}
 use Rattle.run_story.specs.Telling.{LacksNext}

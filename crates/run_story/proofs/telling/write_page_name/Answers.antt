@@ -1,0 +1,8 @@
+use Rattle.std.proofs.Common.{codes, decimal}
+use Rattle.run_story.proofs.Joined.{joined_by_six}
+use Rattle.run_story.proofs.telling.write_page_name.Goals as goal
+
+pub returns : goal.returns
+returns g c = λ plain ok.
+    rw (joined_by_six (codes "page ") (decimal c.args.page.page) (codes " of resource ") (decimal c.args.page.resource)
+    (codes " of program ") (decimal c.args.page.domain)) (c.write.ensures.writes plain ok)
