@@ -130,11 +130,11 @@ impl<'m, 'e, E: Emit> Side<'m, 'e, E> {
 
     /// No translation is looked for: without paging an access leads to its own address, unless accesses are counted.
     #[inline(always)]
-    fn is_bare(&self, regime: &Regime) -> bool
-        ensures bare { IsTrue result → has_paging (satp_in regime.now) ≡ false }
+    pub(crate) fn is_bare(&self, satp: u32) -> bool
+        ensures bare { IsTrue result → has_paging satp ≡ false }
         ensures uncounted { IsTrue result → self.now.memory.now.counting ≡ false }
     {
-        !self.memory.counting && !has_bit(satp_of(regime), 31)
+        !self.memory.counting && !has_bit(satp, 31)
     }
 
     /// What is found for an access without paging, if accesses are not counted.
@@ -216,7 +216,7 @@ impl<'m, 'e, E: Emit> Side<'m, 'e, E> {
         ensures offset { IfSome (found_to kind result) (λ to. IfOk to (λ led. led.pa % 4096 ≡ va % 4096)) }
         ensures same_count { frames_of self.new.memory.now ≡ frames_of self.old.memory.now }
     {
-        if self.is_bare(regime) {
+        if self.is_bare(satp_of(regime)) {
             return self.look_bare(regime, va, kind);
         }
         self.look_up(regime, va, kind, cloaked)
@@ -289,6 +289,58 @@ impl<'m, 'e, E: Emit> Side<'m, 'e, E> {
         }
     }
 
+    /// Where an access that is of this page, or not cloaked, leads without paging, or the cause of its fault.
+    #[inline(always)]
+    pub(crate) fn led_bare(
+        &mut self,
+        regime: &Regime,
+        va: u32,
+        kind: Kind,
+        cloaked: Option<PageId>,
+    ) -> Result<Led, u32>
+        requires bare { has_paging (satp_in regime.now) ≡ false }
+        requires uncounted { self.old.memory.now.counting ≡ false }
+        ensures follows { (first : _) (w : World) → Sees E.gave first self.old w → IsRegimeIn self.old.space regime.now →
+            is_clashed (asked_led regime.now va kind w).world ≡ false →
+            FollowsFrom (Sees E.gave first) self.new (place_in result) (asked_led regime.now va kind w) }
+        ensures keeps { Keeps (StaysWithin E.gave) self.old self.new }
+        ensures inside { IfOk result (λ led. IsTrue (is_in_frames (frames_of self.old.memory.now) led.pa)) }
+        ensures offset { IfOk result (λ led. led.pa % 4096 ≡ va % 4096) }
+        ensures same_count { frames_of self.new.memory.now ≡ frames_of self.old.memory.now }
+        ensures missed { IfOk result (λ led. IsUnknownIfMissed self.new.memory.now regime.now va kind led.missed) }
+        ensures leads { IfOk result (λ led. (first : _) (w : World) → Sees E.gave first self.old w →
+            IsRegimeIn self.old.space regime.now → let told = asked_led regime.now va kind w in is_clashed told.world ≡ false →
+            IsLedSo self.new.memory.now told.world regime.now va kind cloaked led) }
+    {
+        let found = self.look_bare(regime, va, kind);
+        self.led_from(regime, va, kind, found)
+    }
+
+    /// The same with paging, or if accesses are counted.
+    #[inline(always)]
+    pub(crate) fn led_paged(
+        &mut self,
+        regime: &Regime,
+        va: u32,
+        kind: Kind,
+        cloaked: Option<PageId>,
+    ) -> Result<Led, u32>
+        ensures follows { (first : _) (w : World) → Sees E.gave first self.old w → IsRegimeIn self.old.space regime.now →
+            is_clashed (asked_led regime.now va kind w).world ≡ false →
+            FollowsFrom (Sees E.gave first) self.new (place_in result) (asked_led regime.now va kind w) }
+        ensures keeps { Keeps (StaysWithin E.gave) self.old self.new }
+        ensures inside { IfOk result (λ led. IsTrue (is_in_frames (frames_of self.old.memory.now) led.pa)) }
+        ensures offset { IfOk result (λ led. led.pa % 4096 ≡ va % 4096) }
+        ensures same_count { frames_of self.new.memory.now ≡ frames_of self.old.memory.now }
+        ensures missed { IfOk result (λ led. IsUnknownIfMissed self.new.memory.now regime.now va kind led.missed) }
+        ensures leads { IfOk result (λ led. (first : _) (w : World) → Sees E.gave first self.old w →
+            IsRegimeIn self.old.space regime.now → let told = asked_led regime.now va kind w in is_clashed told.world ≡ false →
+            IsLedSo self.new.memory.now told.world regime.now va kind cloaked led) }
+    {
+        let found = self.look_up(regime, va, kind, cloaked);
+        self.led_from(regime, va, kind, found)
+    }
+
     /// Where an access that is of this page, or not cloaked, leads, or the cause of its fault. There is a way with
     /// paging and one without, instead of one after a `look`, so that each stays short.
     #[inline(always)]
@@ -311,12 +363,10 @@ impl<'m, 'e, E: Emit> Side<'m, 'e, E> {
             IsRegimeIn self.old.space regime.now → let told = asked_led regime.now va kind w in is_clashed told.world ≡ false →
             IsLedSo self.new.memory.now told.world regime.now va kind cloaked led) }
     {
-        if self.is_bare(regime) {
-            let found = self.look_bare(regime, va, kind);
-            return self.led_from(regime, va, kind, found);
+        if self.is_bare(satp_of(regime)) {
+            return self.led_bare(regime, va, kind, cloaked);
         }
-        let found = self.look_up(regime, va, kind, cloaked);
-        self.led_from(regime, va, kind, found)
+        self.led_paged(regime, va, kind, cloaked)
     }
 
     /// Makes a translation known.

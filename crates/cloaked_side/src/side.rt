@@ -1,4 +1,4 @@
-ghost use Rattle.std.specs.Prelude.{◌≡◌, ◌<◌, ◌≤◌, ◌%◌, IsTrue, length, is_some};
+ghost use Rattle.std.specs.Prelude.{◌≡◌, ◌<◌, ◌≤◌, ◌%◌, IsTrue, false, length, is_some};
 
 use crate::atomic::is_reserved;
 use crate::kept_put::KeptPut;
@@ -29,17 +29,18 @@ pub struct Side<'m, 'e, E: Emit> {
 
 impl<'m, 'e, E: Emit> Side<'m, 'e, E> {
     ghost use Rattle.cloak_model.specs.World.{settled};
-    ghost use Rattle.cloak_model.specs.Asking.{Keeps};
+    ghost use Rattle.cloak_model.specs.Asking.{Follows, Keeps};
     ghost use Rattle.cloak_pager.specs.State.{held_in};
     ghost use Rattle.cloak_model.specs.Cloaking.{CloakedMemory, settle};
     ghost use Rattle.cloaked_side.specs.Holding.{Holds, Settles, frames_of};
-    ghost use Rattle.cloaked_side.specs.Seeing.{Becomes, FollowsAlways, StaysWithin};
+    ghost use Rattle.cloaked_side.specs.Seeing.{Becomes, FollowsAlways, SeesOutside, StaysWithin};
     ghost use Rattle.cloaked_side.specs.Tracking.{TracksBy, spent_in};
     ghost use Rattle.shadow_fold.specs.Reads.{Spends};
     ghost use Rattle.shadow_fold.specs.Fold.{frame, touched};
     ghost use Rattle.shadow_fold.specs.Following.{killed_if};
-    ghost use Rattle.cloak_model.specs.Ask.{shown_value, stored_value};
+    ghost use Rattle.cloak_model.specs.Ask.{ask_load, shown_value, stored_value};
     ghost use Rattle.cloak_model.specs.Effect.{IsWidth};
+    ghost use Rattle.cloak_model.specs.Walk.{has_paging};
     ghost use Rattle.cloak_base.specs.Constants.{frame_of, is_in_frames};
 
     /// Settles a frame.
@@ -100,6 +101,57 @@ impl<'m, 'e, E: Emit> Side<'m, 'e, E> {
             .write_outside(f, place_of(pa) as u32, width, v);
         self.memory.shadows.kill_dependents(f);
     }
+
+    /// The value where a load of a hart outside leads without paging, or the cause of its fault. A way of its own, so that it
+    /// makes no regime.
+    #[inline(always)]
+    fn load_bare(&mut self, satp: u32, access: Access, width: u32) -> Result<u32, u32>
+        requires width { IsWidth width }
+        requires aligned { access.va % width ≡ 0 }
+        requires bare { has_paging satp ≡ false }
+        requires uncounted { self.old.memory.now.counting ≡ false }
+        ensures follows { Follows (SeesOutside E.gave) self.old self.new result (ask_load satp access width) }
+        ensures keeps { Keeps (StaysWithin E.gave) self.old self.new }
+        ensures same_count { frames_of self.new.memory.now ≡ frames_of self.old.memory.now }
+    {
+        let regime = Regime::Outside {
+            satp,
+            mode: access.mode,
+            sum: access.sum,
+            mxr: access.mxr,
+        };
+        match self.led_bare(&regime, access.va, access.kind, None) {
+            Err(cause) => Err(cause),
+            Ok(led) => {
+                self.settle_led(&regime, access.va, access.kind, &led);
+                Ok(self.read_settled(led.pa, width))
+            }
+        }
+    }
+
+    /// The same with paging, or if accesses are counted.
+    #[inline(always)]
+    fn load_paged(&mut self, satp: u32, access: Access, width: u32) -> Result<u32, u32>
+        requires width { IsWidth width }
+        requires aligned { access.va % width ≡ 0 }
+        ensures follows { Follows (SeesOutside E.gave) self.old self.new result (ask_load satp access width) }
+        ensures keeps { Keeps (StaysWithin E.gave) self.old self.new }
+        ensures same_count { frames_of self.new.memory.now ≡ frames_of self.old.memory.now }
+    {
+        let regime = Regime::Outside {
+            satp,
+            mode: access.mode,
+            sum: access.sum,
+            mxr: access.mxr,
+        };
+        match self.led_paged(&regime, access.va, access.kind, None) {
+            Err(cause) => Err(cause),
+            Ok(led) => {
+                self.settle_led(&regime, access.va, access.kind, &led);
+                Ok(self.read_settled(led.pa, width))
+            }
+        }
+    }
 }
 
 impl<'m, 'e, E: Emit> WordMemory for Side<'m, 'e, E> {
@@ -134,19 +186,10 @@ impl<'m, 'e, E: Emit> Ram for Side<'m, 'e, E> {
     // Made twice for a hart outside: for its fetches, and for its loads.
     #[inline(always)]
     fn load(&mut self, satp: u32, access: Access, width: u32) -> Result<u32, u32> {
-        let regime = Regime::Outside {
-            satp,
-            mode: access.mode,
-            sum: access.sum,
-            mxr: access.mxr,
-        };
-        match self.led(&regime, access.va, access.kind, None) {
-            Err(cause) => Err(cause),
-            Ok(led) => {
-                self.settle_led(&regime, access.va, access.kind, &led);
-                Ok(self.read_settled(led.pa, width))
-            }
+        if self.is_bare(satp) {
+            return self.load_bare(satp, access, width);
         }
+        self.load_paged(satp, access, width)
     }
 
     fn store(&mut self, satp: u32, access: Access, width: u32, v: u32) -> Result<(), u32> {

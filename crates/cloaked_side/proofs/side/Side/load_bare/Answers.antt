@@ -6,7 +6,7 @@ use Rattle.cloaked_side.specs.Leading.{IsRegimeIn}
 use Rattle.cloaked_side.proofs.Known.{load_unclashed, loaded_told, load_fault, viewed_outside}
 use Rattle.cloaked_side.proofs.Serving.{wrap_outside}
 use Rattle.cloaked_side.proofs.Sided.{within_of}
-use Rattle.cloaked_side.proofs.side.SideRam.load.Goals as goal
+use Rattle.cloaked_side.proofs.side.Side.load_bare.Goals as goal
 
 pub returns-in-Err-clause-follows : goal.returns-in-Err-clause-follows
 returns-in-Err-clause-follows g c first w sees unclashed =
@@ -14,23 +14,23 @@ returns-in-Err-clause-follows g c first w sees unclashed =
     let old = c.args.self.now in
     let u = load_unclashed c.args.satp c.args.access c.args.width w unclashed in
     let viewed = viewed_outside old.space c.args.satp c.args.access sees.1 in
-    let kept = within_of gave old c.led.new.self c.led.ensures.keeps in
-    wrap_outside gave first old c.led.new.self _ _ kept.stays.space sees.1
-    (load_fault gave first c.led.new.self c.args.satp c.args.access c.args.width c.in-Err.cause w
+    let kept = within_of gave old c.led_bare.new.self c.led_bare.ensures.keeps in
+    wrap_outside gave first old c.led_bare.new.self _ _ kept.stays.space sees.1
+    (load_fault gave first c.led_bare.new.self c.args.satp c.args.access c.args.width c.in-Err.cause w
     (c.in-Err.ensures.follows first w sees.0 viewed u))
 
 pub returns-in-Ok-clause-follows : goal.returns-in-Ok-clause-follows
 returns-in-Ok-clause-follows g c first w sees unclashed =
     let gave = g.E.Emit.gave in
     let old = c.args.self.now in
-    let mid = c.led.new.self in
+    let mid = c.led_bare.new.self in
     let u = load_unclashed c.args.satp c.args.access c.args.width w unclashed in
     let led = c.in-Ok.led in
     let a = c.args.access in
     let regime = Outside c.args.satp a.mode a.sum a.mxr in
     let told = ask_led c.args.satp c.args.access w in
     let viewed = viewed_outside old.space c.args.satp c.args.access sees.1 in
-    let kept = within_of gave old mid c.led.ensures.keeps in
+    let kept = within_of gave old mid c.led_bare.ensures.keeps in
     let kept_then = within_of gave mid c.settle_led.new.self c.settle_led.ensures.keeps in
     let kept_last = within_of gave c.settle_led.new.self c.read_settled.new.self c.read_settled.ensures.keeps in
     let f = c.in-Ok.ensures.follows first w sees.0 viewed u in
