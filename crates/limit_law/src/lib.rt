@@ -13,14 +13,14 @@
 //! multiples of 8; no context waits; reservations in 15 resources, in 1023 pages, or at multiples of 8. Of the
 //! definitions: THREAD does not test its program counter; EXIT ends its space though another context is in it; an offer
 //! does not settle the frame that is owed the page; the page table of a space that ended stays recorded; a reservation
-//! names its page by the address. Of owed pages: those of one resource count as one, or those with one number; a page
-//! is owed by the same frame at all moments. Of page tables: their spaces were in use as the run began, or are at the
-//! next moment; space 0 of the program is in use instead; those of a domain that ended stay recorded. Of words:
-//! programs have numbers below 3; program counters are below 2^31; contexts have numbers below 8. Of the numbers of
-//! files: they are below 2^31; the image has any numbers instead of bytes, or what the run begins with has. Of the end
-//! of a domain: its contexts stay; its page tables stay recorded; no page table of a program with a lower number is
-//! recorded; what ended it is not kept; there are three places for what ended a program; the place of the next number
-//! is taken. Of refusals: one counts twice; there are fewer than steps; there are fewer than 2^63.
+//! names its page by the address. Of owed pages: those of one resource count as one, or those with one number; a frame
+//! that is settled is still owed its page. Of page tables: their spaces were in use as the run began; that of a context
+//! that is resumed is recorded of the next space; those of a domain that ended stay recorded. Of words: programs have
+//! numbers below 3; program counters are below 2^31; contexts have numbers below 8. Of the numbers of files: they are
+//! below 2^31; the image has any numbers instead of bytes, or what the run begins with has. Of the end of a domain: its
+//! contexts stay; its page tables stay recorded; no page table of a program with a lower number is recorded; what ended
+//! it is not kept; there are three places for what ended a program; the place of the next number is taken. Of refusals:
+//! one counts twice; there are fewer than steps; there are fewer than 2^63.
 #![tactic(auto)]
 
 ghost use Rattle.limit_law.specs.Endings.{EndedAreGone, EndedAreTold, RefusalsAreFew};

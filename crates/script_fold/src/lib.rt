@@ -7,9 +7,8 @@
 //!
 //! No body changes a law, so there is no wrong body to refuse here. With these changed definitions, tried on a copy,
 //! the proofs did not go through: the pages of a resource are dropped with all page tables that are recorded; a frame
-//! that is settled forgets them; the count of draws is kept like a page table; so is the number of items that were
-//! written. Of a step: it forgets the page tables of its program; it keeps the ciphertexts that were last shown. Of an
-//! end: it forgets the page tables of its domain; it keeps what the frames are owed.
+//! that is settled forgets them, with a draw, or only without one; the count of draws is kept like a page table; so is
+//! the number of items that were written.
 #![tactic(auto)]
 
 ghost use Rattle.script_fold.specs.Tables.{EndKeepsTables, StepKeepsTables};
