@@ -1,3 +1,4 @@
 pub mod Marks
 pub mod Left
 pub mod Homes
+pub mod Serving

@@ -2,7 +2,7 @@
 ghost use Rattle.std.specs.Prelude.{◌≡◌, ◌≢◌, ◌↔◌, ℕ, None, true, false, IsSome, IfSome, IsTrue};
 ghost use Rattle.std.specs.Option.{ForSome};
 ghost use Rattle.std.specs.List.{list_any};
-ghost use Rattle.cloak_model.specs.Asking.{Follows, Keeps};
+ghost use Rattle.cloak_model.specs.Asking.{Follows};
 ghost use Rattle.cloak_model.specs.Contexts.{context_at, end_at};
 ghost use Rattle.cloak_model.specs.Resources.{drop_space};
 ghost use Rattle.cloak_model.specs.Fork as spec;
@@ -11,6 +11,7 @@ ghost use Rattle.resource_map.specs.Kept.{IsInUse};
 ghost use Rattle.cloaked_fork.specs.Homes.{AllInUse};
 ghost use Rattle.cloaked_fork.specs.Left as left;
 ghost use Rattle.cloaked_fork.specs.Marks.{AreUnused, AreCleared};
+ghost use Rattle.cloaked_fork.specs.Serving.{SideServes};
 
 use crate::pages::forget_all;
 use crate::slots::context;
@@ -25,9 +26,7 @@ fn forget_pages<M: PageSide>(r: &Resources, domain: u32, space: u32, m: &mut M)
     requires unused { AreUnused (M.is_unused m.old) r.now }
     requires cleared { AreCleared (M.is_cleared m.old) (spec.marked space r.now) }
     ensures follows { Follows M.stands_for m.old m.new tt (spec.ask_forgets domain (spec.private_numbers space r.now)) }
-    ensures keeps { Keeps M.kept m.old m.new }
-    ensures unused { AreUnused (M.is_unused m.new) (drop_space space r.now) }
-    ensures same_domain { M.serves m.new ≡ M.serves m.old }
+    ensures side { SideServes M.PageSide (drop_space space r.now) m.old m.new }
 {
     let marked = r.marked(space);
     forget_all(domain, &marked, m);
@@ -58,10 +57,8 @@ fn end_settled<M: PageSide>(
     ensures gone_leaves { (n : ℕ) → result ≡ Ended.SpaceGone n → left.spaces c.new r.new ≡ left.spaces
         (end_at slot c.old) (drop_space n r.old) }
     ensures stopped_unchanged { result ≡ Ended.Stopped → left.spaces c.new r.new ≡ left.spaces c.old r.old }
-    ensures keeps { Keeps M.kept m.old m.new }
-    ensures unused { AreUnused (M.is_unused m.new) r.new }
+    ensures side { SideServes M.PageSide r.new m.old m.new }
     ensures in_use { AllInUse c.old r.old → AllInUse c.new r.new }
-    ensures same_domain { M.serves m.new ≡ M.serves m.old }
 {
     match settled {
         Answer::Ok => {
@@ -96,10 +93,8 @@ fn end_in_space<M: PageSide>(
     ensures gone_leaves { (n : ℕ) → result ≡ Ended.SpaceGone n → left.spaces c.new r.new ≡ left.spaces
         (end_at slot c.old) (drop_space n r.old) }
     ensures stopped_unchanged { result ≡ Ended.Stopped → left.spaces c.new r.new ≡ left.spaces c.old r.old }
-    ensures keeps { Keeps M.kept m.old m.new }
-    ensures unused { AreUnused (M.is_unused m.new) r.new }
+    ensures side { SideServes M.PageSide r.new m.old m.new }
     ensures in_use { AllInUse c.old r.old → AllInUse c.new r.new }
-    ensures same_domain { M.serves m.new ≡ M.serves m.old }
 {
     if c.has_other(slot, space) {
         c.end(slot);
@@ -132,10 +127,8 @@ pub fn end_context<M: PageSide>(
     ensures gone_leaves { (n : ℕ) → result ≡ Ended.SpaceGone n → left.spaces c.new r.new ≡ left.spaces
         (end_at slot c.old) (drop_space n r.old) }
     ensures stopped_unchanged { result ≡ Ended.Stopped → left.spaces c.new r.new ≡ left.spaces c.old r.old }
-    ensures keeps { Keeps M.kept m.old m.new }
-    ensures unused { AreUnused (M.is_unused m.new) r.new }
+    ensures side { SideServes M.PageSide r.new m.old m.new }
     ensures in_use { AllInUse c.old r.old → AllInUse c.new r.new }
-    ensures same_domain { M.serves m.new ≡ M.serves m.old }
 {
     let space = context(c, slot).space;
     end_in_space(r, c, domain, slot, space, m)

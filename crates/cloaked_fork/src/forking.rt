@@ -3,15 +3,17 @@ ghost use Rattle.std.specs.Prelude.{◌≡◌, ◌≢◌, ◌<◌, ◌↔◌, �
 ghost use Rattle.std.specs.Prelude.{IsNone, IfSome, IfErr, OnErr, IfOk, IsOk, IsTrue};
 ghost use Rattle.std.specs.Option.{ForSome};
 ghost use Rattle.cloak_base.specs.declared.names.CtxId.{CtxId};
-ghost use Rattle.cloak_model.specs.Asking.{Follows, Keeps};
+ghost use Rattle.cloak_model.specs.Asking.{Follows};
 ghost use Rattle.cloak_model.specs.Contexts.{context_at};
 ghost use Rattle.cloak_model.specs.Fork as spec;
 ghost use Rattle.cloak_model.proofs.ForkParts as parts;
 ghost use Rattle.cloak_model.specs.Resources.{resource_at};
 ghost use Rattle.resource_map.specs.Kept.{IsInUse};
+ghost use Rattle.side_frames.specs.Staying.{SideStays, IsAny};
 ghost use Rattle.cloaked_fork.specs.Homes.{AllInUse};
 ghost use Rattle.cloaked_fork.specs.Left as left;
 ghost use Rattle.cloaked_fork.specs.Marks.{AreUnused, AreCleared};
+ghost use Rattle.cloaked_fork.specs.Serving.{SideServes};
 
 use crate::pages::copy_all;
 use crate::slots::context;
@@ -54,9 +56,7 @@ fn copy_pages<M: PageSide>(r: &Resources, domain: u32, space: u32, m: &mut M)
     requires unused { AreUnused (M.is_unused m.old) r.now }
     requires cleared { AreCleared (M.is_cleared m.old) (spec.marked space r.now) }
     ensures follows { Follows M.stands_for m.old m.new tt (spec.ask_copies domain (spec.copies space r.now)) }
-    ensures keeps { Keeps M.kept m.old m.new }
-    ensures unused { (n : ℕ) → M.is_unused m.old n → M.is_unused m.new n }
-    ensures same_domain { M.serves m.new ≡ M.serves m.old }
+    ensures side { SideStays M.PageSide IsAny m.old m.new }
 {
     let copies = r.copies(space);
     copy_all(domain, copies.as_slice(), m);
@@ -104,10 +104,8 @@ fn fork_settled<M: PageSide>(
     ensures made { IfSome result (λ made. made ≡ left.new_context_number domain c.old) }
     ensures copied { IsSome result → left.spaces c.new r.new ≡ left.forked_spaces caller.now r.old c.old }
     ensures stopped_unchanged { IsNone result → left.spaces c.new r.new ≡ left.spaces c.old r.old }
-    ensures keeps { Keeps M.kept m.old m.new }
-    ensures unused { AreUnused (M.is_unused m.new) r.new }
+    ensures side { SideServes M.PageSide r.new m.old m.new }
     ensures in_use { AllInUse c.old r.old → AllInUse c.new r.new }
-    ensures same_domain { M.serves m.new ≡ M.serves m.old }
 {
     match settled {
         Answer::Ok => {
@@ -140,10 +138,8 @@ fn fork_caller<M: PageSide>(
     ensures only_full { IfErr result (λ fault. fault ≡ MapFault.Full) }
     ensures refused_unchanged { OnErr result (left.spaces c.new r.new ≡ left.spaces c.old r.old) }
     ensures stopped_unchanged { result ≡ Ok None → left.spaces c.new r.new ≡ left.spaces c.old r.old }
-    ensures keeps { Keeps M.kept m.old m.new }
-    ensures unused { AreUnused (M.is_unused m.new) r.new }
+    ensures side { SideServes M.PageSide r.new m.old m.new }
     ensures in_use { AllInUse c.old r.old → AllInUse c.new r.new }
-    ensures same_domain { M.serves m.new ≡ M.serves m.old }
 {
     match fits(r, c, caller.space) {
         Err(fault) => Err(fault),
@@ -179,10 +175,8 @@ pub fn fork_space<M: PageSide>(
     ensures only_full { IfErr result (λ fault. fault ≡ MapFault.Full) }
     ensures refused_unchanged { OnErr result (left.spaces c.new r.new ≡ left.spaces c.old r.old) }
     ensures stopped_unchanged { result ≡ Ok None → left.spaces c.new r.new ≡ left.spaces c.old r.old }
-    ensures keeps { Keeps M.kept m.old m.new }
-    ensures unused { AreUnused (M.is_unused m.new) r.new }
+    ensures side { SideServes M.PageSide r.new m.old m.new }
     ensures in_use { AllInUse c.old r.old → AllInUse c.new r.new }
-    ensures same_domain { M.serves m.new ≡ M.serves m.old }
 {
     let caller = context(c, slot);
     fork_caller(r, c, domain, &caller, m)

@@ -1,7 +1,8 @@
 //! What is asked for the pages of whole resources.
 ghost use Rattle.std.specs.Prelude.{◌≡◌, ◌<◌, ℕ, All, false, true, slice_index_or};
-ghost use Rattle.cloak_model.specs.Asking.{Follows, Keeps};
+ghost use Rattle.cloak_model.specs.Asking.{Follows};
 ghost use Rattle.cloak_model.specs.Fork as spec;
+ghost use Rattle.side_frames.specs.Staying.{SideStays, IsAny};
 ghost use Rattle.cloaked_fork.specs.Marks.{marked_numbers, AreCleared};
 
 use cloak_model::PageSide;
@@ -13,9 +14,7 @@ pub fn copy_all<M: PageSide>(domain: u32, copies: &[(u32, u32)], m: &mut M)
     requires unused { All (λ copy. M.is_unused m.old copy.1) copies.now }
     requires cleared { All (λ copy. M.is_cleared m.old copy.0) copies.now }
     ensures follows { Follows M.stands_for m.old m.new tt (spec.ask_copies domain copies.now) }
-    ensures keeps { Keeps M.kept m.old m.new }
-    ensures unused { (n : ℕ) → M.is_unused m.old n → M.is_unused m.new n }
-    ensures same_domain { M.serves m.new ≡ M.serves m.old }
+    ensures side { SideStays M.PageSide IsAny m.old m.new }
 {
     for copy in copies {
         m.copy(domain, copy.0, copy.1);
@@ -27,10 +26,8 @@ pub fn forget_all<M: PageSide>(domain: u32, marked: &[bool; 16], m: &mut M)
     requires domain { domain ≡ M.serves m.old }
     requires cleared { AreCleared (M.is_cleared m.old) marked.now }
     ensures follows { Follows M.stands_for m.old m.new tt (spec.ask_forgets domain (marked_numbers marked.now)) }
-    ensures keeps { Keeps M.kept m.old m.new }
-    ensures unused { (n : ℕ) → M.is_unused m.old n → M.is_unused m.new n }
+    ensures side { SideStays M.PageSide IsAny m.old m.new }
     ensures dropped { (n : ℕ) → slice_index_or marked.now n false ≡ true → M.is_unused m.new n }
-    ensures same_domain { M.serves m.new ≡ M.serves m.old }
 {
     for n in 0..16 {
         if marked[n as usize] {

@@ -1,10 +1,11 @@
 //! The hypercalls, by the number in x17: each changes contexts and resources, and asks at most for a clearing.
 ghost use Rattle.std.specs.Prelude.{◌≡◌, ◌≢◌, ℕ, None, IsSome};
-ghost use Rattle.cloak_model.specs.Asking.{Follows, Keeps};
+ghost use Rattle.cloak_model.specs.Asking.{Follows};
 ghost use Rattle.cloak_model.specs.Contexts.{context_at};
 ghost use Rattle.cloak_model.specs.Resources.{resource_at};
 ghost use Rattle.cloak_model.specs.Hypercalls as spec;
 ghost use Rattle.cloaked_fork.specs.Marks.{AreUnused};
+ghost use Rattle.cloaked_fork.specs.Serving.{SideServes};
 ghost use Rattle.hypercalls.specs.Slots.{context_of};
 
 use crate::control::{Control, leave_hart};
@@ -208,10 +209,8 @@ impl Control {
         ensures follows { Follows M.stands_for m.old m.new (record { control = self.new; went = result })
             (spec.fork_call slot (context_of self.old slot) self.old) }
         ensures stopped_unchanged { result ≡ Went.Stopped → self.new ≡ self.old }
-        ensures unused { AreUnused (M.is_unused m.new) self.new.resources }
-        ensures keeps { Keeps M.kept m.old m.new }
+        ensures side { SideServes M.PageSide self.new.resources m.old m.new }
         ensures number { self.new.number ≡ self.old.number }
-        ensures same_domain { M.serves m.new ≡ M.serves m.old }
     {
         self.reserved = true;
         match fork_space(
@@ -236,10 +235,8 @@ impl Control {
         ensures follows { Follows M.stands_for m.old m.new (record { control = self.new; went = result })
             (spec.exit_call slot (context_of self.old slot) self.old) }
         ensures stopped_unchanged { result ≡ Went.Stopped → self.new ≡ self.old }
-        ensures unused { AreUnused (M.is_unused m.new) self.new.resources }
-        ensures keeps { Keeps M.kept m.old m.new }
+        ensures side { SideServes M.PageSide self.new.resources m.old m.new }
         ensures number { self.new.number ≡ self.old.number }
-        ensures same_domain { M.serves m.new ≡ M.serves m.old }
     {
         let seen = shown(self.running(slot), self.context_number(slot), &Why::Exit);
         self.reserved = true;
@@ -265,10 +262,8 @@ impl Control {
         ensures follows { Follows M.stands_for m.old m.new (record { control = self.new; went = result })
             (spec.hypercall (spec.hypercall_of (context_of self.old slot)) slot (context_of self.old slot) self.old) }
         ensures stopped_unchanged { result ≡ Went.Stopped → self.new ≡ self.old }
-        ensures unused { AreUnused (M.is_unused m.new) self.new.resources }
-        ensures keeps { Keeps M.kept m.old m.new }
+        ensures side { SideServes M.PageSide self.new.resources m.old m.new }
         ensures number { self.new.number ≡ self.old.number }
-        ensures same_domain { M.serves m.new ≡ M.serves m.old }
     {
         match self.running(slot).regs.get(17) {
             NEW => self.new_call(slot),

@@ -1,13 +1,14 @@
 //! Atomic instructions of a context (RISC-V unprivileged manual 20191213, chapter 8), at cloaked addresses alone. What
 //! is reserved is a word of a cloaked page, and no word of RAM: the kernel may move the page as it likes.
-ghost use Rattle.std.specs.Prelude.{◌≡◌, ◌≢◌, ◌<◌, ◌%◌, ℕ, false, IfSome, None, is_some};
+ghost use Rattle.std.specs.Prelude.{◌≡◌, ◌≢◌, ◌<◌, ◌%◌, false, IfSome, None, is_some};
 ghost use Rattle.rv_atomic.specs.Table.{InRange, atomic_instruction};
-ghost use Rattle.cloak_model.specs.Asking.{Follows, FollowsWhere, Keeps};
+ghost use Rattle.cloak_model.specs.Asking.{Follows, FollowsWhere};
 ghost use Rattle.cloak_model.specs.AskPages.{HasPages};
-ghost use Rattle.cloak_model.specs.Resources.{page_at, resource_at};
+ghost use Rattle.cloak_model.specs.Resources.{page_at};
 ghost use Rattle.cloak_model.specs.KernelStep as kernel;
 ghost use Rattle.cloak_model.specs.Contexts.{word_of_page, is_reserved};
 ghost use Rattle.cloak_model.specs.InsideStep as spec;
+ghost use Rattle.side_frames.specs.Staying.{SideStays, ContextStays, IsAny, IsFree};
 ghost use Rattle.inside_step.specs.Completion.{IsLeftOpen};
 ghost use Rattle.inside_step.specs.Making.{after_instruction, TellsMark};
 
@@ -66,14 +67,9 @@ fn store_conditional<M: PageSide>(
     requires writable { M.is_writable m.old q }
     ensures follows { Follows M.stands_for m.old m.new (after_instruction c.new result wrote.new)
         (spec.atomic_granted c.old rd AtomicOp.Sc q va operand) }
-    ensures unchanged { IsLeftOpen result → c.new ≡ c.old }
-    ensures unwritten { IsLeftOpen result → wrote.new ≡ None }
+    ensures context { ContextStays (IsLeftOpen result) c.old c.new wrote.new }
     ensures unmarked { is_some c.old.mark ≡ false → is_some c.new.mark ≡ false }
-    ensures same_space { c.new.space ≡ c.old.space }
-    ensures same_hart { c.new.on ≡ c.old.on }
-    ensures unused { (n : ℕ) → M.is_unused m.old n → M.is_unused m.new n }
-    ensures keeps { Keeps M.kept m.old m.new }
-    ensures same_domain { M.serves m.new ≡ M.serves m.old }
+    ensures side { SideStays M.PageSide IsAny m.old m.new }
 {
     let place = word_of_page(q, va);
     let reserved = is_reserved(place, c.mark);
@@ -109,14 +105,9 @@ fn operate<M: PageSide>(
     requires writable { M.is_writable m.old q }
     ensures follows { Follows M.stands_for m.old m.new (after_instruction c.new result wrote.new)
         (spec.atomic_granted c.old rd op q va operand) }
-    ensures unchanged { IsLeftOpen result → c.new ≡ c.old }
-    ensures unwritten { IsLeftOpen result → wrote.new ≡ None }
+    ensures context { ContextStays (IsLeftOpen result) c.old c.new wrote.new }
     ensures unmarked { is_some c.old.mark ≡ false → is_some c.new.mark ≡ false }
-    ensures same_space { c.new.space ≡ c.old.space }
-    ensures same_hart { c.new.on ≡ c.old.on }
-    ensures unused { (n : ℕ) → M.is_unused m.old n → M.is_unused m.new n }
-    ensures keeps { Keeps M.kept m.old m.new }
-    ensures same_domain { M.serves m.new ≡ M.serves m.old }
+    ensures side { SideStays M.PageSide IsAny m.old m.new }
 {
     let stood = m.read(q, va % 4096, 4);
     m.write(q, va % 4096, 4, combine(op, stood, operand));
@@ -144,14 +135,9 @@ fn granted<M: PageSide>(
     requires writable { op ≢ AtomicOp.Lr → M.is_writable m.old q }
     ensures follows { Follows M.stands_for m.old m.new (after_instruction c.new result wrote.new)
         (spec.atomic_granted c.old rd op q va operand) }
-    ensures unchanged { IsLeftOpen result → c.new ≡ c.old }
-    ensures unwritten { IsLeftOpen result → wrote.new ≡ None }
+    ensures context { ContextStays (IsLeftOpen result) c.old c.new wrote.new }
     ensures tells { TellsMark reserved.old reserved.new c.old c.new }
-    ensures same_space { c.new.space ≡ c.old.space }
-    ensures same_hart { c.new.on ≡ c.old.on }
-    ensures unused { (n : ℕ) → M.is_unused m.old n → M.is_unused m.new n }
-    ensures keeps { Keeps M.kept m.old m.new }
-    ensures same_domain { M.serves m.new ≡ M.serves m.old }
+    ensures side { SideStays M.PageSide IsAny m.old m.new }
 {
     match op {
         AtomicOp::Lr => {
@@ -186,14 +172,9 @@ fn placed<M: PageSide>(
     ensures follows { FollowsWhere (HasPages domain r.now c.old.space) M.stands_for m.old m.new
         (after_instruction c.new result wrote.new)
         (spec.atomic_placed c.old rd op va operand (page_at domain r.now c.old.space va)) }
-    ensures unchanged { IsLeftOpen result → c.new ≡ c.old }
-    ensures unwritten { IsLeftOpen result → wrote.new ≡ None }
+    ensures context { ContextStays (IsLeftOpen result) c.old c.new wrote.new }
     ensures tells { TellsMark reserved.old reserved.new c.old c.new }
-    ensures same_space { c.new.space ≡ c.old.space }
-    ensures same_hart { c.new.on ≡ c.old.on }
-    ensures unused { (n : ℕ) → resource_at r.now n ≡ None → M.is_unused m.old n → M.is_unused m.new n }
-    ensures keeps { Keeps M.kept m.old m.new }
-    ensures same_domain { M.serves m.new ≡ M.serves m.old }
+    ensures side { SideStays M.PageSide (IsFree r.now) m.old m.new }
 {
     let Some(q) = page_at(r, domain, c.space, va) else {
         return Ran::Trap {
@@ -224,14 +205,9 @@ fn atomic_step<M: PageSide>(
     requires range { IfSome a.now InRange }
     ensures follows { FollowsWhere (HasPages domain r.now c.old.space) M.stands_for m.old m.new
         (after_instruction c.new result wrote.new) (spec.atomic_inside domain r.now c.old a.now) }
-    ensures unchanged { IsLeftOpen result → c.new ≡ c.old }
-    ensures unwritten { IsLeftOpen result → wrote.new ≡ None }
+    ensures context { ContextStays (IsLeftOpen result) c.old c.new wrote.new }
     ensures tells { TellsMark reserved.old reserved.new c.old c.new }
-    ensures same_space { c.new.space ≡ c.old.space }
-    ensures same_hart { c.new.on ≡ c.old.on }
-    ensures unused { (n : ℕ) → resource_at r.now n ≡ None → M.is_unused m.old n → M.is_unused m.new n }
-    ensures keeps { Keeps M.kept m.old m.new }
-    ensures same_domain { M.serves m.new ≡ M.serves m.old }
+    ensures side { SideStays M.PageSide (IsFree r.now) m.old m.new }
 {
     let Some(a) = a else {
         return Ran::Trap {
@@ -268,14 +244,9 @@ fn make_atomic<M: PageSide>(
     requires domain { domain ≡ M.serves m.old }
     ensures follows { FollowsWhere (HasPages domain r.now c.old.space) M.stands_for m.old m.new
         (after_instruction c.new ended.new wrote.new) (spec.atomic_inside domain r.now c.old (atomic_instruction word)) }
-    ensures unchanged { IsLeftOpen ended.new → c.new ≡ c.old }
-    ensures unwritten { IsLeftOpen ended.new → wrote.new ≡ None }
+    ensures context { ContextStays (IsLeftOpen ended.new) c.old c.new wrote.new }
     ensures tells { TellsMark reserved.old reserved.new c.old c.new }
-    ensures same_space { c.new.space ≡ c.old.space }
-    ensures same_hart { c.new.on ≡ c.old.on }
-    ensures unused { (n : ℕ) → resource_at r.now n ≡ None → M.is_unused m.old n → M.is_unused m.new n }
-    ensures keeps { Keeps M.kept m.old m.new }
-    ensures same_domain { M.serves m.new ≡ M.serves m.old }
+    ensures side { SideStays M.PageSide (IsFree r.now) m.old m.new }
 {
     let a = decode_atomic(word);
     *ended = atomic_step(c, r, domain, &a, m, wrote, reserved);
@@ -297,14 +268,9 @@ pub(crate) fn atomic_word<M: PageSide>(
     requires domain { domain ≡ M.serves m.old }
     ensures follows { FollowsWhere (HasPages domain r.now c.old.space) M.stands_for m.old m.new
         (after_instruction c.new result wrote.new) (spec.atomic_inside domain r.now c.old (atomic_instruction word)) }
-    ensures unchanged { IsLeftOpen result → c.new ≡ c.old }
-    ensures unwritten { IsLeftOpen result → wrote.new ≡ None }
+    ensures context { ContextStays (IsLeftOpen result) c.old c.new wrote.new }
     ensures tells { TellsMark reserved.old reserved.new c.old c.new }
-    ensures same_space { c.new.space ≡ c.old.space }
-    ensures same_hart { c.new.on ≡ c.old.on }
-    ensures unused { (n : ℕ) → resource_at r.now n ≡ None → M.is_unused m.old n → M.is_unused m.new n }
-    ensures keeps { Keeps M.kept m.old m.new }
-    ensures same_domain { M.serves m.new ≡ M.serves m.old }
+    ensures side { SideStays M.PageSide (IsFree r.now) m.old m.new }
 {
     let mut place = None;
     let mut ended = Ran::Stay;

@@ -1,13 +1,13 @@
 //! Copies between a buffer in cloaked memory and an area that is not cloaked.
-ghost use Rattle.std.specs.Prelude.{◌≡◌, ◌≢◌, ◌↔◌, ◌<◌, ◌%◌, ◌^◌, ◌+◌, ◌-◌, ℕ, IfSome, is_some, Some, None, false};
+ghost use Rattle.std.specs.Prelude.{◌≡◌, ◌≢◌, ◌↔◌, ◌<◌, ◌%◌, ◌^◌, ◌+◌, ◌-◌, IfSome, is_some, Some, None, false};
 ghost use Rattle.cloak_model.specs.World.{World};
 ghost use Rattle.cloak_model.specs.World.{HasPage};
-ghost use Rattle.cloak_model.specs.Asking.{FollowsWhere, Keeps};
+ghost use Rattle.cloak_model.specs.Asking.{FollowsWhere};
 ghost use Rattle.cloak_model.specs.AskPages.{HasPages};
-ghost use Rattle.cloak_model.specs.Resources as resources;
 ghost use Rattle.cloak_model.specs.Contexts as context;
 ghost use Rattle.cloak_model.specs.Calls as spec;
 ghost use Rattle.cloak_model.proofs.CallParts as parts;
+ghost use Rattle.side_frames.specs.Staying.{SideStays, ContextStays, IsFree, IsOther};
 ghost use Rattle.shim_calls.specs.Copying.{IsMisplaced, NoLongerFits, next_copy};
 ghost use Rattle.shim_calls.specs.Stepping.{after_copy};
 
@@ -64,13 +64,9 @@ fn copy_in_step<M: PageSide>(
         (spec.copy c.new result) (spec.copy_in_step domain r.now c.old done) }
     ensures refused { (result ≡ Copied.Refused) ↔ ((done < spec.call_length c.old) × IsMisplaced r.now c.old done) }
     ensures refused_asks_nothing { result ≡ Copied.Refused → m.new ≡ m.old }
-    ensures stopped_unchanged { result ≡ Copied.Stopped → c.new ≡ c.old }
-    ensures same_space { c.new.space ≡ c.old.space }
-    ensures same_hart { c.new.on ≡ c.old.on }
+    ensures context { ContextStays (result ≡ Copied.Stopped) c.old c.new None }
     ensures same_mark { c.new.mark ≡ c.old.mark }
-    ensures unused { (n : ℕ) → resources.resource_at r.now n ≡ None → M.is_unused m.old n → M.is_unused m.new n }
-    ensures keeps { Keeps M.kept m.old m.new }
-    ensures same_domain { M.serves m.new ≡ M.serves m.old }
+    ensures side { SideStays M.PageSide (IsFree r.now) m.old m.new }
 {
     if c.regs.get(12) <= done {
         c.phase = Phase::Waiting;
@@ -124,14 +120,9 @@ fn store_byte<M: PageSide>(
     ensures follows { FollowsWhere (HasPage (spec.byte_address (spec.buffer c.old) done) q) M.stands_for m.old m.new
         (after_copy c.new result) (parts.out_got c.old q done total (Answer.Word byte)) }
     ensures not_refused { result.ending ≢ Copied.Refused }
-    ensures stopped_unchanged { result.ending ≡ Copied.Stopped → c.new ≡ c.old }
-    ensures stopped_unwritten { result.ending ≡ Copied.Stopped → result.wrote ≡ None }
-    ensures same_space { c.new.space ≡ c.old.space }
-    ensures same_hart { c.new.on ≡ c.old.on }
+    ensures context { ContextStays (result.ending ≡ Copied.Stopped) c.old c.new result.wrote }
     ensures same_mark { c.new.mark ≡ c.old.mark }
-    ensures unused { (n : ℕ) → n ≢ q.resource → M.is_unused m.old n → M.is_unused m.new n }
-    ensures keeps { Keeps M.kept m.old m.new }
-    ensures same_domain { M.serves m.new ≡ M.serves m.old }
+    ensures side { SideStays M.PageSide (IsOther q.resource) m.old m.new }
 {
     let to = c.regs.get(11).wrapping_add(done);
     match m.reach(q, to, Kind::Store) {
@@ -169,14 +160,9 @@ fn copy_out_byte<M: PageSide>(
     ensures follows { FollowsWhere (HasPage (spec.byte_address (spec.buffer c.old) done) q) M.stands_for m.old m.new
         (after_copy c.new result) (parts.out_placed c.old done total (Some q) false) }
     ensures not_refused { result.ending ≢ Copied.Refused }
-    ensures stopped_unchanged { result.ending ≡ Copied.Stopped → c.new ≡ c.old }
-    ensures stopped_unwritten { result.ending ≡ Copied.Stopped → result.wrote ≡ None }
-    ensures same_space { c.new.space ≡ c.old.space }
-    ensures same_hart { c.new.on ≡ c.old.on }
+    ensures context { ContextStays (result.ending ≡ Copied.Stopped) c.old c.new result.wrote }
     ensures same_mark { c.new.mark ≡ c.old.mark }
-    ensures unused { (n : ℕ) → n ≢ q.resource → M.is_unused m.old n → M.is_unused m.new n }
-    ensures keeps { Keeps M.kept m.old m.new }
-    ensures same_domain { M.serves m.new ≡ M.serves m.old }
+    ensures side { SideStays M.PageSide (IsOther q.resource) m.old m.new }
 {
     match m.get(from, 1) {
         Answer::Word(byte) => store_byte(c, q, done, total, byte, m),
@@ -203,14 +189,9 @@ fn copy_out_step<M: PageSide>(
         (after_copy c.new result) (spec.copy_out_step domain r.now c.old done total) }
     ensures refused { (result.ending ≡ Copied.Refused) ↔ ((done < total) × IsMisplaced r.now c.old done) }
     ensures refused_asks_nothing { result.ending ≡ Copied.Refused → m.new ≡ m.old }
-    ensures stopped_unchanged { result.ending ≡ Copied.Stopped → c.new ≡ c.old }
-    ensures stopped_unwritten { result.ending ≡ Copied.Stopped → result.wrote ≡ None }
-    ensures same_space { c.new.space ≡ c.old.space }
-    ensures same_hart { c.new.on ≡ c.old.on }
+    ensures context { ContextStays (result.ending ≡ Copied.Stopped) c.old c.new result.wrote }
     ensures same_mark { c.new.mark ≡ c.old.mark }
-    ensures unused { (n : ℕ) → resources.resource_at r.now n ≡ None → M.is_unused m.old n → M.is_unused m.new n }
-    ensures keeps { Keeps M.kept m.old m.new }
-    ensures same_domain { M.serves m.new ≡ M.serves m.old }
+    ensures side { SideStays M.PageSide (IsFree r.now) m.old m.new }
 {
     if total <= done {
         c.phase = Phase::Plain;
@@ -239,16 +220,11 @@ pub fn copy_step<M: PageSide>(c: &mut Context, domain: u32, r: &Resources, m: &m
 
     ensures refused { (result.ending ≡ Copied.Refused) ↔ NoLongerFits c.old.phase r.now c.old }
     ensures refused_asks_nothing { result.ending ≡ Copied.Refused → m.new ≡ m.old }
-    ensures stopped_unchanged { result.ending ≡ Copied.Stopped → c.new ≡ c.old }
-    ensures stopped_unwritten { result.ending ≡ Copied.Stopped → result.wrote ≡ None }
 
-    ensures same_space { c.new.space ≡ c.old.space }
-    ensures same_hart { c.new.on ≡ c.old.on }
+    ensures context { ContextStays (result.ending ≡ Copied.Stopped) c.old c.new result.wrote }
     ensures same_mark { c.new.mark ≡ c.old.mark }
 
-    ensures unused { (n : ℕ) → resources.resource_at r.now n ≡ None → M.is_unused m.old n → M.is_unused m.new n }
-    ensures keeps { Keeps M.kept m.old m.new }
-    ensures same_domain { M.serves m.new ≡ M.serves m.old }
+    ensures side { SideStays M.PageSide (IsFree r.now) m.old m.new }
 {
     match c.phase {
         Phase::CopyIn { done } => CopyStep::without_write(copy_in_step(c, r, domain, done, m)),

@@ -8,10 +8,8 @@ loop-copy-preserved g c = record {
   follows = λ new rest.
       c.loop-copy.invariant.follows new
       (rw (drop_next c.args.copies.now c.loop-copy.copy-index (0, 0) c.loop-copy-test.true) (copies_next _ _ _ _ _ _ _ c.copy.ensures.follows rest));
-  keeps = search rules;
-  unused = search rules;
+  side = search rules;
   cleared = search rules;
-  same_domain = search rules;
 }
 
 pub returns-clause-follows : goal.returns-clause-follows

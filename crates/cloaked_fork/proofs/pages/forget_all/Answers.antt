@@ -12,21 +12,17 @@ loop-n-preserved g c =
         follows = λ new rest.
             c.loop-n.invariant.follows new
             (rw (drop_next c.args.marked.now c.loop-n.n false inside) (marked_next _ _ _ _ _ _ _ (drop (c.loop-n.n + 1) c.args.marked.now) w.if-marked-n.true w.forget.ensures.follows rest));
-        keeps = search rules;
-        unused = search rules;
+        side = search rules;
         cleared = search rules;
         dropped = search rules;
-        same_domain = search rules;
       })
       | else-marked-n w ↦ rw w.m-is (record {
         follows = λ new rest.
             c.loop-n.invariant.follows new
             (rw (drop_next c.args.marked.now c.loop-n.n false inside) (unmarked_next _ _ _ _ _ _ (drop (c.loop-n.n + 1) c.args.marked.now) w.if-marked-n.false rest));
-        keeps = search rules;
-        unused = search rules;
+        side = search rules;
         cleared = search rules;
         dropped = search rules;
-        same_domain = search rules;
       })
     ]
 

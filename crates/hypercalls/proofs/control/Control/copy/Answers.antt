@@ -6,6 +6,6 @@ use Rattle.hypercalls.proofs.control.Control.copy.Goals as goal
 
 pub invariant_of-self : goal.invariant_of-self
 invariant_of-self g c = (
-  fits_changed _ c.args.slot _ _ c.self.invariant.0 c.get_mut-c.ensures.value c.copy_step.ensures.same_space c.copy_step.ensures.same_hart,
+  fits_changed _ c.args.slot _ _ c.self.invariant.0 c.get_mut-c.ensures.value c.copy_step.ensures.context.same_space c.copy_step.ensures.context.same_hart,
   λ unreserved. none_marked-lent _ c.args.slot _ _ c.get_mut-c.ensures.value (λ unmarked. ap is_some c.copy_step.ensures.same_mark ∙ unmarked) (c.self.invariant.1 unreserved),
 )
