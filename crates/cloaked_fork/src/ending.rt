@@ -10,8 +10,8 @@ ghost use Rattle.cloak_model.proofs.ForkParts as parts;
 ghost use Rattle.resource_map.specs.Kept.{IsInUse};
 ghost use Rattle.cloaked_fork.specs.Homes.{AllInUse};
 ghost use Rattle.cloaked_fork.specs.Left as left;
-ghost use Rattle.cloaked_fork.specs.Marks.{AreUnused, AreCleared};
-ghost use Rattle.cloaked_fork.specs.Serving.{SideServes};
+ghost use Rattle.cloaked_fork.specs.Marks.{AreCleared};
+ghost use Rattle.cloaked_fork.specs.Serving.{Serves, GoesOnServing};
 
 use crate::pages::forget_all;
 use crate::slots::context;
@@ -22,11 +22,10 @@ use thread_context::Contexts;
 /// The pages of a space's private resources are dropped, once the frames that are owed them are settled.
 #[tactic(auto, using(crate::proofs::Freed::freed))]
 fn forget_pages<M: PageSide>(r: &Resources, domain: u32, space: u32, m: &mut M)
-    requires domain { domain ≡ M.serves m.old }
-    requires unused { AreUnused (M.is_unused m.old) r.now }
+    requires serves { Serves M.PageSide m.old domain r.now }
     requires cleared { AreCleared (M.is_cleared m.old) (spec.marked space r.now) }
     ensures follows { Follows M.stands_for m.old m.new tt (spec.ask_forgets domain (spec.private_numbers space r.now)) }
-    ensures side { SideServes M.PageSide (drop_space space r.now) m.old m.new }
+    ensures side { GoesOnServing M.PageSide (drop_space space r.now) m.old m.new }
 {
     let marked = r.marked(space);
     forget_all(domain, &marked, m);
@@ -46,8 +45,7 @@ fn end_settled<M: PageSide>(
 ) -> Ended
     requires used { IsSome (context_at c.old slot) }
     requires in_use { IsInUse r.old space }
-    requires domain { domain ≡ M.serves m.old }
-    requires unused { AreUnused (M.is_unused m.old) r.old }
+    requires serves { Serves M.PageSide m.old domain r.old }
     requires last { list_any (spec.is_of_space space) (end_at slot c.old) ≡ false }
     requires cleared { settled ≡ Answer.Ok → AreCleared (M.is_cleared m.old) (spec.marked space r.old) }
     ensures follows { Follows M.stands_for m.old m.new (left.ending result c.new r.new)
@@ -57,7 +55,7 @@ fn end_settled<M: PageSide>(
     ensures gone_leaves { (n : ℕ) → result ≡ Ended.SpaceGone n → left.spaces c.new r.new ≡ left.spaces
         (end_at slot c.old) (drop_space n r.old) }
     ensures stopped_unchanged { result ≡ Ended.Stopped → left.spaces c.new r.new ≡ left.spaces c.old r.old }
-    ensures side { SideServes M.PageSide r.new m.old m.new }
+    ensures side { GoesOnServing M.PageSide r.new m.old m.new }
     ensures in_use { AllInUse c.old r.old → AllInUse c.new r.new }
 {
     match settled {
@@ -83,8 +81,7 @@ fn end_in_space<M: PageSide>(
 ) -> Ended
     requires used { IsSome (context_at c.old slot) }
     requires in_use { IsInUse r.old space }
-    requires domain { domain ≡ M.serves m.old }
-    requires unused { AreUnused (M.is_unused m.old) r.old }
+    requires serves { Serves M.PageSide m.old domain r.old }
     ensures follows { Follows M.stands_for m.old m.new (left.ending result c.new r.new)
         (spec.end_context domain slot space r.old c.old) }
     ensures kept { (result ≡ Ended.Kept) ↔ IsTrue (list_any (spec.is_of_space space) (end_at slot c.old)) }
@@ -93,7 +90,7 @@ fn end_in_space<M: PageSide>(
     ensures gone_leaves { (n : ℕ) → result ≡ Ended.SpaceGone n → left.spaces c.new r.new ≡ left.spaces
         (end_at slot c.old) (drop_space n r.old) }
     ensures stopped_unchanged { result ≡ Ended.Stopped → left.spaces c.new r.new ≡ left.spaces c.old r.old }
-    ensures side { SideServes M.PageSide r.new m.old m.new }
+    ensures side { GoesOnServing M.PageSide r.new m.old m.new }
     ensures in_use { AllInUse c.old r.old → AllInUse c.new r.new }
 {
     if c.has_other(slot, space) {
@@ -115,8 +112,7 @@ pub fn end_context<M: PageSide>(
 ) -> Ended
     requires used { IsSome (context_at c.old slot) }
     requires in_use { ForSome (context_at c.old slot) (λ x. IsInUse r.old x.space) }
-    requires domain { domain ≡ M.serves m.old }
-    requires unused { AreUnused (M.is_unused m.old) r.old }
+    requires serves { Serves M.PageSide m.old domain r.old }
     ensures follows { IfSome (context_at c.old slot)
         (λ x. Follows M.stands_for m.old m.new (left.ending result c.new r.new) (spec.end_context domain slot x.space
         r.old c.old)) }
@@ -127,7 +123,7 @@ pub fn end_context<M: PageSide>(
     ensures gone_leaves { (n : ℕ) → result ≡ Ended.SpaceGone n → left.spaces c.new r.new ≡ left.spaces
         (end_at slot c.old) (drop_space n r.old) }
     ensures stopped_unchanged { result ≡ Ended.Stopped → left.spaces c.new r.new ≡ left.spaces c.old r.old }
-    ensures side { SideServes M.PageSide r.new m.old m.new }
+    ensures side { GoesOnServing M.PageSide r.new m.old m.new }
     ensures in_use { AllInUse c.old r.old → AllInUse c.new r.new }
 {
     let space = context(c, slot).space;

@@ -9,11 +9,11 @@ ghost use Rattle.cloak_model.specs.Fork as spec;
 ghost use Rattle.cloak_model.proofs.ForkParts as parts;
 ghost use Rattle.cloak_model.specs.Resources.{resource_at};
 ghost use Rattle.resource_map.specs.Kept.{IsInUse};
-ghost use Rattle.side_frames.specs.Staying.{SideStays, IsAny};
+ghost use Rattle.what_stays.specs.Staying.{SideStays, IsAny};
 ghost use Rattle.cloaked_fork.specs.Homes.{AllInUse};
 ghost use Rattle.cloaked_fork.specs.Left as left;
-ghost use Rattle.cloaked_fork.specs.Marks.{AreUnused, AreCleared};
-ghost use Rattle.cloaked_fork.specs.Serving.{SideServes};
+ghost use Rattle.cloaked_fork.specs.Marks.{AreCleared};
+ghost use Rattle.cloaked_fork.specs.Serving.{Serves, GoesOnServing};
 
 use crate::pages::copy_all;
 use crate::slots::context;
@@ -52,8 +52,7 @@ fn fits(r: &Resources, c: &Contexts, space: u32) -> Result<(), MapFault>
 
 /// The pages of a space's private resources are copied to free numbers, once the frames that are owed them are settled.
 fn copy_pages<M: PageSide>(r: &Resources, domain: u32, space: u32, m: &mut M)
-    requires domain { domain ≡ M.serves m.old }
-    requires unused { AreUnused (M.is_unused m.old) r.now }
+    requires serves { Serves M.PageSide m.old domain r.now }
     requires cleared { AreCleared (M.is_cleared m.old) (spec.marked space r.now) }
     ensures follows { Follows M.stands_for m.old m.new tt (spec.ask_copies domain (spec.copies space r.now)) }
     ensures side { SideStays M.PageSide IsAny m.old m.new }
@@ -96,15 +95,14 @@ fn fork_settled<M: PageSide>(
     requires number { domain < 4 }
     requires in_use { IsInUse r.old caller.now.space }
     requires room { IsTrue (spec.has_room caller.now.space r.old c.old) }
-    requires domain { domain ≡ M.serves m.old }
-    requires unused { AreUnused (M.is_unused m.old) r.old }
+    requires serves { Serves M.PageSide m.old domain r.old }
     requires cleared { settled ≡ Answer.Ok → AreCleared (M.is_cleared m.old) (spec.marked caller.now.space r.old) }
     ensures follows { Follows M.stands_for m.old m.new (left.made_fork (Ok result) c.new r.new)
         (parts.fork_cleared domain caller.now (left.lowest c.old) (left.lowest r.old.spaces) r.old c.old settled) }
     ensures made { IfSome result (λ made. made ≡ left.new_context_number domain c.old) }
     ensures copied { IsSome result → left.spaces c.new r.new ≡ left.forked_spaces caller.now r.old c.old }
     ensures stopped_unchanged { IsNone result → left.spaces c.new r.new ≡ left.spaces c.old r.old }
-    ensures side { SideServes M.PageSide r.new m.old m.new }
+    ensures side { GoesOnServing M.PageSide r.new m.old m.new }
     ensures in_use { AllInUse c.old r.old → AllInUse c.new r.new }
 {
     match settled {
@@ -127,8 +125,7 @@ fn fork_caller<M: PageSide>(
 ) -> Result<Option<CtxId>, MapFault>
     requires number { domain < 4 }
     requires in_use { IsInUse r.old caller.now.space }
-    requires domain { domain ≡ M.serves m.old }
-    requires unused { AreUnused (M.is_unused m.old) r.old }
+    requires serves { Serves M.PageSide m.old domain r.old }
     ensures follows { Follows M.stands_for m.old m.new (left.made_fork result c.new r.new)
         (spec.fork domain caller.now r.old c.old) }
     ensures number { (n : CtxId) → result ≡ Ok (Some n) → n ≡ left.new_context_number domain c.old }
@@ -138,7 +135,7 @@ fn fork_caller<M: PageSide>(
     ensures only_full { IfErr result (λ fault. fault ≡ MapFault.Full) }
     ensures refused_unchanged { OnErr result (left.spaces c.new r.new ≡ left.spaces c.old r.old) }
     ensures stopped_unchanged { result ≡ Ok None → left.spaces c.new r.new ≡ left.spaces c.old r.old }
-    ensures side { SideServes M.PageSide r.new m.old m.new }
+    ensures side { GoesOnServing M.PageSide r.new m.old m.new }
     ensures in_use { AllInUse c.old r.old → AllInUse c.new r.new }
 {
     match fits(r, c, caller.space) {
@@ -163,8 +160,7 @@ pub fn fork_space<M: PageSide>(
     requires number { domain < 4 }
     requires used { IsSome (context_at c.old slot) }
     requires in_use { ForSome (context_at c.old slot) (λ x. IsInUse r.old x.space) }
-    requires domain { domain ≡ M.serves m.old }
-    requires unused { AreUnused (M.is_unused m.old) r.old }
+    requires serves { Serves M.PageSide m.old domain r.old }
     ensures follows { IfSome (context_at c.old slot)
         (λ x. Follows M.stands_for m.old m.new (left.made_fork result c.new r.new) (spec.fork domain x r.old c.old)) }
     ensures number { (n : CtxId) → result ≡ Ok (Some n) → n ≡ left.new_context_number domain c.old }
@@ -175,7 +171,7 @@ pub fn fork_space<M: PageSide>(
     ensures only_full { IfErr result (λ fault. fault ≡ MapFault.Full) }
     ensures refused_unchanged { OnErr result (left.spaces c.new r.new ≡ left.spaces c.old r.old) }
     ensures stopped_unchanged { result ≡ Ok None → left.spaces c.new r.new ≡ left.spaces c.old r.old }
-    ensures side { SideServes M.PageSide r.new m.old m.new }
+    ensures side { GoesOnServing M.PageSide r.new m.old m.new }
     ensures in_use { AllInUse c.old r.old → AllInUse c.new r.new }
 {
     let caller = context(c, slot);

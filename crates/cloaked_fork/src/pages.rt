@@ -2,7 +2,7 @@
 ghost use Rattle.std.specs.Prelude.{◌≡◌, ◌<◌, ℕ, All, false, true, slice_index_or};
 ghost use Rattle.cloak_model.specs.Asking.{Follows};
 ghost use Rattle.cloak_model.specs.Fork as spec;
-ghost use Rattle.side_frames.specs.Staying.{SideStays, IsAny};
+ghost use Rattle.what_stays.specs.Staying.{SideStays, IsAny};
 ghost use Rattle.cloaked_fork.specs.Marks.{marked_numbers, AreCleared};
 
 use cloak_model::PageSide;

@@ -4,8 +4,8 @@ ghost use Rattle.cloak_model.specs.Asking.{Follows};
 ghost use Rattle.cloak_model.specs.Contexts.{context_at};
 ghost use Rattle.cloak_model.specs.Resources.{resource_at};
 ghost use Rattle.cloak_model.specs.Hypercalls as spec;
-ghost use Rattle.cloaked_fork.specs.Marks.{AreUnused};
-ghost use Rattle.cloaked_fork.specs.Serving.{SideServes};
+ghost use Rattle.cloaked_fork.specs.Serving.{Serves, GoesOnServing};
+ghost use Rattle.hypercalls.specs.Keeping.{SameResources};
 ghost use Rattle.hypercalls.specs.Slots.{context_of};
 
 use crate::control::{Control, leave_hart};
@@ -81,8 +81,7 @@ impl Control {
         ensures steps { record { control = self.new; went = result } ≡ spec.remapped slot (context_of self.old slot)
             done self.old }
         ensures goes_on { result ≢ Went.Stopped }
-        ensures number { self.new.number ≡ self.old.number }
-        ensures resources { self.new.resources ≡ self.old.resources }
+        ensures same { SameResources self.old self.new }
     {
         let space = self.running(slot).space;
         match done {
@@ -157,8 +156,7 @@ impl Control {
         ensures steps { record { control = self.new; went = result } ≡ spec.thread_call slot
             (context_of self.old slot) self.old }
         ensures goes_on { result ≢ Went.Stopped }
-        ensures number { self.new.number ≡ self.old.number }
-        ensures resources { self.new.resources ≡ self.old.resources }
+        ensures same { SameResources self.old self.new }
     {
         let c = self.running(slot);
         let pc = c.regs.get(10);
@@ -183,8 +181,7 @@ impl Control {
         ensures steps { record { control = self.new; went = result } ≡ spec.kernel_call slot
             (context_of self.old slot) self.old }
         ensures goes_on { result ≢ Went.Stopped }
-        ensures number { self.new.number ≡ self.old.number }
-        ensures resources { self.new.resources ≡ self.old.resources }
+        ensures same { SameResources self.old self.new }
     {
         let number = self.context_number(slot);
         self.reserved = true;
@@ -204,12 +201,11 @@ impl Control {
     #[tactic(auto, using(crate::proofs::Forking::forks, crate::proofs::Fitted::spaces_fit), unfolding(cloak_model::specs::Hypercalls::fork_call, cloak_model::specs::Hypercalls::fork_told))]
     fn fork_call<M: PageSide>(&mut self, slot: u32, m: &mut M) -> Went
         requires used { IsSome (context_at self.old.contexts slot) }
-        requires domain { self.old.number ≡ M.serves m.old }
-        requires unused { AreUnused (M.is_unused m.old) self.old.resources }
+        requires serves { Serves M.PageSide m.old self.old.number self.old.resources }
         ensures follows { Follows M.stands_for m.old m.new (record { control = self.new; went = result })
             (spec.fork_call slot (context_of self.old slot) self.old) }
         ensures stopped_unchanged { result ≡ Went.Stopped → self.new ≡ self.old }
-        ensures side { SideServes M.PageSide self.new.resources m.old m.new }
+        ensures side { GoesOnServing M.PageSide self.new.resources m.old m.new }
         ensures number { self.new.number ≡ self.old.number }
     {
         self.reserved = true;
@@ -230,12 +226,11 @@ impl Control {
     #[tactic(auto, using(crate::proofs::Forking::forks, crate::proofs::Fitted::spaces_fit), unfolding(cloak_model::specs::Hypercalls::exit_call, cloak_model::specs::Hypercalls::end_told))]
     fn exit_call<M: PageSide>(&mut self, slot: u32, m: &mut M) -> Went
         requires used { IsSome (context_at self.old.contexts slot) }
-        requires domain { self.old.number ≡ M.serves m.old }
-        requires unused { AreUnused (M.is_unused m.old) self.old.resources }
+        requires serves { Serves M.PageSide m.old self.old.number self.old.resources }
         ensures follows { Follows M.stands_for m.old m.new (record { control = self.new; went = result })
             (spec.exit_call slot (context_of self.old slot) self.old) }
         ensures stopped_unchanged { result ≡ Went.Stopped → self.new ≡ self.old }
-        ensures side { SideServes M.PageSide self.new.resources m.old m.new }
+        ensures side { GoesOnServing M.PageSide self.new.resources m.old m.new }
         ensures number { self.new.number ≡ self.old.number }
     {
         let seen = shown(self.running(slot), self.context_number(slot), &Why::Exit);
@@ -257,12 +252,11 @@ impl Control {
     #[tactic(auto, unfolding(cloak_model::specs::Hypercalls::hypercall))]
     pub fn hypercall<M: PageSide>(&mut self, slot: u32, m: &mut M) -> Went
         requires used { IsSome (context_at self.old.contexts slot) }
-        requires domain { self.old.number ≡ M.serves m.old }
-        requires unused { AreUnused (M.is_unused m.old) self.old.resources }
+        requires serves { Serves M.PageSide m.old self.old.number self.old.resources }
         ensures follows { Follows M.stands_for m.old m.new (record { control = self.new; went = result })
             (spec.hypercall (spec.hypercall_of (context_of self.old slot)) slot (context_of self.old slot) self.old) }
         ensures stopped_unchanged { result ≡ Went.Stopped → self.new ≡ self.old }
-        ensures side { SideServes M.PageSide self.new.resources m.old m.new }
+        ensures side { GoesOnServing M.PageSide self.new.resources m.old m.new }
         ensures number { self.new.number ≡ self.old.number }
     {
         match self.running(slot).regs.get(17) {

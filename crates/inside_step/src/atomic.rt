@@ -8,7 +8,7 @@ ghost use Rattle.cloak_model.specs.Resources.{page_at};
 ghost use Rattle.cloak_model.specs.KernelStep as kernel;
 ghost use Rattle.cloak_model.specs.Contexts.{word_of_page, is_reserved};
 ghost use Rattle.cloak_model.specs.InsideStep as spec;
-ghost use Rattle.side_frames.specs.Staying.{SideStays, ContextStays, IsAny, IsFree};
+ghost use Rattle.what_stays.specs.Staying.{SideStays, ContextStays, IsAny, IsFree};
 ghost use Rattle.inside_step.specs.Completion.{IsLeftOpen};
 ghost use Rattle.inside_step.specs.Making.{after_instruction, TellsMark};
 

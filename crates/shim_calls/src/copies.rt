@@ -7,7 +7,7 @@ ghost use Rattle.cloak_model.specs.AskPages.{HasPages};
 ghost use Rattle.cloak_model.specs.Contexts as context;
 ghost use Rattle.cloak_model.specs.Calls as spec;
 ghost use Rattle.cloak_model.proofs.CallParts as parts;
-ghost use Rattle.side_frames.specs.Staying.{SideStays, ContextStays, IsFree, IsOther};
+ghost use Rattle.what_stays.specs.Staying.{SideStays, ContextStays, IsFree, IsOther};
 ghost use Rattle.shim_calls.specs.Copying.{IsMisplaced, NoLongerFits, next_copy};
 ghost use Rattle.shim_calls.specs.Stepping.{after_copy};
 

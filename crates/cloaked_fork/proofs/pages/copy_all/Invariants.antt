@@ -1,7 +1,7 @@
 use Rattle.std.proofs.Common.{ℕ, drop}
 use Rattle.cloak_model.specs.Asking.{Follows}
 use Rattle.cloak_model.specs.Fork as spec
-use Rattle.side_frames.specs.Staying.{SideStays, IsAny}
+use Rattle.what_stays.specs.Staying.{SideStays, IsAny}
 use Rattle.cloaked_fork.proofs.pages.copy_all.Given as goal
 
 -- what is left to be asked completes it

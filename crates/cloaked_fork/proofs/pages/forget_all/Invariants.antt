@@ -2,7 +2,7 @@ use Rattle.std.proofs.Common.{◌≡◌, ◌<◌, ℕ, drop, slice_index_or, tru
 use Rattle.cloak_model.specs.Asking.{Follows}
 use Rattle.cloak_model.specs.Fork as spec
 use Rattle.cloaked_fork.specs.Marks.{marked_numbers}
-use Rattle.side_frames.specs.Staying.{SideStays, IsAny}
+use Rattle.what_stays.specs.Staying.{SideStays, IsAny}
 use Rattle.cloaked_fork.proofs.pages.forget_all.Given as goal
 
 -- what is left to be asked completes it

@@ -9,31 +9,31 @@ use Rattle.joint_machine.proofs.stepping.step_domain.Goals as goal
 
 pub returns-clause-size : goal.returns-clause-size
 returns-clause-size g c =
-    let kept = c.step.ensures.keeps _ (stays_self g.E.Emit.gave _) in
+    let kept = c.step.ensures.side.keeps _ (stays_self g.E.Emit.gave _) in
     let lent = sym kept.same_memory in
     size_back c.args.memory.now _ c.step.new.m.memory.now (search rules) kept.size
 
 pub returns-clause-emits_some : goal.returns-clause-emits_some
 returns-clause-emits_some g c =
-    let kept = c.step.ensures.keeps _ (stays_self g.E.Emit.gave _) in
+    let kept = c.step.ensures.side.keeps _ (stays_self g.E.Emit.gave _) in
     let lent = sym kept.same_emitter in
     some_back g.E.Emit.gave c.args.e.now _ c.step.new.m.emitter.now (search rules) kept.emits_some
 
 pub returns-clause-others : goal.returns-clause-others
 returns-clause-others g c =
-    let kept = c.step.ensures.keeps _ (stays_self g.E.Emit.gave _) in
+    let kept = c.step.ensures.side.keeps _ (stays_self g.E.Emit.gave _) in
     let lent = sym kept.same_memory in
     others_back c.args.regime.domain c.args.memory.now.pager _ c.step.new.m.memory.now.pager (search rules) kept.others
 
 pub returns-clause-unused : goal.returns-clause-unused
 returns-clause-unused g c =
-    let kept = c.step.ensures.keeps _ (stays_self g.E.Emit.gave _) in
+    let kept = c.step.ensures.side.keeps _ (stays_self g.E.Emit.gave _) in
     let lent = sym kept.same_memory in
-    unused_back c.step.new.m _ c.args.regime _ (search rules) kept.regime c.step.ensures.unused
+    unused_back c.step.new.m _ c.args.regime _ (search rules) kept.regime c.step.ensures.side.unused
 
 pub returns-clause-steps : goal.returns-clause-steps
 returns-clause-steps g c m d holds stands unclashed =
-    let kept = c.step.ensures.keeps _ (stays_self g.E.Emit.gave _) in
+    let kept = c.step.ensures.side.keeps _ (stays_self g.E.Emit.gave _) in
     let memory_lent = sym kept.same_memory in
     let emitter_lent = sym kept.same_emitter in
     let cloak = begun m c.args.regime c.args.slot d in
@@ -43,13 +43,13 @@ returns-clause-steps g c m d holds stands unclashed =
 
 pub returns-clause-counting : goal.returns-clause-counting
 returns-clause-counting g c =
-    let kept = c.step.ensures.keeps _ (stays_self g.E.Emit.gave _) in
+    let kept = c.step.ensures.side.keeps _ (stays_self g.E.Emit.gave _) in
     let lent = sym kept.same_memory in
     counting_back c.args.memory.now _ c.step.new.m.memory.now (returns-clause-size g c) (search rules) kept.counting
 
 pub returns-clause-goes : goal.returns-clause-goes
 returns-clause-goes g c m d holds stands unclashed =
-    let kept = c.step.ensures.keeps _ (stays_self g.E.Emit.gave _) in
+    let kept = c.step.ensures.side.keeps _ (stays_self g.E.Emit.gave _) in
     let lent = sym kept.same_memory in
     let cloak = begun m c.args.regime c.args.slot d in
     let sees = sees_first g.E.Emit.gave _ cloak holds refl refl refl refl in

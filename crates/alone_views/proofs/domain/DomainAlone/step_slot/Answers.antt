@@ -1,10 +1,11 @@
+use Rattle.std.proofs.Common.{rules}
 use Rattle.cloak_model.specs.World.{Alone}
 use Rattle.hypercalls.specs.Standing.{control_of}
 use Rattle.alone_views.proofs.DomainTried.{free_slot, no_step, pages_alone, step_unclashed}
 use Rattle.alone_views.proofs.domain.DomainAlone.step_slot.Goals as goal
 
-pub step-requires-clause-unused : goal.step-requires-clause-unused
-step-requires-clause-unused c = λ n low none. tt
+pub step-requires-clause-serves : goal.step-requires-clause-serves
+step-requires-clause-serves c = record { domain = search rules; unused = λ n low none. tt }
 
 pub returns-then-is_some-clause-steps : goal.returns-then-is_some-clause-steps
 returns-then-is_some-clause-steps c = λ d h stands side fit.

@@ -6,8 +6,8 @@ use Rattle.cloak_model.specs.Asking.{Keeps}
 use Rattle.cloak_model.specs.Contexts.{Context}
 use Rattle.cloak_model.specs.Resources.{Resources, resource_at}
 
--- Whatever the side stands for, it keeps what `kept` says, it serves the same domain, and of these numbers of resources
--- each that was unused is unused.
+-- Whatever the side stands for, it keeps what `kept` says, it serves the same domain, and of these numbers of
+-- resources each that was unused is unused.
 pub record SideStays {M : Type 0} (side : Ghosts M) (numbers : ℕ → Type 0) (old new : M) : Type 0 where
   pub keeps : Keeps side.kept old new
   pub same_domain : side.serves new ≡ side.serves old
@@ -25,8 +25,8 @@ IsFree r n = resource_at r n ≡ None
 abbrev pub IsOther : ℕ → ℕ → Type 0
 IsOther number n = n ≢ number
 
--- The context is of the same space, and on the same hart. If the step is left open, nothing of the context changed, and
--- no word of a cloaked page was written in.
+-- The context is of the same space, and on the same hart. If the step is left open, nothing of the context changed,
+-- and no word of a cloaked page was written in.
 pub record ContextStays (left_open : Type 0) (old new : Context) (wrote : Option WordPlace) : Type 0 where
   pub unchanged : left_open → new ≡ old
   pub unwritten : left_open → wrote ≡ None
