@@ -1,21 +1,16 @@
 -- What has ended: a step itself ends no domain, and gives no context to one that has ended. So none could be resumed,
 -- and none could make a step.
-use Rattle.std.proofs.Common.{◌≡◌, ◌<◌, length, subst, ◌∙◌, ◌+◌, ℕ, zero, suc, Bool, true, false, cond, List, [], ◌∷◌, Option, Some, None, Result, Ok, Err, refl, sym, ap, inl, inr}
+use Rattle.std.proofs.Common.{◌≡◌, ◌<◌, length, subst, ◌∙◌, ◌+◌, ℕ, zero, suc, Bool, true, false, List, [], ◌∷◌, Option, Some, None, Result, Ok, Err, refl, sym, ap, inl, inr}
 use Rattle.std.specs.Prelude.{is_some, slice_index_or, replicate, slice_get, slice_set}
 use Rattle.std.proofs.lemmas.Bool.{false≢true, cases_lt}
 use Rattle.std.proofs.lemmas.List.{get_or-set_same, get_or-set_other, get_or_past, get_or-replicate}
-use Rattle.cloak_base.specs.declared.names.CtxId.{CtxId}
 use Rattle.cloak_base.specs.declared.causes.Violation.{Violation}
 use Rattle.cloak_model.specs.declared.context.WordPlace.{WordPlace}
 use Rattle.cloak_model.specs.declared.context.Phase.{Phase}
 use Rattle.cloak_model.specs.declared.context.Phase.TheVariants.{Plain, CopyIn, Waiting, CopyOut}
 use Rattle.cloak_model.specs.declared.context.ResumeFault.{ResumeFault}
-use Rattle.cloak_model.specs.declared.inside.Begun.{Begun}
-use Rattle.cloak_model.specs.declared.inside.Begun.TheVariants as begun
 use Rattle.cloak_model.specs.declared.inside.Copied.{Copied}
 use Rattle.cloak_model.specs.declared.inside.Copied.TheVariants as copied
-use Rattle.cloak_model.specs.declared.inside.Ended.{Ended}
-use Rattle.cloak_model.specs.declared.inside.Ended.TheVariants as ends
 use Rattle.cloak_model.specs.declared.inside.Ran.{Ran}
 use Rattle.cloak_model.specs.declared.inside.Ran.TheVariants as ran
 use Rattle.cloak_model.specs.declared.inside.Went.{Went}
@@ -24,14 +19,12 @@ use Rattle.cloak_model.specs.declared.item.Item.{Item}
 use Rattle.cloak_model.specs.declared.image.Program.{Program}
 use Rattle.cloak_model.specs.declared.outcome.Kernel.{Kernel}
 use Rattle.cloak_model.specs.declared.outcome.Kernel.TheVariants as kernel
-use Rattle.cloak_model.specs.declared.resource.MapFault.{MapFault}
 use Rattle.cloak_model.specs.Contexts.{Context, Admitted, context_at, slot_of, domain_of, resume_if, resume_at}
 use Rattle.cloak_model.specs.DomainAlone.{runs_on}
 use Rattle.cloak_model.specs.DomainState.{Control, Domain, started_control, started_domain}
 use Rattle.cloak_model.specs.DomainStep.{DomainStepped, instruction_ended, copy_ended, after_write, phase_step, step_if, domain_step, interrupt_if, interrupt, answer_taken, resume_told, resume_slot}
 use Rattle.cloak_model.specs.Ending.{ended_domain}
 use Rattle.cloak_model.specs.Hart.{Hart}
-use Rattle.cloak_model.specs.Hypercalls.{Stepped, remapped, new_call, map_call, unmap_call, file_call, thread_at, thread_call, fork_told, fork_call, end_told, exit_call, call_begun, kernel_call, Hypercall, Map, Unmap, Thread, ForkSpace, Exit, Call, hypercall}
 use Rattle.cloak_model.specs.Joint.{outside_ended, after_outside, outside_step, domain_ended, after_domain_step, interrupt_ended, after_interrupt, by_interrupt, by_running, inside_step, turn_of}
 use Rattle.cloak_model.specs.KernelStep.{ticked}
 use Rattle.cloak_model.specs.Opening.{started_domains}
@@ -39,6 +32,7 @@ use Rattle.cloak_model.specs.Parts.{Joint}
 use Rattle.cloak_model.specs.Resuming.{resume}
 use Rattle.cloak_model.proofs.ResumeParts.{by_root, by_context, by_domain}
 use Rattle.cloak_model.specs.World.{World}
+use Rattle.hypercall_kinds.proofs.ByKinds.{hypercall_ended}
 use Rattle.domain_isolation.proofs.InOrder.{decided, get_set_other}
 
 -- If it has ended, no slot has a context.
@@ -130,61 +124,10 @@ has_not_ended d slot c is there = by d.ended refl
 
 -- A domain's own step does not end it.
 
-over_remapped : (slot : ℕ) (c : Context) (made : Result (Unit {0}) MapFault) (d : Control) →
-    (remapped slot c made d).control.ended ≡ d.ended
-unfolding remapped
-over_remapped slot c (Ok done) d = refl
-over_remapped slot c (Err f) d = refl
-
-over_thread_at : (slot : ℕ) (c : Context) (free : Option ℕ) (d : Control) →
-    (thread_at slot c free d).control.ended ≡ d.ended
-unfolding thread_at
-over_thread_at slot c None d = refl
-over_thread_at slot c (Some free) d = refl
-
-either : (d : Control) (b : Bool) (x y : Stepped) → x.control.ended ≡ d.ended → y.control.ended ≡ d.ended →
-    (cond b x y).control.ended ≡ d.ended
-either d true x y here there = here
-either d false x y here there = there
-
-over_thread : (slot : ℕ) (c : Context) (d : Control) → (thread_call slot c d).control.ended ≡ d.ended
-unfolding thread_call
-over_thread slot c d = either d _ _ _ (over_thread_at slot c _ d) refl
-
-over_fork : (slot : ℕ) (c : Context) (d d' : Control) (made : Result (Option CtxId) MapFault) → d'.ended ≡ d.ended →
-    (fork_told slot c d made d').control.ended ≡ d.ended
-unfolding fork_told
-over_fork slot c d d' (Ok (Some ctx)) same = same
-over_fork slot c d d' _ same = refl
-
-over_end : (slot : ℕ) (c : Context) (d d' : Control) (ending : Ended) → d'.ended ≡ d.ended →
-    (end_told slot c d ending d').control.ended ≡ d.ended
-unfolding end_told
-over_end slot c d d' ends.Stopped same = refl
-over_end slot c d d' _ same = same
-
-over_begun : (slot : ℕ) (c : Context) (made : Result Begun MapFault) (d : Control) →
-    (call_begun slot c made d).control.ended ≡ d.ended
-unfolding call_begun
-over_begun slot c (Err f) d = refl
-over_begun slot c (Ok begun.Copying) d = refl
-over_begun slot c (Ok begun.Leave) d = refl
-
-over_hypercall : (h : Hypercall) (slot : ℕ) (c : Context) (d : Control) (w : World) →
-    (hypercall h slot c d w).answer.control.ended ≡ d.ended
-unfolding hypercall new_call map_call unmap_call file_call fork_call exit_call kernel_call
-over_hypercall Map slot c d w = over_remapped slot c _ _
-over_hypercall Unmap slot c d w = over_remapped slot c _ _
-over_hypercall Thread slot c d w = over_thread slot c d
-over_hypercall ForkSpace slot c d w = over_fork slot c d _ _ refl
-over_hypercall Exit slot c d w = over_end slot c d _ _ refl
-over_hypercall Call slot c d w = over_begun slot _ _ d
-over_hypercall _ slot c d w = refl
-
 over_instruction : (slot : ℕ) (d : Domain) (c : Context) (e : Ran) (w : World) →
     (instruction_ended slot d c e w).answer.domain.control.ended ≡ d.control.ended
 unfolding instruction_ended
-over_instruction slot d c ran.Ecall w = over_hypercall _ slot c d.control w
+over_instruction slot d c ran.Ecall w = hypercall_ended _ slot c d.control w
 over_instruction slot d c _ w = refl
 
 over_copy : (slot : ℕ) (d : Domain) (c : Context) (e : Copied) →

@@ -1,6 +1,6 @@
 -- Pages that are owed or recorded are held: after each step of a program.
-use Rattle.std.proofs.Common.{◌≡◌, ◌≢◌, ◌∙◌, inl, inr, ℕ, ◌<◌, ◌%◌, Bool, true, false, cond, List, [], ◌∷◌, map, slice_index_or, Option, Some, None, IfSome, Result, Ok, Err, refl, sym, subst, zero-add}
-use Rattle.std.specs.Prelude.{◌==◌, All, IsSome, IsSomeAnd, is_some, nat_eq}
+use Rattle.std.proofs.Common.{◌≡◌, ◌≢◌, ◌∙◌, inl, inr, ℕ, ◌<◌, Bool, true, false, cond, List, [], ◌∷◌, map, slice_index_or, Option, Some, None, IfSome, refl, sym, subst, zero-add}
+use Rattle.std.specs.Prelude.{All, IsSome, IsSomeAnd, is_some, nat_eq}
 use Rattle.std.specs.List.{list_any}
 use Rattle.std.proofs.lemmas.Bool.{false≢true, or_cases, eqb-true}
 use Rattle.std.proofs.lemmas.List.{length-set}
@@ -9,44 +9,41 @@ use Rattle.cloak_base.specs.Constants.{frame_of}
 use Rattle.cloak_base.specs.Pages.{is_of, page_in}
 use Rattle.cloak_base.specs.Registers.{register}
 use Rattle.cloak_base.specs.declared.names.PageId.{PageId}
-use Rattle.cloak_model.specs.declared.answer.Answer.{Answer}
-use Rattle.cloak_model.specs.declared.answer.Answer.TheVariants as told
 use Rattle.cloak_model.specs.declared.context.Phase.{Phase}
 use Rattle.cloak_model.specs.declared.context.Phase.TheVariants.{Plain, CopyIn, Waiting, CopyOut}
 use Rattle.cloak_model.specs.declared.context.WordPlace.{WordPlace}
-use Rattle.cloak_model.specs.declared.inside.Begun.{Begun}
-use Rattle.cloak_model.specs.declared.inside.Begun.TheVariants as begun
 use Rattle.cloak_model.specs.declared.inside.Copied.{Copied}
 use Rattle.cloak_model.specs.declared.inside.Copied.TheVariants as copied
 use Rattle.cloak_model.specs.declared.inside.Ran.{Ran}
 use Rattle.cloak_model.specs.declared.inside.Ran.TheVariants as ran
 use Rattle.cloak_model.specs.declared.item.Item.{Item}
-use Rattle.cloak_model.specs.declared.resource.MapFault.{MapFault}
 use Rattle.cloak_model.specs.declared.resource.Owner.TheVariants.{Space}
 use Rattle.cloak_model.specs.declared.resource.Resource.{Resource}
 use Rattle.cloak_model.specs.Asking.{Told}
-use Rattle.cloak_model.specs.AskPages.{ask_write, ask_clear, ask_copy, ask_forget}
+use Rattle.cloak_model.specs.AskPages.{ask_write, ask_copy, ask_forget}
 use Rattle.cloak_model.specs.Calls.{copy_in_step, copy_out_step}
 use Rattle.cloak_model.specs.Cloaking.{CloakedMemory}
 use Rattle.cloak_model.specs.Contexts.{Context, context_at}
 use Rattle.cloak_model.specs.DomainState.{Control, Domain}
 use Rattle.cloak_model.specs.DomainStep.{DomainStepped, instruction_ended, copy_ended, after_write, phase_step, step_if, domain_step}
 use Rattle.cloak_model.specs.Events.{Event}
-use Rattle.cloak_model.specs.Fork.{Fork, End, marked, private_numbers, copies, ask_copies, ask_forgets, forked, forked_resources, fork, end_context}
-use Rattle.cloak_model.proofs.ForkParts.{fork_cleared, fork_if, end_cleared, end_if}
-use Rattle.cloak_model.specs.Hypercalls.{Stepped, with_spaces, remapped, new_call, map_call, unmap_call, file_call, thread_at, thread_call, fork_told, fork_call, end_told, exit_call, call_begun, kernel_call, Hypercall, New, Map, Unmap, File as FileCall, Thread, ForkSpace, Exit, Call, Unknown, hypercall, hypercall_of}
+use Rattle.cloak_model.specs.Files.{file_resource}
+use Rattle.cloak_model.specs.Fork.{marked, private_numbers, copies, ask_copies, ask_forgets, forked, forked_resources}
+use Rattle.cloak_model.specs.Hypercalls.{Stepped, Hypercall, hypercall, hypercall_of}
 use Rattle.cloak_model.specs.InsideStep.{instruction_inside}
 use Rattle.cloak_model.specs.Ledger.{Ledger}
 use Rattle.cloak_model.specs.PageMoves.{drop_pages}
-use Rattle.cloak_model.specs.Resources.{Resources, resource_at, first_free, is_private_to, without_space, drop_space}
+use Rattle.cloak_model.specs.Resources.{Resources, resource_at, new_resource, map_region, unmap_region, is_private_to, without_space, drop_space}
 use Rattle.cloak_model.specs.World.{World, Flat, Cloaked, Alone, noted, stored_at, settled, written}
+use Rattle.hypercall_kinds.specs.Kinds.{cleared, CallKind, MakesNew, MakesFile, Maps, Unmaps, Stops, Forks, EndsSpace, after}
+use Rattle.hypercall_kinds.proofs.ByKinds.{by_kinds}
 use Rattle.kernel_isolation.proofs.Settlings.{HasPlaces}
 use Rattle.resource_map.specs.Kept.{IsSound}
 use Rattle.resource_map.proofs.Copies.{marked_all}
 use Rattle.resource_map.proofs.Lists.{get_or-map_all, inside_from_some}
 use Rattle.resource_map.proofs.Places.{any-places}
 use Rattle.chain_law.proofs.Zeros.{keeps_places, settle_fresh, offer_offered}
-use Rattle.chain_law.proofs.ZeroWorlds.{NoneOwedIn, MarkedClear}
+use Rattle.chain_law.proofs.ZeroWorlds.{NoneOwedIn}
 use Rattle.frozen_law.specs.Held.{IsHeldBy}
 use Rattle.frozen_law.proofs.Cleared.{clear_clears}
 use Rattle.frozen_law.proofs.HeldCopies.{closed_all, fork_stay}
@@ -245,126 +242,52 @@ module _ (Other : PageId → Type 0) (d : Control) (sound : IsSound d.resources)
   abbrev Holds : Told Stepped → Type 0
   Holds t = OfIn (Kind t.answer.control.resources) t.world
 
-  later : (s : Stepped) (w : World) → HeldStay d.resources s.control.resources → OfIn Was w →
-      OfIn (Kind s.control.resources) w
-  later s w stay of = wide_in Was (Kind s.control.resources) w (kind_wide s.control.resources stay) of
+  later : (r : Resources) (w : World) → HeldStay d.resources r → OfIn Was w → OfIn (Kind r) w
+  later r w stay of = wide_in Was (Kind r) w (kind_wide r stay) of
 
-  remapped_same : (slot : ℕ) (c : Context) (answer : Result (Unit {0}) MapFault) (d' : Control) →
-      HeldStay d.resources d'.resources → HeldStay d.resources (remapped slot c answer d').control.resources
-  unfolding remapped
-  remapped_same slot c (Ok done) d' stay = stay
-  remapped_same slot c (Err fault) d' stay = stay
+  module _ (h : Hypercall) (slot : ℕ) (c : Context) (w : World) (knows : InWorld (KnowsOf Was) w) where
+    of : OfIn Was w
+    of = of_knows Was w knows
 
-  thread_at_same : (slot : ℕ) (c : Context) (o : Option ℕ) → HeldStay d.resources (thread_at slot c o d).control.resources
-  unfolding thread_at
-  thread_at_same slot c None q here = here
-  thread_at_same slot c (Some free) q here = here
+    of_cleared : OfIn Was (cleared c d w).world
+    of_cleared =
+        of_knows Was (cleared c d w).world
+        ((clear_keeps Was (Learns Was) (changes Was) d.number (marked c.space d.resources) w).by knows)
 
-  either_same : (t : Bool) (x y : Stepped) → HeldStay d.resources x.control.resources →
-      HeldStay d.resources y.control.resources → HeldStay d.resources (cond t x y).control.resources
-  either_same true x y here there = here
-  either_same false x y here there = there
+    kind_holds : (k : CallKind h slot c d w) → Holds (after h slot c d w k)
+    unfolding forked
+    kind_holds (MakesNew pages) =
+        later (new_resource (Space c.space) pages d.resources).resources w
+        (new_stay (Space c.space) pages d.resources) of
+    kind_holds (MakesFile pages) =
+        later (file_resource (register c.regs 10) pages d.resources).resources w
+        (file_stay (register c.regs 10) pages d.resources) of
+    kind_holds (Maps g) = later (map_region c.space g d.resources).resources w (map_stay c.space g d.resources) of
+    kind_holds (Unmaps start) =
+        later (unmap_region c.space start d.resources).resources w (unmap_stay c.space start d.resources) of
+    kind_holds (Stops other) = of_cleared
+    kind_holds (Forks free new is room slots spaces ok) =
+        let r' : Resources = forked_resources c.space new d.resources in
+        copies_in (Kind r') d.number (copies c.space d.resources) (cleared c d w).world
+        (closed_all c.space new d.resources sound d.number Other)
+        (later r' (cleared c d w).world (fork_stay c.space new d.resources sound) of_cleared)
+    kind_holds (EndsSpace is none ok) =
+        let r = d.resources in
+        let numbers = private_numbers c.space r in
+        let clear = clear_clears d.number (marked c.space r) w (places_know Was w knows) ok in
+        let marks = marked_all c.space r in
+        wide_in (λ q. Was q × IsApart d.number numbers q) (Kind (drop_space c.space r))
+        (ask_forgets d.number numbers (cleared c d w).world).world
+        (λ q here. record {
+          own = λ same. dropped_held c.space r q (here.1 same) (here.0.own same);
+          other = here.0.other;
+        })
+        (forgets_in Was d.number numbers (cleared c d w).world (λ k default low. clear _ (marks k default low))
+        of_cleared)
+    kind_holds _ = of
 
-  thread_same : (slot : ℕ) (c : Context) → HeldStay d.resources (thread_call slot c d).control.resources
-  unfolding thread_call
-  thread_same slot c =
-      either_same (register c.regs 10 % 4 == 0) (thread_at slot c (first_free d.contexts) d) _
-      (thread_at_same slot c (first_free d.contexts)) (λ q here. here)
-
-  begun_same : (slot : ℕ) (c : Context) (answer : Result Begun MapFault) →
-      HeldStay d.resources (call_begun slot c answer d).control.resources
-  unfolding call_begun
-  begun_same slot c (Err fault) q here = here
-  begun_same slot c (Ok begun.Copying) q here = here
-  begun_same slot c (Ok begun.Leave) q here = here
-
-  -- FORK
-
-  abbrev ForkHolds : ℕ → Context → Told Fork → Type 0
-  ForkHolds slot c t =
-      OfIn (Kind (fork_told slot c d t.answer.answer (with_spaces t.answer.spaces d)).control.resources) t.world
-
-  fork_cleared_holds : (slot free new : ℕ) (c : Context) (a : Answer) (w : World) → OfIn Was w →
-      ForkHolds slot c (fork_cleared d.number c free new d.resources d.contexts a w)
-  unfolding fork_told forked
-  fork_cleared_holds slot free new c told.Ok w of =
-      let r' : Resources = forked_resources c.space new d.resources in
-      copies_in (Kind r') d.number (copies c.space d.resources) w
-      (closed_all c.space new d.resources sound d.number Other)
-      (wide_in Was (Kind r') w (kind_wide r' (fork_stay c.space new d.resources sound)) of)
-  fork_cleared_holds slot free new c (told.Absent cause) w of = of
-  fork_cleared_holds slot free new c (told.Word value) w of = of
-  fork_cleared_holds slot free new c told.Stopped w of = of
-
-  fork_if_holds : (slot : ℕ) (fits : Result (Unit {0}) MapFault) (c : Context) (w : World) → InWorld (KnowsOf Was) w →
-      ForkHolds slot c (fork_if fits d.number c d.resources d.contexts w)
-  unfolding fork_told
-  fork_if_holds slot (Err fault) c w knows = of_knows Was w knows
-  fork_if_holds slot (Ok fits) c w knows =
-      let t = ask_clear d.number (marked c.space d.resources) w in
-      fork_cleared_holds slot _ _ c t.answer t.world
-      (of_knows Was t.world
-      ((clear_keeps Was (Learns Was) (changes Was) d.number (marked c.space d.resources) w).by knows))
-
-  fork_holds : (slot : ℕ) (c : Context) (w : World) → InWorld (KnowsOf Was) w → Holds (fork_call slot c d w)
-  unfolding fork_call fork
-  fork_holds slot c w knows = fork_if_holds slot _ c w knows
-
-  -- EXIT
-
-  abbrev EndHolds : ℕ → Context → Told End → Type 0
-  EndHolds slot c t =
-      OfIn (Kind (end_told slot c d t.answer.ending (with_spaces t.answer.spaces d)).control.resources) t.world
-
-  end_cleared_holds : (slot : ℕ) (c : Context) (a : Answer) (w : World) →
-      (a ≡ told.Ok → MarkedClear d.number (marked c.space d.resources) w) → OfIn Was w →
-      EndHolds slot c (end_cleared d.number slot c.space d.resources d.contexts a w)
-  unfolding end_told
-  end_cleared_holds slot c told.Ok w clear of =
-      let r = d.resources in
-      let numbers = private_numbers c.space r in
-      let marks = marked_all c.space r in
-      wide_in (λ q. Was q × IsApart d.number numbers q) (Kind (drop_space c.space r))
-      (ask_forgets d.number numbers w).world
-      (λ q here. record {
-        own = λ same. dropped_held c.space r q (here.1 same) (here.0.own same);
-        other = here.0.other;
-      })
-      (forgets_in Was d.number numbers w (λ k default low. clear refl _ (marks k default low)) of)
-  end_cleared_holds slot c (told.Absent cause) w clear of = of
-  end_cleared_holds slot c (told.Word value) w clear of = of
-  end_cleared_holds slot c told.Stopped w clear of = of
-
-  end_if_holds : (others : Bool) (slot : ℕ) (c : Context) (w : World) → InWorld (KnowsOf Was) w →
-      EndHolds slot c (end_if others d.number slot c.space d.resources d.contexts w)
-  unfolding end_told
-  end_if_holds true slot c w knows = of_knows Was w knows
-  end_if_holds false slot c w knows =
-      let marks = marked c.space d.resources in
-      let t = ask_clear d.number marks w in
-      end_cleared_holds slot c t.answer t.world (clear_clears d.number marks w (places_know Was w knows))
-      (of_knows Was t.world ((clear_keeps Was (Learns Was) (changes Was) d.number marks w).by knows))
-
-  exit_holds : (slot : ℕ) (c : Context) (w : World) → InWorld (KnowsOf Was) w → Holds (exit_call slot c d w)
-  unfolding exit_call end_context
-  exit_holds slot c w knows = end_if_holds _ slot c w knows
-
-  pub hypercall_holds : (h : Hypercall) (slot : ℕ) (c : Context) (w : World) → InWorld (KnowsOf Was) w →
-      Holds (hypercall h slot c d w)
-  unfolding hypercall new_call map_call unmap_call file_call kernel_call
-  hypercall_holds New slot c w knows =
-      later (new_call slot c d) w (new_stay (Space c.space) (register c.regs 10) d.resources) (of_knows Was w knows)
-  hypercall_holds Map slot c w knows =
-      later (map_call slot c d) w (remapped_same slot c _ _ (map_stay c.space _ d.resources)) (of_knows Was w knows)
-  hypercall_holds Unmap slot c w knows =
-      later (unmap_call slot c d) w (remapped_same slot c _ _ (unmap_stay c.space (register c.regs 10) d.resources)) (of_knows Was w knows)
-  hypercall_holds FileCall slot c w knows =
-      later (file_call slot c d) w (file_stay (register c.regs 10) (register c.regs 11) d.resources) (of_knows Was w knows)
-  hypercall_holds Thread slot c w knows = later (thread_call slot c d) w (thread_same slot c) (of_knows Was w knows)
-  hypercall_holds ForkSpace slot c w knows = fork_holds slot c w knows
-  hypercall_holds Exit slot c w knows = exit_holds slot c w knows
-  hypercall_holds Call slot c w knows = later (kernel_call slot c d) w (begun_same slot _ _) (of_knows Was w knows)
-  hypercall_holds Unknown slot c w knows = of_knows Was w knows
+    hypercall_holds : Holds (hypercall h slot c d w)
+    hypercall_holds = by_kinds Holds h slot c d w kind_holds
 
 -- The step.
 

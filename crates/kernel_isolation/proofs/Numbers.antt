@@ -1,27 +1,23 @@
 -- A program keeps its number, and what a context shows as it leaves has the number of the context.
-use Rattle.std.proofs.Common.{◌≡◌, ◌∙◌, ℕ, suc, zero, ◌+◌, Bool, true, false, cond, List, [], ◌∷◌, Option, Some, None, Result, Ok, Err, slice_get, slice_set, refl, sym, ap, arith}
-use Rattle.cloak_base.specs.declared.names.CtxId.{CtxId}
+use Rattle.std.proofs.Common.{◌≡◌, ◌∙◌, ℕ, suc, zero, ◌+◌, List, [], ◌∷◌, Option, Some, None, Result, Ok, Err, slice_get, slice_set, refl, sym, ap, arith}
 use Rattle.cloak_model.specs.declared.context.Phase.{Phase}
 use Rattle.cloak_model.specs.declared.context.Phase.TheVariants.{Plain, CopyIn, Waiting, CopyOut}
 use Rattle.cloak_model.specs.declared.context.ResumeFault.{ResumeFault}
 use Rattle.cloak_model.specs.declared.context.Why.{Why}
 use Rattle.cloak_model.specs.declared.context.Why.TheVariants as why
-use Rattle.cloak_model.specs.declared.inside.Begun.{Begun}
-use Rattle.cloak_model.specs.declared.inside.Begun.TheVariants as begun
 use Rattle.cloak_model.specs.declared.inside.Copied.{Copied}
 use Rattle.cloak_model.specs.declared.inside.Copied.TheVariants as copied
-use Rattle.cloak_model.specs.declared.inside.Ended.{Ended}
-use Rattle.cloak_model.specs.declared.inside.Ended.TheVariants as ends
 use Rattle.cloak_model.specs.declared.inside.Ran.{Ran}
 use Rattle.cloak_model.specs.declared.inside.Ran.TheVariants as ran
 use Rattle.cloak_model.specs.declared.inside.Went.{Went}
 use Rattle.cloak_model.specs.declared.inside.Went.TheVariants as went
-use Rattle.cloak_model.specs.declared.resource.MapFault.{MapFault}
 use Rattle.cloak_model.specs.Contexts.{Context, context_number, domain_of, slot_of, shown}
 use Rattle.cloak_model.specs.DomainState.{Control, Domain}
 use Rattle.cloak_model.specs.DomainStep.{DomainStepped, instruction_ended, copy_ended, phase_step, step_if, domain_step, interrupt_if, interrupt, answer_taken, resume_told, resume_slot, after_write}
-use Rattle.cloak_model.specs.Hypercalls.{Stepped, remapped, new_call, map_call, unmap_call, file_call, thread_at, thread_call, fork_told, fork_call, end_told, exit_call, call_begun, kernel_call, leaves, Hypercall, Map, Unmap, Thread, ForkSpace, Exit, Call, hypercall}
+use Rattle.cloak_model.specs.Hypercalls.{Stepped, leaves, Hypercall, hypercall}
 use Rattle.cloak_model.specs.World.{World}
+use Rattle.hypercall_kinds.specs.Kinds.{CallKind, Calls, Ends, EndsSpace, after}
+use Rattle.hypercall_kinds.proofs.ByKinds.{by_kinds}
 use Rattle.cloak_model.specs.declared.context.WordPlace.{WordPlace}
 
 -- what is shown, if anything is, is of this context
@@ -53,54 +49,15 @@ numbers_leave slot c cause d = record { number = refl; shows = shown_ctx c (cont
 abbrev Numbers : ℕ → Control → Stepped → Type 0
 Numbers slot d s = KeepsNumber slot d s.control s.went
 
-numbers_remapped : (slot : ℕ) (c : Context) (made : Result (Unit {0}) MapFault) (d d' : Control) →
-    d'.number ≡ d.number → Numbers slot d (remapped slot c made d')
-unfolding remapped
-numbers_remapped slot c (Ok done) d d' same = record { number = same; shows = tt }
-numbers_remapped slot c (Err f) d d' same = record { number = same; shows = tt }
+module _ (h : Hypercall) (slot : ℕ) (c : Context) (d : Control) (w : World) where
+  numbers_kind : (k : CallKind h slot c d w) → Numbers slot d (after h slot c d w k).answer
+  numbers_kind (Calls good) = numbers_leave slot _ why.Call d
+  numbers_kind Ends = record { number = refl; shows = shown_ctx c _ why.Exit }
+  numbers_kind (EndsSpace is none ok) = record { number = refl; shows = shown_ctx c _ why.Exit }
+  numbers_kind _ = record { number = refl; shows = tt }
 
-numbers_thread_at : (slot : ℕ) (c : Context) (free : Option ℕ) (d : Control) → Numbers slot d (thread_at slot c free d)
-unfolding thread_at
-numbers_thread_at slot c None d = record { number = refl; shows = tt }
-numbers_thread_at slot c (Some free) d = record { number = refl; shows = tt }
-
-either : (slot : ℕ) (d : Control) (b : Bool) (x y : Stepped) → Numbers slot d x → Numbers slot d y →
-    Numbers slot d (cond b x y)
-either slot d true x y here there = here
-either slot d false x y here there = there
-
-numbers_thread : (slot : ℕ) (c : Context) (d : Control) → Numbers slot d (thread_call slot c d)
-unfolding thread_call
-numbers_thread slot c d = either slot d _ _ _ (numbers_thread_at slot c _ d) (record { number = refl; shows = tt })
-
-numbers_fork : (slot : ℕ) (c : Context) (d d' : Control) (made : Result (Option CtxId) MapFault) →
-    d'.number ≡ d.number → Numbers slot d (fork_told slot c d made d')
-unfolding fork_told
-numbers_fork slot c d d' (Ok (Some ctx)) same = record { number = same; shows = tt }
-numbers_fork slot c d d' _ same = record { number = refl; shows = tt }
-
-numbers_end : (slot : ℕ) (c : Context) (d d' : Control) (ending : Ended) → d'.number ≡ d.number →
-    Numbers slot d (end_told slot c d ending d')
-unfolding end_told
-numbers_end slot c d d' ends.Stopped same = record { number = refl; shows = tt }
-numbers_end slot c d d' _ same = record { number = same; shows = shown_ctx c _ why.Exit }
-
-numbers_begun : (slot : ℕ) (c : Context) (made : Result Begun MapFault) (d : Control) →
-    Numbers slot d (call_begun slot c made d)
-unfolding call_begun
-numbers_begun slot c (Ok begun.Leave) d = numbers_leave slot c why.Call d
-numbers_begun slot c _ d = record { number = refl; shows = tt }
-
-numbers_hypercall : (h : Hypercall) (slot : ℕ) (c : Context) (d : Control) (w : World) →
-    Numbers slot d (hypercall h slot c d w).answer
-unfolding hypercall new_call map_call unmap_call file_call fork_call exit_call kernel_call
-numbers_hypercall Map slot c d w = numbers_remapped slot c _ d _ refl
-numbers_hypercall Unmap slot c d w = numbers_remapped slot c _ d _ refl
-numbers_hypercall Thread slot c d w = numbers_thread slot c d
-numbers_hypercall ForkSpace slot c d w = numbers_fork slot c d _ _ refl
-numbers_hypercall Exit slot c d w = numbers_end slot c d _ _ refl
-numbers_hypercall Call slot c d w = numbers_begun slot _ _ d
-numbers_hypercall _ slot c d w = record { number = refl; shows = tt }
+  numbers_hypercall : Numbers slot d (hypercall h slot c d w).answer
+  numbers_hypercall = by_kinds (λ t. Numbers slot d t.answer) h slot c d w numbers_kind
 
 -- The step.
 

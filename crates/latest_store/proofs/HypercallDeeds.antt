@@ -1,42 +1,41 @@
 -- What a hypercall does to the pages of its program: a fork copies resources, and the end of a space drops them.
-use Rattle.std.proofs.Common.{◌≡◌, ◌∙◌, ℕ, Bool, true, false, cond, List, [], ◌∷◌, ◌++◌, length, map, Option, Some, None, Result, Ok, Err, refl, sym, ap, append-nil}
-use Rattle.std.specs.Prelude.{unwrap_or, position}
+use Rattle.std.proofs.Common.{◌≡◌, ◌≢◌, ◌∙◌, ℕ, true, List, [], ◌∷◌, ◌++◌, length, map, Option, Some, None, Result, Ok, Err, refl, sym, ap, subst, append-nil}
+use Rattle.std.specs.Prelude.{position}
 use Rattle.cloak_base.specs.Registers.{register}
 use Rattle.std.proofs.lemmas.Bool.{and_parts, not-true, ltb-false}
 use Rattle.cloak_base.specs.declared.names.PageId.{PageId}
 use Rattle.cloak_model.specs.declared.answer.Answer.{Answer}
 use Rattle.cloak_model.specs.declared.answer.Answer.TheVariants as told
+use Rattle.cloak_model.specs.declared.item.Item.{Item}
 use Rattle.cloak_model.specs.declared.item.Item.TheVariants as item
-use Rattle.cloak_model.specs.declared.inside.Begun.{Begun}
-use Rattle.cloak_model.specs.declared.inside.Begun.TheVariants as begun
 use Rattle.cloak_model.specs.declared.resource.Owner.TheVariants.{Space, File}
 use Rattle.cloak_model.specs.declared.resource.MapFault.{MapFault}
-use Rattle.cloak_model.specs.declared.resource.MapFault.TheVariants.{Full}
-use Rattle.cloak_model.specs.Asking.{Asking, answered, then_ask}
+use Rattle.cloak_model.specs.Asking.{Told, answered, then_ask}
 use Rattle.cloak_model.specs.AskPages.{answer_item, ask_copy, ask_forget}
 use Rattle.cloak_model.specs.Contexts.{Context}
 use Rattle.cloak_model.specs.DomainState.{Control, Domain}
 use Rattle.cloak_model.specs.DomainStep.{DomainStepped, within}
-use Rattle.cloak_model.specs.Fork.{Fork, End, copies, marked, private_numbers, free_numbers, has_room, fork_fits, ask_copies, forked, fork, ask_forgets, end_context}
-use Rattle.cloak_model.proofs.ForkParts.{fork_cleared, fork_if, end_cleared, end_if}
+use Rattle.cloak_model.specs.Fork.{copies, marked, private_numbers, free_numbers, has_room, ask_copies, forked, ask_forgets}
 use Rattle.cloak_model.specs.Halves.{inward_half}
 use Rattle.cloak_model.specs.Files.{holds_file, file_found, file_resource}
 use Rattle.cloak_model.specs.Hypercalls as hyper
-use Rattle.cloak_model.specs.Hypercalls.{Stepped, with_spaces, remapped, new_call, map_call, unmap_call, file_call, thread_at, thread_call, fork_told, fork_call, end_told, exit_call, call_begun, kernel_call, Hypercall, New, Map, Unmap, Thread, ForkSpace, Exit, Call, Unknown, hypercall}
+use Rattle.cloak_model.specs.Hypercalls.{Stepped, new_call, file_call, Hypercall, New, ForkSpace, Exit, hypercall}
 use Rattle.cloak_model.specs.PageMoves.{copy_pages, drop_pages}
-use Rattle.cloak_model.specs.Resources.{Resources, first_free, new_resource}
+use Rattle.cloak_model.specs.Resources.{Resources, new_resource}
 use Rattle.cloak_model.specs.World.{World, Flat, Cloaked, Alone, plain_of, items_of}
-use Rattle.script_fold.proofs.Scripts.{Clear, asked}
+use Rattle.hypercall_kinds.specs.Kinds.{cleared, CallKind, MakesNew, MakesFile, Maps, Unmaps, Stops, Forks, EndsSpace, after}
+use Rattle.hypercall_kinds.proofs.ByKinds.{by_kinds}
+use Rattle.script_fold.proofs.Scripts.{Clear}
 use Rattle.domain_isolation.proofs.Steady.{is_cloaked}
 use Rattle.latest_store.specs.Moves.{Move, Copies, Drops}
 use Rattle.latest_store.specs.Deeds.{made_moves, file_moves, hypercall_moves}
 use Rattle.latest_store.proofs.Moved.{moved_by, given_by}
-use Rattle.latest_store.proofs.Numbers.{Follows, follows_same, follows_equal, new_follows, found_follows, map_follows, unmap_follows, Enough}
+use Rattle.latest_store.proofs.Numbers.{follows_same, new_follows, found_follows, map_follows, unmap_follows, Enough}
 use Rattle.latest_store.proofs.Fits.{Fits, fits_none, fits_make, fits_fork, fits_drop}
 use Rattle.latest_store.proofs.Heard.{Heard, heard_asked, Did, untouched, quiet, if_fetched, if_granted}
 
 -- pages are rewritten by these moves, and nothing else
-pub record Makes (w v : World) (moves : List Move) : Type 0 where
+pub record HasMoved (w v : World) (moves : List Move) : Type 0 where
   pub form : is_cloaked v ≡ true
   pub items : items_of v ≡ items_of w
   pub pages : plain_of v ≡ moved_by moves (plain_of w)
@@ -48,7 +47,7 @@ abbrev pub drop_moves : ℕ → List ℕ → List Move
 drop_moves n list = map (λ (resource : ℕ). Drops n resource) list
 
 copies_made : (n : ℕ) (list : List (ℕ × ℕ)) (w : World) → is_cloaked w ≡ true →
-    Makes w (ask_copies n list w).world (copy_moves n list)
+    HasMoved w (ask_copies n list w).world (copy_moves n list)
 unfolding ask_copies ask_copy copy_pages
 copies_made n [] w form = record { form = form; items = refl; pages = refl }
 copies_made n (copy ∷ list) (Flat seen) form = absurd cc
@@ -58,7 +57,7 @@ copies_made n (copy ∷ list) (Cloaked c) form =
 copies_made n (copy ∷ list) (Alone h) form = absurd cc
 
 pub drops_made : (n : ℕ) (list : List ℕ) (w : World) → is_cloaked w ≡ true →
-    Makes w (ask_forgets n list w).world (drop_moves n list)
+    HasMoved w (ask_forgets n list w).world (drop_moves n list)
 unfolding ask_forgets ask_forget drop_pages
 drops_made n [] w form = record { form = form; items = refl; pages = refl }
 drops_made n (resource ∷ list) (Flat seen) form = absurd cc
@@ -77,120 +76,32 @@ drops_give : (n : ℕ) (list : List ℕ) (plain : PageId → List ℕ) → given
 drops_give n [] plain = refl
 drops_give n (resource ∷ list) plain = drops_give n list _
 
-abbrev DoesIf : Domain → (PageId → List ℕ) → List Move → Asking Stepped → World → Type 0
-DoesIf d plain moves ask w =
-    Did plain d (if_fetched (if_granted moves)) (then_ask ask (λ step. answered (within d step)) w)
-
 -- both questions were granted, and the moves were made
-made_so : (d : Domain) (plain : PageId → List ℕ) (moves : List Move) (x : DomainStepped) (w v : World) →
-    Heard d.control.number plain (item.Ok d.control.number ∷ item.Ok d.control.number ∷ []) w → Makes w v moves →
+made_so : (d : Domain) (plain : PageId → List ℕ) (deeds : List Item → List Move) (moves : List Move) (x : DomainStepped)
+    (w v : World) → deeds (item.Ok d.control.number ∷ item.Ok d.control.number ∷ []) ≡ moves →
+    Heard d.control.number plain (item.Ok d.control.number ∷ item.Ok d.control.number ∷ []) w → HasMoved w v moves →
     given_by moves plain ≡ [] → x.domain.loads ≡ d.loads →
     Fits d.control.number d.control.resources moves x.domain.control.resources →
-    Did plain d (if_fetched (if_granted moves)) (record { answer = x; world = v })
-made_so d plain moves x w v heard makes none same fits = record {
+    Did plain d (if_fetched deeds) (record { answer = x; world = v })
+made_so d plain deeds moves x w v are heard makes none same fits = record {
   answers = item.Ok d.control.number ∷ item.Ok d.control.number ∷ [];
   form = makes.form;
   told = ap (inward_half d.control.number) makes.items ∙ heard.told;
-  pages = makes.pages ∙ ap (moved_by moves) heard.pages;
-  loads = same ∙ sym (append-nil d.loads) ∙ ap (λ (l : List (ℕ × ℕ)). d.loads ++ l) (sym none);
-  fits = fits;
+  pages = makes.pages ∙ ap (moved_by moves) heard.pages ∙ ap (λ (ms : List Move). moved_by ms plain) (sym are);
+  loads = same ∙ sym (append-nil d.loads)
+      ∙ ap (λ (l : List (ℕ × ℕ)). d.loads ++ l) (sym (ap (λ (ms : List Move). given_by ms plain) are ∙ none));
+  fits = subst (λ (ms : List Move).
+      Fits d.control.number d.control.resources ms x.domain.control.resources) (sym are) fits;
 }
 
--- FORK.
-
-abbrev fork_end : ℕ → Context → Control → Asking Fork → Asking Stepped
-fork_end slot c d ask w =
-    then_ask ask (λ made. answered (fork_told slot c d made.answer (with_spaces made.spaces d))) w
-
-fork_cleared_did : (slot : ℕ) (d : Domain) (plain : PageId → List ℕ) (c : Context) (free new : ℕ) (a : Answer)
-    (w : World) → Enough c.space new d.control.resources →
-    Heard d.control.number plain (item.Ok d.control.number ∷ answer_item d.control.number a ∷ []) w →
-    DoesIf d plain (copy_moves d.control.number (copies c.space d.control.resources))
-    (fork_end slot c d.control (fork_cleared d.control.number c free new d.control.resources d.control.contexts a)) w
-unfolding fork_told forked
-fork_cleared_did slot d plain c free new told.Ok w enough heard =
-    let list = copies c.space d.control.resources in
-    made_so d plain (copy_moves d.control.number list) _ w _ heard (copies_made d.control.number list w heard.form)
-    (copies_give d.control.number list plain) refl
-    (fits_fork d.control.number c.space new d.control.resources enough)
-fork_cleared_did slot d plain c free new _ w enough heard =
-    quiet _ _ _ _ _ w heard refl refl (follows_same _)
-
-room_there : (b : Bool) (done : Unit {0}) →
-    ◌≡◌ {A = Result (Unit {0}) MapFault} (cond b (Ok tt) (Err Full)) (Ok done) → b ≡ true
-room_there true done is = refl
-room_there false done is = absurd cc
-
 -- a fork that fits has a number for each copy
-enough_there : (space new : ℕ) (r : Resources) (contexts : List (Option Context)) (done : Unit {0}) →
-    fork_fits space r contexts ≡ Ok done → Enough space new r
-unfolding fork_fits
-enough_there space new r contexts done is =
-    let room = room_there (has_room space r contexts) done is in
+enough_there : (space new : ℕ) (r : Resources) (contexts : List (Option Context)) → has_room space r contexts ≡ true →
+    Enough space new r
+enough_there space new r contexts room =
     let spaces = and_parts _ _ room in
     let numbers = and_parts _ _ spaces.1 in
     let enough = and_parts _ _ numbers.1 in
     ltb-false (length (free_numbers r)) (length (private_numbers space r)) (not-true _ enough.0)
-
-fork_if_did : (fits : Result (Unit {0}) MapFault) (slot : ℕ) (d : Domain) (plain : PageId → List ℕ) (c : Context)
-    (w : World) → fork_fits c.space d.control.resources d.control.contexts ≡ fits →
-    Heard d.control.number plain (item.Ok d.control.number ∷ []) w →
-    DoesIf d plain (copy_moves d.control.number (copies c.space d.control.resources))
-    (fork_end slot c d.control (fork_if fits d.control.number c d.control.resources d.control.contexts)) w
-unfolding fork_told
-fork_if_did (Err fault) slot d plain c w is heard = quiet _ _ _ _ _ w heard refl refl (follows_same _)
-fork_if_did (Ok fits) slot d plain c w is heard =
-    let question = Clear (marked c.space d.control.resources) in
-    let new = unwrap_or (first_free d.control.resources.spaces) 0 in
-    fork_cleared_did slot d plain c _ new (asked question w).answer (asked question w).world
-    (enough_there c.space new d.control.resources d.control.contexts fits is)
-    (heard_asked d.control.number plain (item.Ok d.control.number ∷ []) question w heard)
-
-fork_did : (slot : ℕ) (d : Domain) (plain : PageId → List ℕ) (c : Context) (w : World) →
-    Heard d.control.number plain (item.Ok d.control.number ∷ []) w →
-    DoesIf d plain (copy_moves d.control.number (copies c.space d.control.resources)) (fork_call slot c d.control) w
-unfolding fork_call fork
-fork_did slot d plain c w heard =
-    fork_if_did (fork_fits c.space d.control.resources d.control.contexts) slot d plain c w refl heard
-
--- EXIT.
-
-abbrev exit_end : ℕ → Context → Control → Asking End → Asking Stepped
-exit_end slot c d ask w =
-    then_ask ask (λ made. answered (end_told slot c d made.ending (with_spaces made.spaces d))) w
-
-end_cleared_did : (slot : ℕ) (d : Domain) (plain : PageId → List ℕ) (c : Context) (a : Answer) (w : World) →
-    Heard d.control.number plain (item.Ok d.control.number ∷ answer_item d.control.number a ∷ []) w →
-    DoesIf d plain (drop_moves d.control.number (private_numbers c.space d.control.resources))
-    (exit_end slot c d.control
-    (end_cleared d.control.number slot c.space d.control.resources d.control.contexts a)) w
-unfolding end_told
-end_cleared_did slot d plain c told.Ok w heard =
-    let list = private_numbers c.space d.control.resources in
-    made_so d plain (drop_moves d.control.number list) _ w _ heard (drops_made d.control.number list w heard.form)
-    (drops_give d.control.number list plain) refl (fits_drop d.control.number c.space d.control.resources)
-end_cleared_did slot d plain c (told.Absent cause) w heard = quiet _ _ _ _ _ w heard refl refl (follows_same _)
-end_cleared_did slot d plain c (told.Word value) w heard = quiet _ _ _ _ _ w heard refl refl (follows_same _)
-end_cleared_did slot d plain c told.Stopped w heard = quiet _ _ _ _ _ w heard refl refl (follows_same _)
-
-end_if_did : (others : Bool) (slot : ℕ) (d : Domain) (plain : PageId → List ℕ) (c : Context) (w : World) →
-    Heard d.control.number plain (item.Ok d.control.number ∷ []) w →
-    DoesIf d plain (drop_moves d.control.number (private_numbers c.space d.control.resources))
-    (exit_end slot c d.control
-    (end_if others d.control.number slot c.space d.control.resources d.control.contexts)) w
-unfolding end_told
-end_if_did true slot d plain c w heard = quiet _ _ _ _ _ w heard refl refl (follows_same _)
-end_if_did false slot d plain c w heard =
-    let question = Clear (marked c.space d.control.resources) in
-    end_cleared_did slot d plain c (asked question w).answer (asked question w).world
-    (heard_asked d.control.number plain (item.Ok d.control.number ∷ []) question w heard)
-
-exit_did : (slot : ℕ) (d : Domain) (plain : PageId → List ℕ) (c : Context) (w : World) →
-    Heard d.control.number plain (item.Ok d.control.number ∷ []) w →
-    DoesIf d plain (drop_moves d.control.number (private_numbers c.space d.control.resources))
-    (exit_call slot c d.control) w
-unfolding exit_call end_context
-exit_did slot d plain c w heard = end_if_did _ slot d plain c w heard
 
 -- What is made changes no page, and is no load.
 
@@ -223,62 +134,106 @@ file_fits d c (Some n) =
     fits_none d.number d.resources [] _ refl
     (found_follows (register c.regs 10) (register c.regs 11) (Some n) d.resources)
 
--- Every hypercall. Those of regions follow.
+-- By its kind, a hypercall that makes nothing does these moves: none after one answer, and after both questions were
+-- granted those of a fork or an end.
+record MovesSo (h : Hypercall) (d : Control) (c : Context) (moves : List Item → List Move) : Type 0 where
+  once : moves (item.Ok d.number ∷ []) ≡ []
+  stops : (a : Answer) → a ≢ told.Ok → moves (item.Ok d.number ∷ answer_item d.number a ∷ []) ≡ []
+  forks : h ≡ ForkSpace →
+      moves (item.Ok d.number ∷ item.Ok d.number ∷ []) ≡ copy_moves d.number (copies c.space d.resources)
+  ends : h ≡ Exit →
+      moves (item.Ok d.number ∷ item.Ok d.number ∷ []) ≡ drop_moves d.number (private_numbers c.space d.resources)
 
-remapped_follows : (slot : ℕ) (c : Context) (answer : Result (Unit {0}) MapFault) (r : Resources) (d : Control) →
-    Follows r d.resources → Follows r (remapped slot c answer d).control.resources
-unfolding remapped
-remapped_follows slot c (Ok done) r d follows = follows
-remapped_follows slot c (Err fault) r d follows = follows
+module _ (h : Hypercall) (slot : ℕ) (d : Domain) (plain : PageId → List ℕ) (c : Context) (w : World)
+    (moves : List Item → List Move) (so : MovesSo h d.control c moves)
+    (heard : Heard d.control.number plain (item.Ok d.control.number ∷ []) w) where
+  -- after the second question
+  heard_two : Heard d.control.number plain
+      (item.Ok d.control.number ∷ answer_item d.control.number (cleared c d.control w).answer ∷ [])
+      (cleared c d.control w).world
+  heard_two =
+      heard_asked d.control.number plain (item.Ok d.control.number ∷ []) (Clear (marked c.space d.control.resources)) w
+      heard
 
-thread_at_same : (slot : ℕ) (c : Context) (free : Option ℕ) (d : Control) →
-    (thread_at slot c free d).control.resources ≡ d.resources
-unfolding thread_at
-thread_at_same slot c None d = refl
-thread_at_same slot c (Some free) d = refl
+  heard_granted : (cleared c d.control w).answer ≡ told.Ok →
+      Heard d.control.number plain (item.Ok d.control.number ∷ item.Ok d.control.number ∷ [])
+      (cleared c d.control w).world
+  heard_granted ok =
+      subst (λ (a : Answer).
+      Heard d.control.number plain (item.Ok d.control.number ∷ answer_item d.control.number a ∷ [])
+      (cleared c d.control w).world) ok heard_two
 
-either_same : (b : Bool) (s t : Stepped) (r : Resources) → s.control.resources ≡ r → t.control.resources ≡ r →
-    (cond b s t).control.resources ≡ r
-either_same true s t r p q = p
-either_same false s t r p q = q
+  abbrev KindDid : Told Stepped → Type 0
+  KindDid t = Did plain d (if_fetched moves) (record { answer = within d t.answer; world = t.world })
 
-thread_same : (slot : ℕ) (c : Context) (d : Control) → (thread_call slot c d).control.resources ≡ d.resources
-unfolding thread_call
-thread_same slot c d = either_same _ _ _ d.resources (thread_at_same slot c (first_free d.contexts) d) refl
+  kind_did : (k : CallKind h slot c d.control w) → KindDid (after h slot c d.control w k)
+  unfolding file_resource forked
+  kind_did (MakesNew pages) =
+      quiet _ _ _ _ _ w heard so.once refl (new_follows (Space c.space) pages d.control.resources)
+  kind_did (MakesFile pages) =
+      quiet _ _ _ _ _ w heard so.once refl (found_follows (register c.regs 10) pages _ d.control.resources)
+  kind_did (Maps g) = quiet _ _ _ _ _ w heard so.once refl (map_follows c.space g d.control.resources)
+  kind_did (Unmaps start) = quiet _ _ _ _ _ w heard so.once refl (unmap_follows c.space start d.control.resources)
+  kind_did (Stops other) = quiet _ _ _ _ _ _ heard_two (so.stops _ other) refl (follows_same _)
+  kind_did (Forks free new is room slots spaces ok) =
+      let n = d.control.number in
+      let list = copies c.space d.control.resources in
+      let two = heard_granted ok in
+      made_so d plain moves (copy_moves n list) _ _ _ (so.forks is) two (copies_made n list _ two.form)
+      (copies_give n list plain) refl
+      (fits_fork n c.space new d.control.resources
+      (enough_there c.space new d.control.resources d.control.contexts room))
+  kind_did (EndsSpace is none ok) =
+      let n = d.control.number in
+      let list = private_numbers c.space d.control.resources in
+      let two = heard_granted ok in
+      made_so d plain moves (drop_moves n list) _ _ _ (so.ends is) two (drops_made n list _ two.form)
+      (drops_give n list plain) refl (fits_drop n c.space d.control.resources)
+  kind_did _ = quiet _ _ _ _ _ w heard so.once refl (follows_same _)
 
-begun_same : (slot : ℕ) (c : Context) (answer : Result Begun MapFault) (d : Control) →
-    (call_begun slot c answer d).control.resources ≡ d.resources
-unfolding call_begun
-begun_same slot c (Err fault) d = refl
-begun_same slot c (Ok begun.Copying) d = refl
-begun_same slot c (Ok begun.Leave) d = refl
+  by_did : KindDid (hypercall h slot c d.control w)
+  by_did = by_kinds KindDid h slot c d.control w kind_did
 
-call_same : (slot : ℕ) (c : Context) (d : Control) → (kernel_call slot c d).control.resources ≡ d.resources
-unfolding kernel_call
-call_same slot c d = begun_same slot _ _ d
+not_granted : (n : ℕ) (moves : List Move) (a : Answer) → a ≢ told.Ok →
+    if_granted moves (item.Ok n ∷ answer_item n a ∷ []) ≡ []
+not_granted n moves told.Ok other = absurd (other refl)
+not_granted n moves _ other = refl
+
+-- Every hypercall.
 
 pub hypercall_did : (h : Hypercall) (slot : ℕ) (d : Domain) (plain : PageId → List ℕ) (c : Context) (w : World) →
     Heard d.control.number plain (item.Ok d.control.number ∷ []) w →
     Did plain d (if_fetched (hypercall_moves h d.control c))
     (then_ask (hypercall h slot c d.control) (λ step. answered (within d step)) w)
-unfolding hypercall hypercall_moves new_call map_call unmap_call file_call file_resource
+unfolding hypercall hypercall_moves new_call file_call file_resource
 hypercall_did New slot d plain c w heard =
     let r = d.control.resources in
     let made = (new_resource (Space c.space) (register c.regs 10) r).answer in
     untouched _ _ _ _ _ w heard (made_still d.control.number made plain) (made_gives d.control.number made plain) refl
     (fits_make d.control.number r made _ (new_follows (Space c.space) (register c.regs 10) r))
-hypercall_did Map slot d plain c w heard =
-    quiet _ _ _ _ _ w heard refl refl (remapped_follows slot c _ _ _ (map_follows c.space _ d.control.resources))
-hypercall_did Unmap slot d plain c w heard =
-    quiet _ _ _ _ _ w heard refl refl (remapped_follows slot c _ _ _ (unmap_follows c.space _ d.control.resources))
 hypercall_did hyper.File slot d plain c w heard =
     let place = position (holds_file (register c.regs 10)) d.control.resources.held in
     untouched _ _ _ _ _ w heard (file_still d.control c place plain) (file_gives d.control c place plain) refl
     (file_fits d.control c place)
-hypercall_did Thread slot d plain c w heard =
-    quiet _ _ _ _ _ w heard refl refl (follows_equal _ _ (thread_same slot c d.control))
-hypercall_did ForkSpace slot d plain c w heard = fork_did slot d plain c w heard
-hypercall_did Exit slot d plain c w heard = exit_did slot d plain c w heard
-hypercall_did Call slot d plain c w heard =
-    quiet _ _ _ _ _ w heard refl refl (follows_equal _ _ (call_same slot c d.control))
-hypercall_did Unknown slot d plain c w heard = quiet _ _ _ _ _ w heard refl refl (follows_same _)
+hypercall_did ForkSpace slot d plain c w heard =
+    by_did ForkSpace slot d plain c w (hypercall_moves ForkSpace d.control c) (record {
+      once = refl;
+      stops = not_granted d.control.number (copy_moves d.control.number (copies c.space d.control.resources));
+      forks = λ is. refl;
+      ends = λ is. absurd cc;
+    }) heard
+hypercall_did Exit slot d plain c w heard =
+    by_did Exit slot d plain c w (hypercall_moves Exit d.control c) (record {
+      once = refl;
+      stops = not_granted d.control.number
+          (drop_moves d.control.number (private_numbers c.space d.control.resources));
+      forks = λ is. absurd cc;
+      ends = λ is. refl;
+    }) heard
+hypercall_did h slot d plain c w heard =
+    by_did h slot d plain c w (hypercall_moves h d.control c) (record {
+      once = refl;
+      stops = λ a other. refl;
+      forks = λ is. absurd cc;
+      ends = λ is. absurd cc;
+    }) heard

@@ -1,5 +1,5 @@
 -- A call to the kernel, as it begins, as its bytes are copied one a step, and as it is answered.
-use Rattle.std.proofs.Common.{◌≡◌, ◌≢◌, ◌⊎◌, inl, inr, ℕ, ◌+◌, ◌^◌, ◌<◌, ◌≤◌, Bool, true, false, cond, List, Option, Some, None, Result, Ok, Err, refl, ◌∙◌, arith}
+use Rattle.std.proofs.Common.{◌≡◌, ◌≢◌, ◌⊎◌, inl, inr, ℕ, ◌+◌, ◌^◌, ◌<◌, ◌≤◌, Bool, true, false, cond, List, Option, Some, None, refl, ◌∙◌, arith}
 use Rattle.std.specs.Prelude.{◌==◌, ◌&&◌, nat_le}
 use Rattle.std.proofs.lemmas.Bool.{eqb-true, leb-true, leb-false, and_cases, and_parts, or_cases}
 use Rattle.std.proofs.lemmas.List.{get_or-set_other}
@@ -9,13 +9,10 @@ use Rattle.cloak_model.specs.declared.answer.Answer.{Answer}
 use Rattle.cloak_model.specs.declared.answer.Answer.TheVariants as told
 use Rattle.cloak_model.specs.declared.context.Phase.{Phase}
 use Rattle.cloak_model.specs.declared.context.Phase.TheVariants.{Plain, CopyIn, Waiting, CopyOut}
-use Rattle.cloak_model.specs.declared.inside.Begun.{Begun}
-use Rattle.cloak_model.specs.declared.inside.Begun.TheVariants as begun
 use Rattle.cloak_model.specs.declared.inside.Copied.{Copied}
 use Rattle.cloak_model.specs.declared.inside.Copied.TheVariants as copied
-use Rattle.cloak_model.specs.declared.resource.MapFault.{MapFault}
-use Rattle.cloak_model.specs.Calls.{call_number, call_length, buffer, area, takes_bytes, gives_bytes, is_in_bounds, is_apart, is_good, BeginsCall, waiting, begin_call, Copy, copy, copy_refused, copy_in_step, copy_out_step, finish_call}
-use Rattle.cloak_model.proofs.CallParts.{copy_begin, call_begin, in_put, in_reached, in_placed, in_step, out_reached, out_got, out_placed, out_step}
+use Rattle.cloak_model.specs.Calls.{call_number, call_length, buffer, area, takes_bytes, gives_bytes, is_in_bounds, is_apart, is_good, Copy, copy, copy_refused, copy_in_step, copy_out_step, finish_call}
+use Rattle.cloak_model.proofs.CallParts.{in_put, in_reached, in_placed, in_step, out_reached, out_got, out_placed, out_step}
 use Rattle.cloak_model.specs.Contexts.{Context, set_word, in_phase, has_buffer}
 use Rattle.cloak_model.specs.Resources.{Resources}
 use Rattle.cloak_model.specs.World.{World}
@@ -24,7 +21,7 @@ use Rattle.limit_law.proofs.Contexts.{with_register_length, with_register_zero}
 
 -- The same context in another phase, and with an answer.
 
-phase_steady : (c : Context) (phase : Phase) → IsSteady c → IsPhase c.regs phase → IsSteady (in_phase phase c)
+pub phase_steady : (c : Context) (phase : Phase) → IsSteady c → IsPhase c.regs phase → IsSteady (in_phase phase c)
 phase_steady c phase s here =
     record {
       registers = s.registers;
@@ -162,18 +159,7 @@ module _ (c : Context) (s : IsSteady c) where
     unfolding copy_out_step
     copy_out_one domain r w = out_step_one _ domain r w refl
 
--- How a call begins. One that is refused leaves the context.
-
-abbrev pub BegunIdle : Context → Result Begun MapFault → Context → Type 0
-BegunIdle c (Err f) c' = c' ≡ c
-BegunIdle c (Ok begun.Copying) c' = WaitsOnNoHart c'.phase c'.on
-BegunIdle c (Ok begun.Leave) c' = Unit {0}
-
-pub record AfterBegin (c : Context) (b : BeginsCall) : Type 0 where
-  pub steady : IsSteady b.context
-  pub space : b.context.space ≡ c.space
-  pub on : b.context.on ≡ c.on
-  pub idle : BegunIdle c b.answer b.context
+-- How a call begins.
 
 in_bounds : (c : Context) → is_in_bounds c ≡ true → IsCall c.regs
 in_bounds c is =
@@ -193,38 +179,27 @@ takes n is = elim (or_cases (n == 1) (n == 2) is) [
   | inr two ↦ inr (eqb-true n 2 two)
 ]
 
+pub begins_copy : (r : Resources) (c : Context) → takes_bytes (call_number c) ≡ true → is_good r c ≡ true →
+    IsPhase c.regs (CopyIn 0)
+begins_copy r c is good =
+    record { number = takes _ is; part = omega arith; call = in_bounds c (good_in_bounds r c good) }
+
+no_buffer : (n : ℕ) → has_buffer n ≡ false → 1 ≤ n → n ≤ 3 → ⊥
+no_buffer n is low high = elim (and_cases (nat_le 1 n) (nat_le n 3) is) [
+  | inl below ↦ let x = leb-false 1 n below in absurd (omega (arith, x, low))
+  | inr above ↦ let x = leb-false n 3 above in absurd (omega (arith, x, high))
+]
+
+waits_by : (t : Bool) (r : Resources) (c : Context) → has_buffer (call_number c) ≡ t → (t ≡ true → is_good r c ≡ true) →
+    IsPhase c.regs Waiting
+waits_by true r c is good = λ low high. in_bounds c (good_in_bounds r c (good refl))
+waits_by false r c is good = λ low high. absurd (no_buffer _ is low high)
+
+pub waits_so : (r : Resources) (c : Context) → (has_buffer (call_number c) ≡ true → is_good r c ≡ true) →
+    IsPhase c.regs Waiting
+waits_so r c good = waits_by (has_buffer (call_number c)) r c refl good
+
 module _ (c : Context) (s : IsSteady c) where
-  waits : IsPhase c.regs Waiting → AfterBegin c (waiting c)
-  waits here = record { steady = phase_steady c Waiting s here; space = refl; on = refl; idle = tt }
-
-  begin_either : (t : Bool) → takes_bytes (call_number c) ≡ t → IsCall c.regs →
-      AfterBegin c (cond t (record { answer = Ok begun.Copying; context = in_phase (CopyIn 0) c }) (waiting c))
-  begin_either true is call = record {
-    steady = phase_steady c (CopyIn 0) s (record { number = takes _ is; part = omega arith; call = call });
-    space = refl;
-    on = refl;
-    idle = tt;
-  }
-  begin_either false is call = waits (λ a b. call)
-
-  copy_begin_one : (t : Bool) → (t ≡ true → IsCall c.regs) → AfterBegin c (copy_begin t c)
-  copy_begin_one false call = record { steady = s; space = refl; on = refl; idle = refl }
-  copy_begin_one true call = begin_either _ refl (call refl)
-
-  no_buffer : (n : ℕ) → has_buffer n ≡ false → 1 ≤ n → n ≤ 3 → ⊥
-  no_buffer n is low high = elim (and_cases (nat_le 1 n) (nat_le n 3) is) [
-    | inl below ↦ let x = leb-false 1 n below in absurd (omega (arith, x, low))
-    | inr above ↦ let x = leb-false n 3 above in absurd (omega (arith, x, high))
-  ]
-
-  call_begin_one : (t : Bool) (r : Resources) → has_buffer (call_number c) ≡ t → AfterBegin c (call_begin t r c)
-  call_begin_one false r is = waits (λ a b. absurd (no_buffer _ is a b))
-  call_begin_one true r is = copy_begin_one _ (λ good. in_bounds c (good_in_bounds r c good))
-
-  pub begin_one : (r : Resources) → AfterBegin c (begin_call r c)
-  unfolding begin_call
-  begin_one r = call_begin_one _ r refl
-
   -- An answer to one that waits.
 
   pub record AfterFinish (k : Context) : Type 0 where

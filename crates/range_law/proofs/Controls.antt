@@ -1,25 +1,18 @@
 -- Contexts and resources of a program over its step: contexts fit, and there are not more than there may be.
-use Rattle.std.proofs.Common.{◌≡◌, ◌∙◌, ℕ, ◌+◌, ◌%◌, ◌<◌, ◌≤◌, nat_le, nat_lt, Bool, true, false, not, List, [], ◌∷◌, length, slice_set, Option, Some, None, IfSome, unwrap_or, Result, Ok, Err, refl, sym, subst, arith}
+use Rattle.std.proofs.Common.{◌≡◌, ◌∙◌, ℕ, ◌+◌, ◌<◌, ◌≤◌, nat_le, nat_lt, Bool, not, List, [], ◌∷◌, length, slice_set, Option, Some, None, IfSome, Result, Ok, Err, refl, sym, subst, arith}
 use Rattle.std.specs.Prelude.{◌==◌, ◌||◌, position, is_none, is_some}
 use Rattle.std.specs.List.{AllByRecursion, position_or_len, list_any}
 use Rattle.std.proofs.lemmas.Bool.{cond_both, ltb-true}
 use Rattle.std.proofs.lemmas.List.{length-set, length-map}
 use Rattle.cloak_base.specs.Registers.{register}
-use Rattle.cloak_base.specs.declared.names.CtxId.{CtxId}
-use Rattle.cloak_model.specs.declared.answer.Answer.{Answer}
-use Rattle.cloak_model.specs.declared.answer.Answer.TheVariants as told
 use Rattle.cloak_model.specs.declared.context.Phase.{Phase}
 use Rattle.cloak_model.specs.declared.context.Phase.TheVariants.{Plain, CopyIn, Waiting, CopyOut}
 use Rattle.cloak_model.specs.declared.context.ResumeFault.{ResumeFault}
 use Rattle.cloak_model.specs.declared.context.WordPlace.{WordPlace}
 use Rattle.cloak_model.specs.declared.context.Why.{Why}
 use Rattle.cloak_model.specs.declared.context.Why.TheVariants as why
-use Rattle.cloak_model.specs.declared.inside.Begun.{Begun}
-use Rattle.cloak_model.specs.declared.inside.Begun.TheVariants as begun
 use Rattle.cloak_model.specs.declared.inside.Copied.{Copied}
 use Rattle.cloak_model.specs.declared.inside.Copied.TheVariants as copied
-use Rattle.cloak_model.specs.declared.inside.Ended.{Ended}
-use Rattle.cloak_model.specs.declared.inside.Ended.TheVariants as ends
 use Rattle.cloak_model.specs.declared.inside.Ran.{Ran}
 use Rattle.cloak_model.specs.declared.inside.Ran.TheVariants as ran
 use Rattle.cloak_model.specs.declared.inside.Went.{Went}
@@ -28,27 +21,28 @@ use Rattle.cloak_model.specs.declared.item.Item.TheVariants as item
 use Rattle.cloak_model.specs.declared.resource.MapFault.{MapFault}
 use Rattle.cloak_model.specs.declared.resource.MapFault.TheVariants as fault
 use Rattle.cloak_model.specs.declared.resource.Owner.{Owner}
-use Rattle.cloak_model.specs.declared.resource.Owner.TheVariants.{File}
+use Rattle.cloak_model.specs.declared.resource.Owner.TheVariants.{Space, File}
 use Rattle.cloak_model.specs.declared.resource.Region.{Region}
 use Rattle.cloak_model.specs.declared.resource.Resource.{Resource}
-use Rattle.cloak_model.specs.AskPages.{ask_clear, ask_copy, ask_forget}
+use Rattle.cloak_model.specs.AskPages.{ask_copy, ask_forget}
 use Rattle.cloak_model.specs.Asking.{answered, then_ask}
 use Rattle.cloak_model.specs.Calls.{copy_in_step, copy_out_step}
-use Rattle.cloak_model.specs.Contexts.{Context, moved_on, suspended, end_at, context_at, context_number, shown, Resumed, resume_if, resume_at, is_reserved, unless_reserved}
+use Rattle.cloak_model.specs.Contexts.{Context, in_phase, moved_on, suspended, context_at, context_number, shown, Resumed, resume_if, resume_at, is_reserved, unless_reserved}
 use Rattle.cloak_model.specs.DomainState.{Control, Domain}
 use Rattle.cloak_model.specs.DomainStep.{DomainStepped, within, with_load, instruction_ended, copy_ended, phase_step, step_if, domain_step, interrupt_if, interrupt, answer_in, answer_taken, resume_told, resume_slot, after_write}
 use Rattle.cloak_model.specs.Files.{file_found, file_resource, holds_file}
-use Rattle.cloak_model.specs.Fork.{Spaces, marked, private_numbers, copies, with_copy, with_copies, forked_resources, child, forked, ask_copies, Fork, fork_fits, fork, End, ask_forgets, end_context, is_of_space}
-use Rattle.cloak_model.proofs.ForkParts.{fork_stopped, fork_cleared, fork_if, end_stopped, end_cleared, end_if}
-use Rattle.cloak_model.specs.Hypercalls.{Stepped, with_slot, stays_inside, leaves, stopped, fault_word, bad_call, with_answer, answers_word, number_word, number_told, remapped, map_told, new_call, map_call, unmap_call, file_call, thread_at, thread_call, with_spaces, fork_told, fork_call, end_told, exit_call, call_begun, kernel_call, Hypercall, New, Map, Unmap, File as FileCall, Thread, ForkSpace, Exit, Call, Unknown, hypercall, hypercall_of}
+use Rattle.cloak_model.specs.Fork.{Spaces, marked, private_numbers, copies, with_copy, with_copies, forked_resources, child, forked, ask_copies, ask_forgets}
+use Rattle.cloak_model.specs.Hypercalls.{Stepped, with_slot, stays_inside, leaves, stopped, fault_word, with_answer, answers_word, number_word, number_told, with_spaces, Hypercall, hypercall, hypercall_of}
 use Rattle.cloak_model.specs.InsideStep.{instruction_inside}
 use Rattle.cloak_model.specs.Record.{IsItem, IsWord}
 use Rattle.cloak_model.specs.Resources.{Resources, resource_at, regions_in, pages_of, all_pages, first_free, Mapped, refused, made_at, new_resource, is_region, overlaps, mapped, map_region, starts_at, unmap_region, without_space, drop_space}
 use Rattle.cloak_model.specs.World.{World}
+use Rattle.hypercall_kinds.specs.Kinds.{cleared, CallKind, Answers, MakesNew, MakesFile, Maps, Unmaps, Starts, BeginsCopy, Calls, Stops, Forks, Ends, EndsSpace, remaps, after}
+use Rattle.hypercall_kinds.proofs.ByKinds.{by_kinds}
 use Rattle.range_law.proofs.Bounds.{all_set, all_or, all_map}
 use Rattle.kernel_isolation.proofs.Shown.{either}
-use Rattle.range_law.proofs.Programs.{ContextFits, set_word_fits, moved_on_fits, register_fits, new_context_fits, WhyFits, shown_fits, RanFits, InstructionFits, instruction_told, CopiedFits, CopyFits, copy_in_told, copy_out_told, begin_call_fits, finish_call_fits}
-use Rattle.range_law.proofs.Worlds.{WorldFits, ToldFits, Anything, AnswerFits, then_fits, clear_told, copy_told, forget_told}
+use Rattle.range_law.proofs.Programs.{ContextFits, set_word_fits, moved_on_fits, in_phase_fits, register_fits, new_context_fits, WhyFits, shown_fits, RanFits, InstructionFits, instruction_told, CopiedFits, CopyFits, copy_in_told, copy_out_told, finish_call_fits}
+use Rattle.range_law.proofs.Worlds.{WorldFits, ToldFits, Anything, then_fits, clear_told, copy_told, forget_told}
 
 abbrev pub SlotFits : Option Context → Type 0
 SlotFits None = Unit {0}
@@ -208,40 +202,22 @@ number_told_fits slot c made d fits here m =
     word_fits slot c _ (record d { resources = made.resources }) (with_resources d _ fits m.numbers) here
     (number_word_fits made.answer m.answer)
 
-remapped_fits : (slot : ℕ) (c : Context) (answer : Result (Unit {0}) MapFault) (d : Control) → ControlFits d →
-    ContextFits c → SteppedFits (remapped slot c answer d)
-unfolding remapped
-remapped_fits slot c (Ok done) d fits here = record {
-  control = with_slot_fits slot _ d fits (answer_fits c 0 here (omega arith));
+remaps_fits : (slot : ℕ) (c : Context) (r : Resources) (d : Control) → ControlFits d → ContextFits c →
+    r.held ≡ d.resources.held → SteppedFits (remaps slot c r d)
+remaps_fits slot c r d fits here same = record {
+  control = with_slot_fits slot _ (record d { resources = r })
+      (with_resources d r fits (subst (λ (l : List (Option Resource)). length l ≤ 16) (sym same) fits.numbers))
+      (answer_fits c 0 here (omega arith));
   ended = tt;
 }
-remapped_fits slot c (Err f) d fits here = word_fits slot c (fault_word f) d fits here (fault_fits f)
 
-map_told_fits : (slot : ℕ) (c : Context) (made : Mapped (Unit {0})) (d : Control) → ControlFits d → ContextFits c →
-    KeepsNumbers d.resources made → SteppedFits (map_told slot c made d)
-map_told_fits slot c made d fits here keeps =
-    remapped_fits slot c made.answer (record d { resources = made.resources })
-    (with_resources d made.resources fits (subst (λ (l : List (Option Resource)). length l ≤ 16) (sym keeps) fits.numbers))
-    here
-
-thread_at_fits : (slot : ℕ) (c : Context) (o : Option ℕ) (d : Control) → ControlFits d → ContextFits c →
-    IfSome o (λ n. n < length d.contexts) → SteppedFits (thread_at slot c o d)
-unfolding thread_at
-thread_at_fits slot c None d fits here low = word_fits slot c _ d fits here (fault_fits fault.Full)
-thread_at_fits slot c (Some free) d fits here low =
-    let few = fits.slots.few in
-    word_fits slot c _ _
-    (with_slot_fits free _ d fits
-    (new_context_fits c.space _ _ _ (register_fits c 10 here) (register_fits c 11 here) (register_fits c 12 here))) here
-    (number_fits d.number free fits.number (omega (arith, few, low)))
-
-thread_fits : (slot : ℕ) (c : Context) (d : Control) → ControlFits d → ContextFits c →
-    SteppedFits (thread_call slot c d)
-unfolding thread_call
-thread_fits slot c d fits here =
-    either SteppedFits (register c.regs 10 % 4 == 0) _ _
-    (thread_at_fits slot c (first_free d.contexts) d fits here (found_low is_none d.contexts))
-    (word_fits slot c _ d fits here (fault_fits fault.BadArg))
+-- a free slot is one of eight
+free_low : (contexts : List (Option Context)) (free : ℕ) → SlotsFit contexts → first_free contexts ≡ Some free →
+    free < 8
+free_low contexts free fits is =
+    let few = fits.few in
+    let low = subst (λ (o : Option ℕ). IfSome o (λ n. n < length contexts)) is (found_low is_none contexts) in
+    omega (arith, few, low)
 
 -- Forking.
 
@@ -272,14 +248,6 @@ forked_fits c slot new r contexts here few slots = let same = copies_count new r
   numbers = omega (arith, few, same);
 }
 
-abbrev ForkAnswerFits : Result (Option CtxId) MapFault → Type 0
-ForkAnswerFits (Ok (Some ctx)) = IsWord ctx.0
-ForkAnswerFits _ = Unit {0}
-
-record ForkFits (f : Fork) : Type 0 where
-  pub answer : ForkAnswerFits f.answer
-  pub spaces : SpacesFit f.spaces
-
 copies_told : (domain : ℕ) (list : List (ℕ × ℕ)) (w : World) → WorldFits w →
     ToldFits Anything (ask_copies domain list w)
 unfolding ask_copies
@@ -288,83 +256,7 @@ copies_told domain (copy ∷ rest) w world =
     then_fits Anything Anything (ask_copy domain copy.0 copy.1) (λ done. ask_copies domain rest) w
     (copy_told domain copy.0 copy.1 w world) (λ done v p there. copies_told domain rest v there)
 
-fork_stopped_told : (r : Resources) (contexts : List (Option Context)) (w : World) → NumbersFit r →
-    SlotsFit contexts → WorldFits w → ToldFits ForkFits (fork_stopped r contexts w)
-fork_stopped_told r contexts w few slots world =
-    record { answer = record { answer = tt; spaces = record { slots = slots; numbers = few } }; world = world }
-
-fork_cleared_told : (domain : ℕ) (c : Context) (slot new : ℕ) (r : Resources) (contexts : List (Option Context))
-    (a : Answer) (w : World) → domain < 4 → slot < 8 → ContextFits c → NumbersFit r → SlotsFit contexts →
-    WorldFits w → ToldFits ForkFits (fork_cleared domain c slot new r contexts a w)
-fork_cleared_told domain c slot new r contexts told.Ok w d s here few slots world =
-    let made : Fork = record {
-      answer = Ok (Some (record { 0 = context_number domain slot }));
-      spaces = forked c slot new r contexts;
-    } in
-    then_fits Anything ForkFits (ask_copies domain (copies c.space r)) (λ done. answered made) w
-    (copies_told domain _ w world) (λ done v p there. record {
-      answer = record { answer = number_fits domain slot d s; spaces = forked_fits c slot new r contexts here few slots };
-      world = there;
-    })
-fork_cleared_told domain c slot new r contexts (told.Absent cause) w d s here few slots world =
-    fork_stopped_told r contexts w few slots world
-fork_cleared_told domain c slot new r contexts (told.Word value) w d s here few slots world =
-    fork_stopped_told r contexts w few slots world
-fork_cleared_told domain c slot new r contexts told.Stopped w d s here few slots world =
-    fork_stopped_told r contexts w few slots world
-
-free_low : (o : Option ℕ) (n : ℕ) → n ≤ 8 → IfSome o (λ k. k < n) → unwrap_or o 0 < 8
-free_low None n few low = omega arith
-free_low (Some k) n few low = omega (arith, few, low)
-
-fork_if_told : (fits : Result (Unit {0}) MapFault) (domain : ℕ) (c : Context) (r : Resources)
-    (contexts : List (Option Context)) (w : World) → domain < 4 → ContextFits c → NumbersFit r → SlotsFit contexts →
-    WorldFits w → ToldFits ForkFits (fork_if fits domain c r contexts w)
-fork_if_told (Err f) domain c r contexts w d here few slots world =
-    record { answer = record { answer = tt; spaces = record { slots = slots; numbers = few } }; world = world }
-fork_if_told (Ok fits) domain c r contexts w d here few slots world =
-    let slot : ℕ = unwrap_or (first_free contexts) 0 in
-    let new : ℕ = unwrap_or (first_free r.spaces) 0 in
-    then_fits AnswerFits ForkFits (ask_clear domain (marked c.space r)) (fork_cleared domain c slot new r contexts) w
-    (clear_told domain _ w world)
-    (λ a v p there. fork_cleared_told domain c slot new r contexts a v d
-    (free_low (first_free contexts) (length contexts) slots.few (found_low is_none contexts)) here few slots there)
-
-fork_step_told : (domain : ℕ) (c : Context) (r : Resources) (contexts : List (Option Context)) (w : World) →
-    domain < 4 → ContextFits c → NumbersFit r → SlotsFit contexts → WorldFits w →
-    ToldFits ForkFits (fork domain c r contexts w)
-unfolding fork
-fork_step_told domain c r contexts w d here few slots world =
-    fork_if_told (fork_fits c.space r contexts) domain c r contexts w d here few slots world
-
-fork_told_fits : (slot : ℕ) (c : Context) (d : Control) (a : Result (Option CtxId) MapFault) (d' : Control) →
-    ControlFits d → ContextFits c → ForkAnswerFits a → ControlFits d' → SteppedFits (fork_told slot c d a d')
-unfolding fork_told
-fork_told_fits slot c d (Err f) d' fits here a fits' = word_fits slot c _ d fits here (fault_fits f)
-fork_told_fits slot c d (Ok None) d' fits here a fits' = stopped_fits d fits
-fork_told_fits slot c d (Ok (Some ctx)) d' fits here a fits' = word_fits slot c _ d' fits' here a
-
-fork_call_told : (slot : ℕ) (c : Context) (d : Control) (w : World) → ControlFits d → ContextFits c → WorldFits w →
-    ToldFits SteppedFits (fork_call slot c d w)
-unfolding fork_call
-fork_call_told slot c d w fits here world =
-    then_fits ForkFits SteppedFits (fork d.number c d.resources d.contexts)
-    (λ made. answered (fork_told slot c d made.answer (with_spaces made.spaces d))) w
-    (fork_step_told d.number c d.resources d.contexts w fits.number here fits.numbers fits.slots world)
-    (λ made v m there. record {
-      answer = fork_told_fits slot c d made.answer _ fits here m.answer (with_spaces_fits made.spaces d fits m.spaces);
-      world = there;
-    })
-
 -- Ending.
-
-abbrev EndFits : End → Type 0
-EndFits e = SpacesFit e.spaces
-
-end_stopped_told : (r : Resources) (contexts : List (Option Context)) (w : World) → NumbersFit r →
-    SlotsFit contexts → WorldFits w → ToldFits EndFits (end_stopped r contexts w)
-end_stopped_told r contexts w few slots world =
-    record { answer = record { slots = slots; numbers = few }; world = world }
 
 pub forgets_told : (domain : ℕ) (numbers : List ℕ) (w : World) → WorldFits w →
     ToldFits Anything (ask_forgets domain numbers w)
@@ -378,111 +270,73 @@ drop_fits : (space : ℕ) (r : Resources) → NumbersFit r → NumbersFit (drop_
 unfolding drop_space
 drop_fits space r few = let same = length-map r.held (without_space space) in omega (arith, few, same)
 
-end_cleared_told : (domain slot space : ℕ) (r : Resources) (contexts : List (Option Context)) (a : Answer) (w : World) →
-    NumbersFit r → SlotsFit contexts → WorldFits w → ToldFits EndFits (end_cleared domain slot space r contexts a w)
-end_cleared_told domain slot space r contexts told.Ok w few slots world =
-    let made : End = record {
-      ending = ends.SpaceGone space;
-      spaces = record { contexts = end_at slot contexts; resources = drop_space space r };
-    } in
-    then_fits Anything EndFits (ask_forgets domain (private_numbers space r)) (λ done. answered made) w
-    (forgets_told domain _ w world) (λ done v p there. record {
-      answer = record { slots = set_slot contexts slot None slots tt; numbers = drop_fits space r few };
-      world = there;
-    })
-end_cleared_told domain slot space r contexts (told.Absent cause) w few slots world =
-    end_stopped_told r contexts w few slots world
-end_cleared_told domain slot space r contexts (told.Word value) w few slots world =
-    end_stopped_told r contexts w few slots world
-end_cleared_told domain slot space r contexts told.Stopped w few slots world =
-    end_stopped_told r contexts w few slots world
-
-end_if_told : (others : Bool) (domain slot space : ℕ) (r : Resources) (contexts : List (Option Context)) (w : World) →
-    NumbersFit r → SlotsFit contexts → WorldFits w → ToldFits EndFits (end_if others domain slot space r contexts w)
-end_if_told true domain slot space r contexts w few slots world =
-    record { answer = record { slots = set_slot contexts slot None slots tt; numbers = few }; world = world }
-end_if_told false domain slot space r contexts w few slots world =
-    then_fits AnswerFits EndFits (ask_clear domain (marked space r)) (end_cleared domain slot space r contexts) w
-    (clear_told domain _ w world) (λ a v p there. end_cleared_told domain slot space r contexts a v few slots there)
-
-end_context_told : (domain slot space : ℕ) (r : Resources) (contexts : List (Option Context)) (w : World) →
-    NumbersFit r → SlotsFit contexts → WorldFits w → ToldFits EndFits (end_context domain slot space r contexts w)
-unfolding end_context
-end_context_told domain slot space r contexts w few slots world =
-    end_if_told (list_any (is_of_space space) (end_at slot contexts)) domain slot space r contexts w few slots world
-
 exit_fits : (slot : ℕ) (c : Context) (d : Control) → slot < 8 → ControlFits d → ContextFits c →
     IsItem (item.Leave (shown c (context_number d.number slot) why.Exit))
 exit_fits slot c d low fits here = shown_fits c _ why.Exit here (number_fits d.number slot fits.number low) tt
 
-end_told_fits : (slot : ℕ) (c : Context) (d : Control) (e : Ended) (d' : Control) → slot < 8 → ControlFits d →
-    ContextFits c → ControlFits d' → SteppedFits (end_told slot c d e d')
-unfolding end_told
-end_told_fits slot c d ends.Stopped d' low fits here fits' = stopped_fits d fits
-end_told_fits slot c d _ d' low fits here fits' =
-    record { control = fits'; ended = exit_fits slot c d low fits here }
-
-exit_call_told : (slot : ℕ) (c : Context) (d : Control) (w : World) → slot < 8 → ControlFits d → ContextFits c →
-    WorldFits w → ToldFits SteppedFits (exit_call slot c d w)
-unfolding exit_call
-exit_call_told slot c d w low fits here world =
-    then_fits EndFits SteppedFits (end_context d.number slot c.space d.resources d.contexts)
-    (λ made. answered (end_told slot c d made.ending (with_spaces made.spaces d))) w
-    (end_context_told d.number slot c.space d.resources d.contexts w fits.numbers fits.slots world)
-    (λ made v m there. record {
-      answer = end_told_fits slot c d made.ending _ low fits here (with_spaces_fits made.spaces d fits m);
-      world = there;
-    })
-
--- Calls to the kernel, and every hypercall.
-
-call_begun_fits : (slot : ℕ) (c : Context) (a : Result Begun MapFault) (d : Control) → slot < 8 → ControlFits d →
-    ContextFits c → SteppedFits (call_begun slot c a d)
-unfolding call_begun
-call_begun_fits slot c (Err f) d low fits here = stays_fits slot _ d fits (set_word_fits c 10 _ here (fault_fits f))
-call_begun_fits slot c (Ok begun.Copying) d low fits here = stays_fits slot c d fits here
-call_begun_fits slot c (Ok begun.Leave) d low fits here = leaves_fits slot c why.Call d low fits here tt
-
-kernel_call_fits : (slot : ℕ) (c : Context) (d : Control) → slot < 8 → ControlFits d → ContextFits c →
-    SteppedFits (kernel_call slot c d)
-unfolding kernel_call
-kernel_call_fits slot c d low fits here =
-    call_begun_fits slot _ _ d low fits (begin_call_fits d.resources (moved_on c) (moved_on_fits c here))
-
-new_call_fits : (slot : ℕ) (c : Context) (d : Control) → ControlFits d → ContextFits c → SteppedFits (new_call slot c d)
-unfolding new_call
-new_call_fits slot c d fits here = number_told_fits slot c _ d fits here (new_fits _ _ d.resources fits.numbers)
-
-file_call_fits : (slot : ℕ) (c : Context) (d : Control) → ControlFits d → ContextFits c →
-    SteppedFits (file_call slot c d)
-unfolding file_call
-file_call_fits slot c d fits here = number_told_fits slot c _ d fits here (file_fits _ _ d.resources fits.numbers)
-
-map_call_fits : (slot : ℕ) (c : Context) (d : Control) → ControlFits d → ContextFits c → SteppedFits (map_call slot c d)
-unfolding map_call
-map_call_fits slot c d fits here = map_told_fits slot c _ d fits here (map_keeps c.space _ d.resources)
-
-unmap_call_fits : (slot : ℕ) (c : Context) (d : Control) → ControlFits d → ContextFits c →
-    SteppedFits (unmap_call slot c d)
-unfolding unmap_call
-unmap_call_fits slot c d fits here = map_told_fits slot c _ d fits here (unmap_keeps c.space _ d.resources)
-
 at_once : (s : Stepped) (w : World) → SteppedFits s → WorldFits w → ToldFits SteppedFits (answered s w)
 at_once s w fits world = record { answer = fits; world = world }
 
-hypercall_told : (h : Hypercall) (slot : ℕ) (c : Context) (d : Control) (w : World) → slot < 8 → ControlFits d →
-    ContextFits c → WorldFits w → ToldFits SteppedFits (hypercall h slot c d w)
-unfolding hypercall
-hypercall_told New slot c d w low fits here world = at_once _ w (new_call_fits slot c d fits here) world
-hypercall_told Map slot c d w low fits here world = at_once _ w (map_call_fits slot c d fits here) world
-hypercall_told Unmap slot c d w low fits here world = at_once _ w (unmap_call_fits slot c d fits here) world
-hypercall_told FileCall slot c d w low fits here world = at_once _ w (file_call_fits slot c d fits here) world
-hypercall_told Thread slot c d w low fits here world = at_once _ w (thread_fits slot c d fits here) world
-hypercall_told ForkSpace slot c d w low fits here world = fork_call_told slot c d w fits here world
-hypercall_told Exit slot c d w low fits here world = exit_call_told slot c d w low fits here world
-hypercall_told Call slot c d w low fits here world = at_once _ w (kernel_call_fits slot c d low fits here) world
-hypercall_told Unknown slot c d w low fits here world =
-    at_once _ w (word_fits slot c bad_call d fits here (omega arith)) world
+-- Every hypercall, by its kind.
+
+module _ (h : Hypercall) (slot : ℕ) (c : Context) (d : Control) (w : World) (low : slot < 8) (fits : ControlFits d)
+    (here : ContextFits c) (world : WorldFits w) where
+  settled : WorldFits (cleared c d w).world
+  settled = (clear_told d.number (marked c.space d.resources) w world).world
+
+  calling : (phase : Phase) → ContextFits (in_phase phase (moved_on c))
+  calling phase = in_phase_fits phase (moved_on c) (moved_on_fits c here)
+
+  kind_told : (k : CallKind h slot c d w) → ToldFits SteppedFits (after h slot c d w k)
+  kind_told (Answers value word) = at_once _ w (word_fits slot c value d fits here word) world
+  kind_told (MakesNew pages) =
+      at_once _ w (number_told_fits slot c _ d fits here (new_fits (Space c.space) pages d.resources fits.numbers))
+      world
+  kind_told (MakesFile pages) =
+      at_once _ w
+      (number_told_fits slot c _ d fits here (file_fits (register c.regs 10) pages d.resources fits.numbers)) world
+  kind_told (Maps g) = at_once _ w (remaps_fits slot c _ d fits here (map_keeps c.space g d.resources)) world
+  kind_told (Unmaps start) =
+      at_once _ w (remaps_fits slot c _ d fits here (unmap_keeps c.space start d.resources)) world
+  kind_told (Starts free lowest aligned) =
+      at_once _ w
+      (word_fits slot c _ _
+      (with_slot_fits free _ d fits
+      (new_context_fits c.space _ _ _ (register_fits c 10 here) (register_fits c 11 here) (register_fits c 12 here)))
+      here (number_fits d.number free fits.number (free_low d.contexts free fits.slots lowest))) world
+  kind_told (BeginsCopy takes good) = at_once _ w (stays_fits slot _ d fits (calling (CopyIn 0))) world
+  kind_told (Calls good) = at_once _ w (leaves_fits slot _ why.Call d low fits (calling Waiting) tt) world
+  kind_told (Stops other) = record { answer = stopped_fits d fits; world = settled }
+  kind_told (Forks free new is room slots spaces ok) = record {
+    answer = word_fits slot c _ _
+        (with_spaces_fits (forked c free new d.resources d.contexts) d fits
+        (forked_fits c free new d.resources d.contexts here fits.numbers fits.slots)) here
+        (number_fits d.number free fits.number (free_low d.contexts free fits.slots slots));
+    world = (copies_told d.number (copies c.space d.resources) _ settled).world;
+  }
+  kind_told Ends = record {
+    answer = record {
+      control = with_spaces_fits _ d fits (record {
+        slots = set_slot d.contexts slot None fits.slots tt;
+        numbers = fits.numbers;
+      });
+      ended = exit_fits slot c d low fits here;
+    };
+    world = world;
+  }
+  kind_told (EndsSpace is none ok) = record {
+    answer = record {
+      control = with_spaces_fits _ d fits (record {
+        slots = set_slot d.contexts slot None fits.slots tt;
+        numbers = drop_fits c.space d.resources fits.numbers;
+      });
+      ended = exit_fits slot c d low fits here;
+    };
+    world = (forgets_told d.number (private_numbers c.space d.resources) _ settled).world;
+  }
+
+  hypercall_told : ToldFits SteppedFits (hypercall h slot c d w)
+  hypercall_told = by_kinds (λ t. ToldFits SteppedFits t) h slot c d w kind_told
 
 -- The step.
 

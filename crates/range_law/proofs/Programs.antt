@@ -29,8 +29,8 @@ use Rattle.cloak_model.specs.declared.outcome.Effect.{Effect}
 use Rattle.cloak_model.specs.declared.outcome.Effect.TheVariants as does
 use Rattle.cloak_model.specs.AskPages.{ask_reach, ask_read, ask_write, ask_get, ask_put}
 use Rattle.cloak_model.specs.Asking.{Asking, answered, then_ask}
-use Rattle.cloak_model.specs.Calls.{buffer, area, call_length, call_number, takes_bytes, gives_bytes, is_good, BeginsCall, begin_call, Copy, copy_ends, copy_refused, byte_address, copy_in_step, copy_out_step, finish_call, is_cloaked}
-use Rattle.cloak_model.proofs.CallParts.{copy_begin, call_begin, in_put, in_reached, in_placed, in_step, out_reached, out_got, out_placed, out_step}
+use Rattle.cloak_model.specs.Calls.{buffer, area, call_length, call_number, gives_bytes, Copy, copy_ends, copy_refused, byte_address, copy_in_step, copy_out_step, finish_call, is_cloaked}
+use Rattle.cloak_model.proofs.CallParts.{in_put, in_reached, in_placed, in_step, out_reached, out_got, out_placed, out_step}
 use Rattle.cloak_model.specs.Contexts.{Context, set_word, moved_on, in_phase, new_context, has_buffer, call_arguments, no_arguments, is_about_address, shown_address, shown, word_of_page}
 use Rattle.cloak_model.specs.Effect.{IsWidth, effect}
 use Rattle.cloak_model.specs.KernelStep.{atomic_kind, misaligned}
@@ -449,24 +449,7 @@ pub copy_out_told : (domain : ℕ) (r : Resources) (c : Context) (done total : �
 unfolding copy_out_step
 copy_out_told domain r c done total w fits world = out_step_told (nat_le total done) domain r c done total w fits world
 
--- A call's beginning and its answer.
-
-abbrev BeginsFit : BeginsCall → Type 0
-BeginsFit b = ContextFits b.context
-
-copy_begin_fits : (good : Bool) (c : Context) → ContextFits c → BeginsFit (copy_begin good c)
-copy_begin_fits false c fits = fits
-copy_begin_fits true c fits =
-    either BeginsFit (takes_bytes (call_number c)) _ _ (in_phase_fits (CopyIn 0) c fits) (in_phase_fits Waiting c fits)
-
-call_begin_fits : (with_buffer : Bool) (r : Resources) (c : Context) → ContextFits c →
-    BeginsFit (call_begin with_buffer r c)
-call_begin_fits false r c fits = in_phase_fits Waiting c fits
-call_begin_fits true r c fits = copy_begin_fits (is_good r c) c fits
-
-pub begin_call_fits : (r : Resources) (c : Context) → ContextFits c → ContextFits (begin_call r c).context
-unfolding begin_call
-begin_call_fits r c fits = call_begin_fits (has_buffer (call_number c)) r c fits
+-- A call's answer.
 
 pub finish_call_fits : (answer : ℕ) (c : Context) → ContextFits c → IsWord answer → ContextFits (finish_call answer c)
 unfolding finish_call

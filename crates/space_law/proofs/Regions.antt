@@ -1,6 +1,6 @@
 -- Which spaces a change of resources leaves their regions.
-use Rattle.std.proofs.Common.{◌≡◌, ◌∙◌, ◌⊎◌, ℕ, ◌+◌, Bool, true, false, ◌&&◌, cond, List, [], Option, Some, None, Result, Ok, Err, inl, inr, refl, sym, ap}
-use Rattle.std.specs.Prelude.{◌==◌, ◌||◌, not, nat_le, nat_lt, length, filter, slice_index_or, slice_set, is_none, is_some, unwrap_or, option_map, find}
+use Rattle.std.proofs.Common.{◌≡◌, ◌∙◌, ◌⊎◌, ℕ, ◌+◌, Bool, true, false, cond, List, [], Option, Some, None, Ok, Err, inl, inr, refl, sym, ap}
+use Rattle.std.specs.Prelude.{◌==◌, ◌||◌, not, nat_le, nat_lt, length, filter, slice_index_or, slice_set, is_none, unwrap_or, option_map, find}
 use Rattle.std.specs.List.{list_any}
 use Rattle.std.proofs.lemmas.Bool.{false≢true, cases_eq}
 use Rattle.std.proofs.lemmas.List.{get_or-set_other}
@@ -11,9 +11,7 @@ use Rattle.cloak_model.specs.declared.resource.MapFault.{MapFault}
 use Rattle.cloak_model.specs.declared.resource.MapFault.TheVariants.{Full, BadArg, Overlap, NotFound}
 use Rattle.cloak_model.specs.declared.resource.Owner.{Owner}
 use Rattle.cloak_model.specs.declared.resource.Region.{Region}
-use Rattle.cloak_model.specs.Contexts.{Context}
 use Rattle.cloak_model.specs.Files.{file_found, file_resource}
-use Rattle.cloak_model.specs.Fork.{fork_fits}
 use Rattle.cloak_model.specs.Resources.{Resources, Mapped, regions_in, is_inside, place_in, page_id, lookup, page_at, first_free, made_at, new_resource, pages_of, all_pages, size_for, resource_at, is_region, overlaps, with_region, starts_at, mapped, map_region, unmap_region}
 
 -- a space has the regions that it had, or it had none
@@ -84,43 +82,35 @@ file_spaces number pages r = (found_leaves number pages _ r).same
 
 -- Regions.
 
--- At most one space is changed, and none by a refusal.
-pub record Changes (changed : ℕ) (r : Resources) (made : Mapped (Unit {0})) : Type 0 where
-  pub others : (space : ℕ) → (space ≡ changed → ⊥) → KeepsRegions r made.resources space
-  pub refusal : (fault : MapFault) → made.answer ≡ Err fault → (space : ℕ) → KeepsRegions r made.resources space
-
-pub changes_none : (changed : ℕ) (fault : MapFault) (r : Resources) →
-    Changes changed r (record { answer = Err fault; resources = r })
-changes_none changed fault r = record { others = λ space other. inl refl; refusal = λ f is space. inl refl }
+-- At most this space is changed.
+abbrev pub ChangesOne : ℕ → Resources → Mapped (Unit {0}) → Type 0
+ChangesOne changed r made = (space : ℕ) → (space ≡ changed → ⊥) → KeepsRegions r made.resources space
 
 -- what is refused changes nothing
-pub unless_changes : (changed : ℕ) (r : Resources) (b : Bool) (fault : MapFault) (made : Mapped (Unit {0})) →
-    Changes changed r made → Changes changed r (cond b (record { answer = Err fault; resources = r }) made)
-unless_changes changed r true fault made changes = changes_none changed fault r
+unless_changes : (changed : ℕ) (r : Resources) (b : Bool) (fault : MapFault) (made : Mapped (Unit {0})) →
+    ChangesOne changed r made → ChangesOne changed r (cond b (record { answer = Err fault; resources = r }) made)
+unless_changes changed r true fault made changes = λ space other. inl refl
 unless_changes changed r false fault made changes = changes
 
-pub changes_one : (changed : ℕ) (regions : List Region) (r : Resources) →
-    Changes changed r
+changes_one : (changed : ℕ) (regions : List Region) (r : Resources) →
+    ChangesOne changed r
     (record { answer = Ok tt; resources = record r { spaces = slice_set r.spaces changed (Some regions) } })
-changes_one changed regions r = record {
-  others = λ space other. inl (other_regions r changed (Some regions) space other);
-  refusal = λ f is space. absurd cc;
-}
+changes_one changed regions r space other = inl (other_regions r changed (Some regions) space other)
 
-pub mapped_changes : (space : ℕ) (g : Region) (size : Option ℕ) (regions : List Region) (r : Resources) →
-    Changes space r (mapped space g size regions r)
+mapped_changes : (space : ℕ) (g : Region) (size : Option ℕ) (regions : List Region) (r : Resources) →
+    ChangesOne space r (mapped space g size regions r)
 unfolding mapped
-mapped_changes space g None regions r = changes_none space _ r
+mapped_changes space g None regions r = λ other spared. inl refl
 mapped_changes space g (Some size) regions r =
     unless_changes space r (not (is_region g size)) BadArg _
     (unless_changes space r (list_any (overlaps g) regions) Overlap _
     (unless_changes space r (nat_le 16 (length regions)) Full _ (changes_one space (with_region g regions) r)))
 
-pub map_changes : (space : ℕ) (g : Region) (r : Resources) → Changes space r (map_region space g r)
+pub map_changes : (space : ℕ) (g : Region) (r : Resources) → ChangesOne space r (map_region space g r)
 unfolding map_region
 map_changes space g r = mapped_changes space g (size_for space (resource_at r g.resource)) (regions_in r space) r
 
-pub unmap_changes : (space start : ℕ) (r : Resources) → Changes space r (unmap_region space start r)
+pub unmap_changes : (space start : ℕ) (r : Resources) → ChangesOne space r (unmap_region space start r)
 unfolding unmap_region
 unmap_changes space start r =
     unless_changes space r (not (list_any (starts_at start) (regions_in r space))) NotFound _
@@ -128,32 +118,12 @@ unmap_changes space start r =
 
 -- New spaces.
 
-pub free_at : (r : Resources) (found : Option ℕ) → first_free r.spaces ≡ found → is_some found ≡ true →
-    regions_in r (unwrap_or found 0) ≡ []
-free_at r None is free = absurd (false≢true free)
-free_at r (Some n) is free =
-    let passes = (position-Some is_none r.spaces n None is).1 in
-    no_regions (slice_index_or r.spaces n None) passes
-  where
-    no_regions : (o : Option (List Region)) → is_none o ≡ true → unwrap_or o [] ≡ []
-    no_regions None none = refl
-    no_regions (Some regions) none = absurd (false≢true none)
+no_regions : (o : Option (List Region)) → is_none o ≡ true → unwrap_or o [] ≡ []
+no_regions None none = refl
+no_regions (Some regions) none = absurd (false≢true none)
 
--- what fits has a free space
-abbrev pub HasFree : Resources → Result (Unit {0}) MapFault → Type 0
-HasFree r (Err fault) = Unit {0}
-HasFree r (Ok fits) = regions_in r (unwrap_or (first_free r.spaces) 0) ≡ []
-
-pub has_free_if : (r : Resources) (slot free rest : Bool) → is_some (first_free r.spaces) ≡ free →
-    HasFree r (cond (slot && (free && rest)) (Ok tt) (Err Full))
-has_free_if r true true true is = free_at r (first_free r.spaces) refl is
-has_free_if r true true false is = tt
-has_free_if r true false rest is = tt
-has_free_if r false free rest is = tt
-
-pub has_free : (space : ℕ) (r : Resources) (contexts : List (Option Context)) → HasFree r (fork_fits space r contexts)
-unfolding fork_fits
-has_free space r contexts = has_free_if r (is_some (first_free contexts)) (is_some (first_free r.spaces)) _ refl
+pub free_at : (r : Resources) (n : ℕ) → first_free r.spaces ≡ Some n → regions_in r n ≡ []
+free_at r n is = no_regions (slice_index_or r.spaces n None) (position-Some is_none r.spaces n None is).1
 
 -- a space at a free number leaves all that there were
 pub new_space_regions : (r : Resources) (new : ℕ) (o : Option (List Region)) (space : ℕ) → regions_in r new ≡ [] →
