@@ -29,7 +29,6 @@ use Rattle.cloaked_side.proofs.Sided.{Repaged, still_turned, sees_still}
 use Rattle.cloaked_side.proofs.Tracking.{respaced, tracks_on}
 use Rattle.cloaked_side.specs.Tracking.{Tracks, TracksBy, MapsBy, MapsStill, spent_in}
 use Rattle.shadow_fold.specs.Reads.{Spends, SpendsFor, looks_in, reads_due}
-use Rattle.cloaked_side.specs.Seeing.{asked_by}
 use Rattle.cloaked_side.proofs.Spending.{ciphers_due, due_then, looks_then, maps_of, maps_on, maps_still, spends_looks, spends_more, spends_then}
 use Rattle.shadow_fold.specs.Fold.{Fold, after_events}
 use Rattle.cloak_base.specs.declared.names.SpaceId.{SpaceId}
@@ -38,16 +37,16 @@ use Rattle.cloak_model.specs.Asking.{Told}
 use Rattle.cloak_base.specs.Constants.{frame_of}
 use Rattle.cloak_model.specs.PageMoves.{with_newest}
 use Rattle.cloak_pager.specs.Asking.{ReadsNewest, FollowsCallStill, after_write_plain}
-use Rattle.cloaked_side.specs.Seeing.{Sees, SeesCloak, StaysWithin}
-use Rattle.cloak_base.specs.declared.names.Frame.{Frame}
+use Rattle.shadow_fold.specs.declared.entry.Regime.{Regime}
+use Rattle.cloaked_side.specs.Seeing.{FollowsAlways, IsRegimeFor, Sees, SeesCloak, asked_by, space_in}
 use Rattle.cloaked_side.specs.declared.side.Side.{Side}
 
 -- the domain that is answered
 domain_of : {E : Type 0} (gave : E → E → List Piece → Type 0) (first now : Side E) (w : World) →
-    Sees gave first now w → now.regime.domain ≡ (regime_of w).domain
+    Sees gave first now w → now.domain ≡ (regime_of w).domain
 domain_of gave first now (Flat ram) sees = absurd sees
 domain_of gave first now (Alone handed) sees = absurd sees
-domain_of gave first now (Cloaked c) sees = ap (λ v. v.domain) sees.regime
+domain_of gave first now (Cloaked c) sees = sees.domain
 
 -- whether a draw was missing
 missed_of : {E : Type 0} (gave : E → E → List Piece → Type 0) (first now : Side E) (w : World) →
@@ -57,7 +56,7 @@ missed_of gave first now (Alone handed) sees = absurd sees
 missed_of gave first now (Cloaked c) sees = sees.holds.missed
 
 pub answered_told : {E : Type 0} (gave : E → E → List Piece → Type 0) (first old new : Side E) (a : Answer) (w : World) →
-    Sees gave first old w → Sees gave first new (written (answer_item old.regime.domain a) w) →
+    Sees gave first old w → Sees gave first new (written (answer_item old.domain a) w) →
     FollowsFrom (Sees gave first) new a (replies a w)
 unfolding replies
 answered_told gave first old new a w sees stands = record {
@@ -133,6 +132,28 @@ asked_undrawn gave first now new a va kind next r w later unclashed address miss
     (λ stands. undrawn_told gave first now new a (next r) told.world stands missed
     (goes_on u stands (undrawn_clash gave first now (next r) told.world stands missed clash)))
 
+-- It led to no address.
+
+drawn_same : (ask ask' : Asking Answer) (w : World) → ask w ≡ ask' w → if_drawn ask w ≡ if_drawn ask' w
+unfolding if_drawn
+drawn_same ask ask' w is = ap (λ (t : Told Answer). cond (is_missed w) (replies Stopped w) t) is
+
+pub asked_fault : {E : Type 0} (gave : E → E → List Piece → Type 0) (first now new : Side E) (a : Answer) (va : ℕ)
+    (kind : Kind) (next : Result ℕ ℕ → Asking Answer) (cause : ℕ) (w : World) →
+    ((to : Result ℕ ℕ) (v : World) → IsLater v (next to v).world) →
+    ((v : World) → replies (Absent cause) v ≡ next (Err cause) v) →
+    is_clashed (then_ask (ask_inside_address va kind) (λ to. if_drawn (next to)) w).world ≡ false →
+    (is_clashed (ask_inside_address va kind w).world ≡ false →
+    FollowsFrom (Sees gave first) now (Err cause) (ask_inside_address va kind w)) →
+    FollowsAlways gave now new a (if_drawn (replies (Absent cause))) →
+    FollowsFrom (Sees gave first) new a (then_ask (ask_inside_address va kind) (λ to. if_drawn (next to)) w)
+asked_fault gave first now new a va kind next cause w later is unclashed address told =
+    let v = (ask_inside_address va kind w).world in
+    let u = (later_drawn (next (ask_inside_address va kind w).answer) v (later (ask_inside_address va kind w).answer)).mark unclashed in
+    then_told gave first now new (Err cause) a (ask_inside_address va kind) (λ to. if_drawn (next to)) w (address u)
+    (λ stands. subst (λ (t : Told Answer). FollowsFrom (Sees gave first) new a t)
+    (drawn_same (replies (Absent cause)) (next (Err cause)) v (is v)) (told first v stands))
+
 pub got_err : {E : Type 0} (gave : E → E → List Piece → Type 0) (first new : Side E) (va width cause : ℕ) (a : Answer)
     (to : Result ℕ ℕ) (w : World) → to ≡ Err cause →
     FollowsFrom (Sees gave first) new a (replies (Absent cause) w) →
@@ -200,80 +221,49 @@ offered_cloak q g write c =
 sees_offered : {E : Type 0} (gave : E → E → List Piece → Type 0) (first old mid : Side E) (given : Ended)
     (q : PageId) (g : ℕ) (write : Bool) (c : Cloak) → SeesCloak gave first old c →
     Offers gave old.emitter.now mid.emitter.now mid.memory.now given (offer q g write c.memory) →
-    TracksBy old.memory.now mid.memory.now (after_events mid.space (offer_events q g c.memory (offer q g write c.memory).answer)) →
+    TracksBy old.memory.now mid.memory.now (after_events (space_in mid.regime) (offer_events q g c.memory (offer q g write c.memory).answer)) →
     Spends 0 (length (offer q g write c.memory).ciphers) (spent_in old.memory.now) (spent_in mid.memory.now) →
     MapsStill old.memory.now mid.memory.now →
-    mid.violation ≡ old.violation → mid.regime ≡ old.regime → mid.space ≡ old.space →
+    mid.violation ≡ old.violation → mid.domain ≡ old.domain → mid.regime ≡ old.regime →
     SeesCloak gave first mid (offered_cloak q g write c)
-sees_offered gave first old mid given q g write c sees o tracks spends maps violation regime space = record {
+sees_offered gave first old mid given q g write c sees o tracks spends maps violation domain regime = record {
   holds = o.holds;
   emits = emits_items c.items (cipher_items (offer q g write c.memory).ciphers) sees.emits o.emits;
   violation = violation ∙ sees.violation;
-  regime = regime ∙ sees.regime;
-  tracks = tracks_on first.memory.now old.memory.now mid.memory.now mid.space c.events (offer_events q g c.memory (offer q g write c.memory).answer)
-      (respaced first.memory.now old.memory.now old.space mid.space c.events space sees.tracks) tracks;
+  domain = domain ∙ sees.domain;
+  regime = subst (λ (r : Regime). IsRegimeFor c.regime r) (sym regime) sees.regime;
+  tracks = tracks_on first.memory.now old.memory.now mid.memory.now (space_in mid.regime) c.events (offer_events q g c.memory (offer q g write c.memory).answer)
+      (respaced first.memory.now old.memory.now (space_in old.regime) (space_in mid.regime) c.events (ap space_in regime) sees.tracks) tracks;
   spends = spends_looks
       (let looks = looks_then c.events (offer_events q g c.memory (offer q g write c.memory).answer) in omega (arith, looks))
-      (spends_more (0 + 0) 0 (reads_due (asked_by old.space c) + length (offer q g write c.memory).ciphers)
-      (reads_due (asked_by mid.space (offered_cloak q g write c))) (spent_in first.memory.now) (spent_in mid.memory.now)
-      (let both = due_then mid.space c.events (offer_events q g c.memory (offer q g write c.memory).answer) c.items
+      (spends_more (0 + 0) 0 (reads_due (asked_by (space_in old.regime) c) + length (offer q g write c.memory).ciphers)
+      (reads_due (asked_by (space_in mid.regime) (offered_cloak q g write c))) (spent_in first.memory.now) (spent_in mid.memory.now)
+      (let both = due_then (space_in mid.regime) c.events (offer_events q g c.memory (offer q g write c.memory).answer) c.items
       (cipher_items (offer q g write c.memory).ciphers) in
       let shown = ciphers_due (offer q g write c.memory).ciphers in omega (arith, both, shown))
-      (spends_then 0 0 (reads_due (asked_by old.space c)) (length (offer q g write c.memory).ciphers) (spent_in first.memory.now)
+      (spends_then 0 0 (reads_due (asked_by (space_in old.regime) c)) (length (offer q g write c.memory).ciphers) (spent_in first.memory.now)
       (spent_in old.memory.now) (spent_in mid.memory.now) sees.spends spends));
-  maps = maps_on first.memory.now old.memory.now mid.memory.now mid.space c.events (offer_events q g c.memory (offer q g write c.memory).answer)
-      (maps_of first.memory.now old.memory.now old.space mid.space c.events space sees.maps)
-      (maps_still old.memory.now mid.memory.now mid.space _ maps);
+  maps = maps_on first.memory.now old.memory.now mid.memory.now (space_in mid.regime) c.events (offer_events q g c.memory (offer q g write c.memory).answer)
+      (maps_of first.memory.now old.memory.now (space_in old.regime) (space_in mid.regime) c.events (ap space_in regime) sees.maps)
+      (maps_still old.memory.now mid.memory.now (space_in mid.regime) _ maps);
 }
 
 -- the same side, except for a violation
 pub with_violation : {E : Type 0} (gave : E → E → List Piece → Type 0) (first mid after : Side E) (v : Option Violation) (c : Cloak) →
-    SeesCloak gave first mid c → after.memory ≡ mid.memory → after.emitter ≡ mid.emitter → after.regime ≡ mid.regime → after.space ≡ mid.space →
+    SeesCloak gave first mid c → after.memory ≡ mid.memory → after.emitter ≡ mid.emitter → after.domain ≡ mid.domain → after.regime ≡ mid.regime →
     after.violation ≡ v → SeesCloak gave first after (record c { violation = v })
-with_violation gave first mid after v c sees memory emitter regime space violated = record {
+with_violation gave first mid after v c sees memory emitter domain regime violated = record {
   holds = subst (λ x. Holds x.now c.memory) (sym memory) sees.holds;
   emits = subst (λ e. Emits gave first.emitter.now e.now (item_pieces c.items)) (sym emitter) sees.emits;
   violation = violated;
-  regime = regime ∙ sees.regime;
-  tracks = subst (λ x. TracksBy first.memory.now x.now (after_events after.space c.events)) (sym memory)
-      (respaced first.memory.now mid.memory.now mid.space after.space c.events space sees.tracks);
-  spends = subst (λ x. SpendsFor (looks_in c.events) 0 (reads_due (asked_by after.space c)) (spent_in first.memory.now) (spent_in x.now))
+  domain = domain ∙ sees.domain;
+  regime = subst (λ (r : Regime). IsRegimeFor c.regime r) (sym regime) sees.regime;
+  tracks = subst (λ x. TracksBy first.memory.now x.now (after_events (space_in after.regime) c.events)) (sym memory)
+      (respaced first.memory.now mid.memory.now (space_in mid.regime) (space_in after.regime) c.events (ap space_in regime) sees.tracks);
+  spends = subst (λ x. SpendsFor (looks_in c.events) 0 (reads_due (asked_by (space_in after.regime) c)) (spent_in first.memory.now) (spent_in x.now))
       (sym memory) sees.spends;
-  maps = subst (λ x. MapsBy first.memory.now x.now after.space c.events) (sym memory)
-      (maps_of first.memory.now mid.memory.now mid.space after.space c.events space sees.maps);
-}
-
--- Where a page was reached does not concern the world.
-
-pub with_reached : {E : Type 0} (gave : E → E → List Piece → Type 0) (first mid : Side E) (f : Frame) (w : World) →
-    Sees gave first mid w → Sees gave first (record mid { reached = f }) w
-with_reached gave first mid f (Flat ram) sees = absurd sees
-with_reached gave first mid f (Alone handed) sees = absurd sees
-with_reached gave first mid f (Cloaked c) sees =
-    with_violation gave first mid (record mid { reached = f }) c.violation c sees refl refl refl refl sees.violation
-
-pub reached_follows : {E : Type 0} (gave : E → E → List Piece → Type 0) (first mid : Side E) (f : Frame) (a : Answer)
-    (told : Told Answer) → FollowsFrom (Sees gave first) mid a told →
-    FollowsFrom (Sees gave first) (record mid { reached = f }) a told
-reached_follows gave first mid f a told follows = record {
-  answer = follows.answer;
-  stands = with_reached gave first mid f told.world follows.stands;
-}
-
-pub reached_within : {E : Type 0} (gave : E → E → List Piece → Type 0) (first mid : Side E) (f : Frame) →
-    StaysWithin gave first mid → StaysWithin gave first (record mid { reached = f })
-reached_within gave first mid f within = let s = within.stays in record {
-  stays = record {
-    same_memory = s.same_memory;
-    same_emitter = s.same_emitter;
-    emits_some = s.emits_some;
-    size = s.size;
-    regime = s.regime;
-    space = s.space;
-    counting = s.counting;
-    others = s.others;
-  };
-  no_more = within.no_more;
+  maps = subst (λ x. MapsBy first.memory.now x.now (space_in after.regime) c.events) (sym memory)
+      (maps_of first.memory.now mid.memory.now (space_in mid.regime) (space_in after.regime) c.events (ap space_in regime) sees.maps);
 }
 
 -- What follows of an offer, by how it ended.
@@ -287,15 +277,15 @@ pub asked_offer : {E : Type 0} (gave : E → E → List Piece → Type 0) (first
     ((m : CloakedMemory) → Holds old.memory.now m →
     Spends 0 (length (offer q g write m).ciphers) (spent_in old.memory.now) (spent_in mid.memory.now)) →
     MapsStill old.memory.now mid.memory.now →
-    mid.violation ≡ old.violation → mid.regime ≡ old.regime → mid.space ≡ old.space →
+    mid.violation ≡ old.violation → mid.domain ≡ old.domain → mid.regime ≡ old.regime →
     ((c c' : Cloak) → w ≡ Cloaked c → SeesCloak gave first old c → SeesCloak gave first mid c' →
     c'.memory ≡ (offer q g (is_store kind) c.memory).memory → c'.regime ≡ c.regime →
     FollowsFrom (Sees gave first) new a (offered_by q va kind g (offer_of given) (Cloaked c'))) →
     FollowsFrom (Sees gave first) new a (ask_offer q va kind g w)
 unfolding ask_offer
-asked_offer gave first old mid new given q va kind g write a (Flat ram) kind_is sees clash offered tracks spends maps violation regime space told = absurd sees
-asked_offer gave first old mid new given q va kind g write a (Alone handed) kind_is sees clash offered tracks spends maps violation regime space told = absurd sees
-asked_offer {E} gave first old mid new given q va kind g write a (Cloaked c) kind_is sees clash offered tracks spends maps violation regime space told =
+asked_offer gave first old mid new given q va kind g write a (Flat ram) kind_is sees clash offered tracks spends maps violation domain regime told = absurd sees
+asked_offer gave first old mid new given q va kind g write a (Alone handed) kind_is sees clash offered tracks spends maps violation domain regime told = absurd sees
+asked_offer {E} gave first old mid new given q va kind g write a (Cloaked c) kind_is sees clash offered tracks spends maps violation domain regime told =
     let store = is_store kind in
     let o = offer q g store c.memory in
     let c' = offered_cloak q g store c in
@@ -307,9 +297,9 @@ asked_offer {E} gave first old mid new given q va kind g write a (Cloaked c) kin
     (spends c.memory sees.holds) in
     let goes = subst (λ (b : Bool). (offer q g b c.memory).memory.ledger.clashed ≡ false → (sp : Option SpaceId) →
     TracksBy old.memory.now mid.memory.now (after_events sp (offer_events q g c.memory (offer q g b c.memory).answer))) kind_is
-    (tracks c.memory sees.holds) unclashed mid.space in
+    (tracks c.memory sees.holds) unclashed (space_in mid.regime) in
     subst (λ (x : Offer). FollowsFrom (Sees gave first) new a (offered_by q va kind g x (Cloaked c'))) done.answer
-    (told c c' refl sees (sees_offered gave first old mid given q g store c sees done goes least maps violation regime space) refl refl)
+    (told c c' refl sees (sees_offered gave first old mid given q g store c sees done goes least maps violation domain regime) refl refl)
 
 -- It is granted, once its translation is known.
 pub granted_told : {E : Type 0} (gave : E → E → List Piece → Type 0) (first after new : Side E) (q : PageId) (va : ℕ) (kind : Kind)
@@ -346,13 +336,9 @@ reached_told gave first new q va kind pa g a w at clash told =
     subst (λ t. FollowsFrom (Sees gave first) new a t) there
     (told (ap (λ (t : Told Answer). is_clashed t.world) there ∙ clash))
 
-pub reached_err : {E : Type 0} (gave : E → E → List Piece → Type 0) (first new : Side E) (q : PageId) (va : ℕ) (kind : Kind)
-    (cause : ℕ) (a : Answer) (to : Result ℕ ℕ) (w : World) → to ≡ Err cause →
-    FollowsFrom (Sees gave first) new a (replies (Absent cause) w) →
-    FollowsFrom (Sees gave first) new a (reached q va kind to w)
+pub reached_fault : (q : PageId) (va : ℕ) (kind : Kind) (cause : ℕ) (w : World) → replies (Absent cause) w ≡ reached q va kind (Err cause) w
 unfolding reached
-reached_err gave first new q va kind cause a to w is told =
-    subst (λ t. FollowsFrom (Sees gave first) new a (reached q va kind t w)) (sym is) told
+reached_fault q va kind cause w = refl
 
 -- The page's newest bytes, if no draw is missing.
 pub plain_told : {E : Type 0} (gave : E → E → List Piece → Type 0) (first now : Side E) (q : PageId)

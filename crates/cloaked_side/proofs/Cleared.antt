@@ -25,7 +25,8 @@ use Rattle.cloak_pager.proofs.Touches.{settle_none}
 use Rattle.cloak_pager.proofs.Writes.{held_within}
 use Rattle.cloak_pager.proofs.Pages.{same_or_not}
 use Rattle.cloaked_side.specs.Holding.{Holds, HoldsNoMore, Settles, frames_of}
-use Rattle.cloaked_side.specs.Seeing.{Sees, ShowsWorld, asked_by}
+use Rattle.shadow_fold.specs.declared.entry.Regime.{Regime}
+use Rattle.cloaked_side.specs.Seeing.{IsRegimeFor, Sees, ShowsWorld, asked_by, space_in}
 use Rattle.shadow_fold.specs.Reads.{Spends, reads_due}
 use Rattle.shadow_fold.specs.Table.{Table}
 use Rattle.cloaked_side.proofs.Spending.{due_events, looks_then, maps_further, maps_of, maps_on, maps_same, maps_still, spends_looks, spends_more, spends_still, spends_then}
@@ -209,6 +210,7 @@ shows_of gave first now (Cloaked c) sees = record {
   holds = sees.holds;
   emits = sees.emits;
   violation = sees.violation;
+  domain = sees.domain;
   regime = sees.regime;
   spends = sees.spends;
   maps = sees.maps;
@@ -220,11 +222,11 @@ pub shows_settled : {E : Type 0} (gave : E → E → List Piece → Type 0) (fir
     ((m : CloakedMemory) → Holds old.memory.now m →
     Spends 0 (length (settle f m).ciphers) (spent_in old.memory.now) (spent_in new.memory.now)) →
     MapsStill old.memory.now new.memory.now →
-    new.violation ≡ old.violation → new.regime ≡ old.regime → new.space ≡ old.space →
+    new.violation ≡ old.violation → new.domain ≡ old.domain → new.regime ≡ old.regime →
     owed_at old.memory.now.pager f ≡ None → ShowsWorld gave first old w → ShowsWorld gave first new w
-shows_settled gave first old new f (Flat ram) settles spends maps violation regime space none shows = shows
-shows_settled gave first old new f (Alone handed) settles spends maps violation regime space none shows = shows
-shows_settled gave first old new f (Cloaked c) settles spends maps violation regime space none shows =
+shows_settled gave first old new f (Flat ram) settles spends maps violation domain regime none shows = shows
+shows_settled gave first old new f (Alone handed) settles spends maps violation domain regime none shows = shows
+shows_settled gave first old new f (Cloaked c) settles spends maps violation domain regime none shows =
     let h = shows.holds in
     let unowed : owed_in c.memory f ≡ None = owed_by_right old.memory.now.pager h.wiped c.memory h.pager f ∙ none in
     let s = subst (λ (x : AfterSettling). Settles gave old.emitter.now new.emitter.now new.memory.now x) (settle_none f c.memory unowed) (settles c.memory h) in
@@ -233,16 +235,17 @@ shows_settled gave first old new f (Cloaked c) settles spends maps violation reg
       emits = subst (λ (is : List Item). Emits gave first.emitter.now new.emitter.now (item_pieces is))
           (append-nil c.items) (emits_items c.items [] shows.emits s.emits);
       violation = violation ∙ shows.violation;
-      regime = regime ∙ shows.regime;
+      domain = domain ∙ shows.domain;
+      regime = subst (λ (r : Regime). IsRegimeFor c.regime r) (sym regime) shows.regime;
       spends = spends_looks (omega arith)
-          (spends_more (0 + 0) 0 (reads_due (asked_by old.space c) + 0) (reads_due (asked_by new.space c))
+          (spends_more (0 + 0) 0 (reads_due (asked_by (space_in old.regime) c) + 0) (reads_due (asked_by (space_in new.regime) c))
           (spent_in first.memory.now) (spent_in new.memory.now) (omega arith)
-          (spends_then 0 0 (reads_due (asked_by old.space c)) 0 (spent_in first.memory.now) (spent_in old.memory.now) (spent_in new.memory.now)
+          (spends_then 0 0 (reads_due (asked_by (space_in old.regime) c)) 0 (spent_in first.memory.now) (spent_in old.memory.now) (spent_in new.memory.now)
           shows.spends
           (subst (λ (x : AfterSettling). Spends 0 (length x.ciphers) (spent_in old.memory.now) (spent_in new.memory.now))
           (settle_none f c.memory unowed) (spends c.memory h))));
-      maps = maps_further first.memory.now old.memory.now new.memory.now new.space c.events
-          (maps_of first.memory.now old.memory.now old.space new.space c.events space shows.maps) maps;
+      maps = maps_further first.memory.now old.memory.now new.memory.now (space_in new.regime) c.events
+          (maps_of first.memory.now old.memory.now (space_in old.regime) (space_in new.regime) c.events (ap space_in regime) shows.maps) maps;
     }
 
 none_copied : (b c d : Bool) → b ≡ false → d ≡ false → (b || (c && d)) ≡ false
@@ -280,16 +283,17 @@ sees_copied gave first old new domain from to (Cloaked c) same still meets track
         };
         emits = subst (λ e. Emits gave first.emitter.now e (item_pieces c.items)) (sym same.emitter) sees.emits;
         violation = same.violation ∙ sees.violation;
-        regime = same.regime ∙ sees.regime;
-        tracks = tracks_same first.memory.now old.memory.now new.memory.now new.space c.events
-            (respaced first.memory.now old.memory.now old.space new.space c.events same.space sees.tracks) tracks;
+        domain = same.domain ∙ sees.domain;
+        regime = subst (λ (r : Regime). IsRegimeFor c.regime r) (sym same.regime) sees.regime;
+        tracks = tracks_same first.memory.now old.memory.now new.memory.now (space_in new.regime) c.events
+            (respaced first.memory.now old.memory.now (space_in old.regime) (space_in new.regime) c.events (ap space_in same.regime) sees.tracks) tracks;
         spends = spends_looks (omega arith)
-            (spends_more (0 + 0) 0 (reads_due (asked_by old.space c) + 0) (reads_due (asked_by new.space c))
+            (spends_more (0 + 0) 0 (reads_due (asked_by (space_in old.regime) c) + 0) (reads_due (asked_by (space_in new.regime) c))
             (spent_in first.memory.now) (spent_in new.memory.now) (omega arith)
-            (spends_then 0 0 (reads_due (asked_by old.space c)) 0 (spent_in first.memory.now) (spent_in old.memory.now) (spent_in new.memory.now)
+            (spends_then 0 0 (reads_due (asked_by (space_in old.regime) c)) 0 (spent_in first.memory.now) (spent_in old.memory.now) (spent_in new.memory.now)
             sees.spends (spends_still old.memory.now new.memory.now reads (ap (λ (t : Table). t.counts.misses) shadows))));
-        maps = maps_further first.memory.now old.memory.now new.memory.now new.space c.events
-            (maps_of first.memory.now old.memory.now old.space new.space c.events same.space sees.maps)
+        maps = maps_further first.memory.now old.memory.now new.memory.now (space_in new.regime) c.events
+            (maps_of first.memory.now old.memory.now (space_in old.regime) (space_in new.regime) c.events (ap space_in same.regime) sees.maps)
             (maps_same old.memory.now new.memory.now shadows);
       };
     }
@@ -299,15 +303,15 @@ pub sees_dropped : {E : Type 0} (gave : E → E → List Piece → Type 0) (firs
     (w : World) → Repaged old new →
     AgreesAlways old.memory.now new.memory.now →
     FollowsCallStill old.memory.now.pager new.memory.now.pager (tt {0}) (after_drop_pages domain r) →
-    new.space ≡ begun.space →
+    new.regime ≡ begun.regime →
     TracksBy begun.memory.now new.memory.now (touched_where (is_of domain r)) →
     new.memory.now.pager.reads ≡ old.memory.now.pager.reads → new.memory.now.shadows ≡ old.memory.now.shadows →
     Sees gave first begun w → ShowsWorld gave first old w →
     FollowsFrom (λ side v. Sees gave first side v) new (tt {0}) (ask_forget domain r w)
 unfolding ask_forget drop_pages
-sees_dropped gave first begun old new domain r (Flat ram) same still meets space tracks reads shadows sees shows = absurd sees
-sees_dropped gave first begun old new domain r (Alone handed) same still meets space tracks reads shadows sees shows = absurd sees
-sees_dropped gave first begun old new domain r (Cloaked c) same still meets space tracks reads shadows sees shows =
+sees_dropped gave first begun old new domain r (Flat ram) same still meets regime tracks reads shadows sees shows = absurd sees
+sees_dropped gave first begun old new domain r (Alone handed) same still meets regime tracks reads shadows sees shows = absurd sees
+sees_dropped gave first begun old new domain r (Cloaked c) same still meets regime tracks reads shadows sees shows =
     let h = shows.holds in
     let m' = drop_pages domain r c.memory in
     let agreed = still c.memory m' (λ held. refl) in
@@ -327,19 +331,20 @@ sees_dropped gave first begun old new domain r (Cloaked c) same still meets spac
         };
         emits = subst (λ e. Emits gave first.emitter.now e (item_pieces c.items)) (sym same.emitter) shows.emits;
         violation = same.violation ∙ shows.violation;
-        regime = same.regime ∙ shows.regime;
-        tracks = tracks_on first.memory.now begun.memory.now new.memory.now new.space c.events (Drop domain r ∷ [])
-            (respaced first.memory.now begun.memory.now begun.space new.space c.events space sees.tracks)
-            (tracks_drop begun.memory.now new.memory.now new.space domain r tracks);
+        domain = same.domain ∙ shows.domain;
+        regime = subst (λ (r : Regime). IsRegimeFor c.regime r) (sym same.regime) shows.regime;
+        tracks = tracks_on first.memory.now begun.memory.now new.memory.now (space_in new.regime) c.events (Drop domain r ∷ [])
+            (respaced first.memory.now begun.memory.now (space_in begun.regime) (space_in new.regime) c.events (ap space_in regime) sees.tracks)
+            (tracks_drop begun.memory.now new.memory.now (space_in new.regime) domain r tracks);
         spends = spends_looks (let looks = looks_then c.events (Drop domain r ∷ []) in omega (arith, looks))
-            (spends_more (0 + 0) 0 (reads_due (asked_by old.space c) + 0) (reads_due (asked_by new.space (record c { events = c.events ++ Drop domain r ∷ [] })))
+            (spends_more (0 + 0) 0 (reads_due (asked_by (space_in old.regime) c) + 0) (reads_due (asked_by (space_in new.regime) (record c { events = c.events ++ Drop domain r ∷ [] })))
             (spent_in first.memory.now) (spent_in new.memory.now)
-            (let further = due_events new.space c.events (Drop domain r ∷ []) c.items in omega (arith, further))
-            (spends_then 0 0 (reads_due (asked_by old.space c)) 0 (spent_in first.memory.now) (spent_in old.memory.now) (spent_in new.memory.now)
+            (let further = due_events (space_in new.regime) c.events (Drop domain r ∷ []) c.items in omega (arith, further))
+            (spends_then 0 0 (reads_due (asked_by (space_in old.regime) c)) 0 (spent_in first.memory.now) (spent_in old.memory.now) (spent_in new.memory.now)
             shows.spends (spends_still old.memory.now new.memory.now reads (ap (λ (t : Table). t.counts.misses) shadows))));
-        maps = maps_on first.memory.now old.memory.now new.memory.now new.space c.events (Drop domain r ∷ [])
-            (maps_of first.memory.now old.memory.now old.space new.space c.events same.space shows.maps)
-            (maps_still old.memory.now new.memory.now new.space (Drop domain r ∷ []) (maps_same old.memory.now new.memory.now shadows));
+        maps = maps_on first.memory.now old.memory.now new.memory.now (space_in new.regime) c.events (Drop domain r ∷ [])
+            (maps_of first.memory.now old.memory.now (space_in old.regime) (space_in new.regime) c.events (ap space_in same.regime) shows.maps)
+            (maps_still old.memory.now new.memory.now (space_in new.regime) (Drop domain r ∷ []) (maps_same old.memory.now new.memory.now shadows));
       };
     }
 

@@ -5,7 +5,7 @@ use Rattle.std.specs.Prelude.{◌++◌, IfOk, IfSome}
 use Rattle.std.proofs.lemmas.Option.{none-some}
 use Rattle.cloak_base.proofs.Pages.{same_page_tells}
 use Rattle.cloak_base.specs.declared.names.Kind.TheVariants.{Store}
-use Rattle.cloak_model.specs.AskPages.{is_store, offer_events, replies, offered_by, ask_offer, ask_inside_address}
+use Rattle.cloak_model.specs.AskPages.{is_store, offer_events, replies, offered_by, ask_offer, ask_inside_address, if_drawn, reached}
 use Rattle.cloak_model.specs.Events.{Event, Look, Touch, Born, births_by}
 use Rattle.cloak_model.specs.Cloaking.{CloakedMemory, Offer, Ready, Mismatch, Missed, owed_in, settle, offer}
 use Rattle.cloak_model.specs.World.{is_clashed, noted, settled, settled_in, cipher_items}
@@ -23,21 +23,24 @@ use Rattle.shadow_law.specs.Misses.{StayOutsideBut}
 use Rattle.shadow_law.proofs.Changes.{settle_count, offer_count}
 use Rattle.shadow_law.proofs.Misses.{asked_walk, open_entry_agrees, page_entry_agrees, entry_within, keeps_birth}
 use Rattle.cloaked_side.specs.Holding.{HoldsNoMore, HoldsNoOther}
-use Rattle.cloaked_side.specs.Leading.{IsWalkOf, IsLedBy, IsLedSo, IsLive, IsReachedSo, IsRegimeIn, AreLedOutside, IsEntryOf, IsFoundSo, asked_led, entry_at, inside_regime, place_in}
+use Rattle.cloaked_side.specs.Leading.{IsWalkOf, IsLedBy, IsLedSo, IsLive, IsReachedSo, IsRegimeIn, AreLedOutside, IsEntryOf, IsFoundSo, Reaches, asked_led, entry_at, place_in}
 use Rattle.cloaked_side.specs.Tracking.{Tracks, TracksBy, MapsBy, spent_in}
 use Rattle.cloaked_side.specs.declared.memory.Memory.{Memory}
 use Rattle.cloaked_side.proofs.Tracking.{birth_made, birth_never, birth_still, born_tracks, events_then, look_tracks, no_events, touches_still, tracks_on}
 use Rattle.cloaked_side.proofs.Tabled.{tables_none, walked_touches}
 use Rattle.cloaked_side.proofs.Offered.{offered_walk_still}
 use Rattle.cloak_base.specs.declared.names.SpaceId.{SpaceId}
-use Rattle.cloak_model.specs.AskPages.{inside_access}
+use Rattle.cloak_model.specs.AskPages.{inside_access, reach_by_table}
+use Rattle.cloak_model.specs.declared.answer.Answer.{Answer}
+use Rattle.cloak_model.specs.declared.answer.Answer.TheVariants.{Absent}
+use Rattle.cloak_model.proofs.PagesLater.{later_reached}
 use Rattle.cloak_model.specs.World.{regime_of}
 use Rattle.cloak_model.specs.Ask.{known}
 use Rattle.shadow_fold.specs.Agreement.{TargetAgrees}
 use Rattle.shadow_fold.specs.Fold.{Fold, after_events, entry_in, frame, is_own_table}
 use Rattle.shadow_fold.specs.Following.{AreBirthCallsUnless, killed_if}
 use Rattle.shadow_law.proofs.Misses.{settled_walk}
-use Rattle.cloaked_side.specs.Seeing.{SeesCloak, SeesCounted, SeesWalking, asked_by, paid, touched_since}
+use Rattle.cloaked_side.specs.Seeing.{FollowsAlways, IsRegimeFor, SeesCloak, SeesCounted, SeesWalking, asked_by, paid, space_in, touched_since}
 use Rattle.cloak_base.specs.declared.names.Kind.{Kind}
 use Rattle.cloak_base.specs.declared.names.PageId.{PageId}
 use Rattle.cloak_model.specs.declared.access.Walked.{Walked}
@@ -45,7 +48,7 @@ use Rattle.cloak_model.specs.declared.access.Access.{Access}
 use Rattle.cloak_model.specs.declared.regime.InsideRegime.{InsideRegime}
 use Rattle.cloak_base.specs.declared.names.Mode.TheVariants.{U}
 use Rattle.cloak_model.specs.Ask.{shown_word, ask_word, ask_walk, ask_inside, ask_translate, ask_led, opened, ask_value, ask_store, shown_value, stored_value, loaded_at, ask_load, stored_to, ask_store_at}
-use Rattle.cloak_model.proofs.WalkParts.{ask_second, ask_after, ask_first}
+use Rattle.cloak_model.proofs.WalkParts.{ask_after, ask_first}
 use Rattle.cloak_model.specs.Asking.{Told, FollowsFrom, answered}
 use Rattle.cloak_model.specs.Exchange.{Piece}
 use Rattle.cloak_base.specs.Constants.{frame_of, is_in_frames}
@@ -59,6 +62,7 @@ use Rattle.shadow_fold.specs.declared.entry.Entry.{Entry}
 use Rattle.shadow_fold.specs.declared.entry.Regime.{Regime}
 use Rattle.shadow_fold.specs.declared.entry.Regime.TheVariants.{Outside, Inside}
 use Rattle.cloak_model.specs.World.{ram_of}
+use Rattle.cloaked_side.proofs.Answering.{asked_fault, reached_fault}
 use Rattle.cloaked_side.proofs.Sided.{count_of, sees_also, sees_noted}
 use Rattle.cloaked_side.proofs.Spending.{due_events, paid_is, maps_born, maps_looked, maps_on, looks_then, maps_still, since_then, spends_looks, spends_missed, spends_more, spends_still, spends_then, live_looked}
 use Rattle.shadow_fold.specs.Reads.{SpendsFor, looks_in, reads_due}
@@ -164,9 +168,9 @@ with_table old t = record old { memory = record old.memory { now = record old.me
 
 sees_with : {E : Type 0} (gave : E → E → List Piece → Type 0) (first old : Side E) (t : Table) (c : Cloak) (events : List Event) (left : ℕ) → SeesCloak gave first old c
     → Agrees (present (held_in old.memory.now.pager) c.memory) t → t.frames ≡ old.memory.now.shadows.frames
-    → TracksBy old.memory.now (record old.memory.now { shadows = t }) (after_events old.space events)
+    → TracksBy old.memory.now (record old.memory.now { shadows = t }) (after_events (space_in old.regime) events)
     → SpendsFor (looks_in events) left 0 (spent_in old.memory.now) (spent_in (record old.memory.now { shadows = t }))
-    → MapsBy old.memory.now (record old.memory.now { shadows = t }) old.space events
+    → MapsBy old.memory.now (record old.memory.now { shadows = t }) (space_in old.regime) events
     → SeesCounted gave first (with_table old t) (record c { events = c.events ++ events }) left 0
 sees_with gave first old t c events left sees agrees room tracks spends maps =
     let new = record old.memory.now { shadows = t } in
@@ -184,13 +188,14 @@ sees_with gave first old t c events left sees agrees room tracks spends maps =
       };
       emits = sees.emits;
       violation = sees.violation;
+      domain = sees.domain;
       regime = sees.regime;
-      tracks = tracks_on first.memory.now old.memory.now new old.space c.events events sees.tracks tracks;
+      tracks = tracks_on first.memory.now old.memory.now new (space_in old.regime) c.events events sees.tracks tracks;
       spends = spends_looks (let looks = looks_then c.events events in omega (arith, looks))
-          (spends_more (0 + left) left (reads_due (asked_by old.space c) + 0) _ (spent_in first.memory.now) (spent_in new)
-          (let further = due_events old.space c.events events c.items in omega (arith, further))
-          (spends_then 0 left (reads_due (asked_by old.space c)) 0 (spent_in first.memory.now) (spent_in old.memory.now) (spent_in new) sees.spends spends));
-      maps = maps_on first.memory.now old.memory.now new old.space c.events events sees.maps maps;
+          (spends_more (0 + left) left (reads_due (asked_by (space_in old.regime) c) + 0) _ (spent_in first.memory.now) (spent_in new)
+          (let further = due_events (space_in old.regime) c.events events c.items in omega (arith, further))
+          (spends_then 0 left (reads_due (asked_by (space_in old.regime) c)) 0 (spent_in first.memory.now) (spent_in old.memory.now) (spent_in new) sees.spends spends));
+      maps = maps_on first.memory.now old.memory.now new (space_in old.regime) c.events events sees.maps maps;
     }
 
 agrees_looked : (p : Present) (regime : Regime) (page : ℕ) (kind : Kind) (t : Table) → Agrees p t → Agrees p (looked regime page kind t)
@@ -208,7 +213,7 @@ looked_misses regime page kind t = refl
 
 -- a look counts, and changes nothing else
 looks : {E : Type 0} (gave : E → E → List Piece → Type 0) (first old : Side E) (t : Table) (regime : Regime) (va : ℕ)
-    (kind : Kind) (c : Cloak) (left : ℕ) → SeesCloak gave first old c → IsRegimeIn old.space regime → t ≡ looked regime (va / 4096) kind old.memory.now.shadows
+    (kind : Kind) (c : Cloak) (left : ℕ) → SeesCloak gave first old c → IsRegimeIn (space_in old.regime) regime → t ≡ looked regime (va / 4096) kind old.memory.now.shadows
     → SpendsFor 1 left 0 (spent_in old.memory.now) (spent_in (record old.memory.now { shadows = t }))
     → SeesCounted gave first (with_table old t) (record c { events = c.events ++ Look (satp_in regime) (access_in regime va kind) ∷ [] }) left 0
 looks gave first old t regime va kind c left sees viewed is spends =
@@ -216,13 +221,13 @@ looks gave first old t regime va kind c left sees viewed is spends =
     (subst (Agrees (present (held_in old.memory.now.pager) c.memory)) (sym is)
     (agrees_looked _ regime (va / 4096) kind old.memory.now.shadows sees.holds.agrees))
     (ap (λ (u : Table). u.frames) is ∙ looked_frames regime (va / 4096) kind old.memory.now.shadows)
-    (look_tracks old.space regime va kind viewed old.memory.now.counting old.memory.now.shadows t (held_in old.memory.now.pager) (λ counts. is))
-    spends (maps_still old.memory.now (record old.memory.now { shadows = t }) old.space (Look (satp_in regime) (access_in regime va kind) ∷ [])
+    (look_tracks (space_in old.regime) regime va kind viewed old.memory.now.counting old.memory.now.shadows t (held_in old.memory.now.pager) (λ counts. is))
+    spends (maps_still old.memory.now (record old.memory.now { shadows = t }) (space_in old.regime) (Look (satp_in regime) (access_in regime va kind) ∷ [])
     (maps_looked old.memory.now (record old.memory.now { shadows = t }) regime (va / 4096) kind is))
 
 -- one that finds an entry
 pub looks_found : {E : Type 0} (gave : E → E → List Piece → Type 0) (first old : Side E) (t : Table) (regime : Regime) (va : ℕ)
-    (kind : Kind) (e : Entry) (c : Cloak) → SeesCloak gave first old c → IsRegimeIn old.space regime → t ≡ looked regime (va / 4096) kind old.memory.now.shadows
+    (kind : Kind) (e : Entry) (c : Cloak) → SeesCloak gave first old c → IsRegimeIn (space_in old.regime) regime → t ≡ looked regime (va / 4096) kind old.memory.now.shadows
     → Some e ≡ find (is_for regime (va / 4096) kind) old.memory.now.shadows.live
     → SeesCloak gave first (with_table old t) (record c { events = c.events ++ Look (satp_in regime) (access_in regime va kind) ∷ [] })
 looks_found gave first old t regime va kind e c sees viewed is there =
@@ -243,7 +248,7 @@ missed_unknown regime page kind t u none same =
 
 -- one that misses
 pub looks_missed : {E : Type 0} (gave : E → E → List Piece → Type 0) (first old : Side E) (t : Table) (regime : Regime) (va : ℕ)
-    (kind : Kind) (w : World) → Sees gave first old w → IsRegimeIn old.space regime → t ≡ looked regime (va / 4096) kind old.memory.now.shadows
+    (kind : Kind) (w : World) → Sees gave first old w → IsRegimeIn (space_in old.regime) regime → t ≡ looked regime (va / 4096) kind old.memory.now.shadows
     → None ≡ find (is_for regime (va / 4096) kind) old.memory.now.shadows.live
     → SeesWalking gave first (with_table old t) (noted (Look (satp_in regime) (access_in regime va kind) ∷ []) w)
 looks_missed gave first old t regime va kind (Flat ram) sees viewed is none = absurd sees
@@ -259,11 +264,11 @@ looks_missed gave first old t regime va kind (Cloaked c) sees viewed is none =
 
 -- if accesses are not counted, a look needs nothing
 pub looks_uncounted : {E : Type 0} (gave : E → E → List Piece → Type 0) (first now : Side E) (regime : Regime) (va : ℕ)
-    (kind : Kind) (w : World) → Sees gave first now w → IsRegimeIn now.space regime → now.memory.now.counting ≡ false
+    (kind : Kind) (w : World) → Sees gave first now w → IsRegimeIn (space_in now.regime) regime → now.memory.now.counting ≡ false
     → Sees gave first now (noted (Look (satp_in regime) (access_in regime va kind) ∷ []) w)
 looks_uncounted gave first now regime va kind w sees viewed uncounted =
     sees_noted gave first now _ w
-    (look_tracks now.space regime va kind viewed now.memory.now.counting now.memory.now.shadows now.memory.now.shadows (held_in now.memory.now.pager)
+    (look_tracks (space_in now.regime) regime va kind viewed now.memory.now.counting now.memory.now.shadows now.memory.now.shadows (held_in now.memory.now.pager)
     (λ counts. absurd (false≢true (sym uncounted ∙ counts)))) sees
 
 -- An access is led by an entry.
@@ -275,7 +280,7 @@ found_after regime page kind t u e is there =
 
 -- the access is looked up, and the tables of the entry, which are outside, are touched
 pub entry_follows : {E : Type 0} (gave : E → E → List Piece → Type 0) (first old : Side E) (t : Table) (w : World) (regime : Regime) (va : ℕ)
-    (kind : Kind) (e : Entry) (b : Bool) (to : Result ℕ ℕ) → Sees gave first old w → IsRegimeIn old.space regime → t ≡ looked regime (va / 4096) kind old.memory.now.shadows
+    (kind : Kind) (e : Entry) (b : Bool) (to : Result ℕ ℕ) → Sees gave first old w → IsRegimeIn (space_in old.regime) regime → t ≡ looked regime (va / 4096) kind old.memory.now.shadows
     → Some e ≡ find (is_for regime (va / 4096) kind) old.memory.now.shadows.live
     → b ≡ is_in_frames (frames_of old.memory.now) (start_of e.frame.0 + va % 4096) → to ≡ entry_place b (start_of e.frame.0 + va % 4096) kind
     → FollowsFrom (Sees gave first) (with_table old t) to (asked_led regime va kind w)
@@ -293,12 +298,12 @@ entry_follows gave first old t (Cloaked c) regime va kind e b to sees viewed is 
     (record {
       answer = at;
       stands = sees_also gave first new c1 0 0 (touches (listed e.pt1 ++ listed e.pt0))
-          (touches_still old.space old.memory.now.counting t (held_in old.memory.now.pager) e.pt1 e.pt0 agrees.1 agrees.2) sees1;
+          (touches_still (space_in old.regime) old.memory.now.counting t (held_in old.memory.now.pager) e.pt1 e.pt0 agrees.1 agrees.2) sees1;
     })
 
 -- it is led so, whether its walk is handed on or not
 pub entry_so : {E : Type 0} (gave : E → E → List Piece → Type 0) (first old : Side E) (t : Table) (w : World) (regime : Regime) (va : ℕ)
-    (kind : Kind) (e : Entry) (cloaked : Option PageId) (led : Led) → Sees gave first old w → IsRegimeIn old.space regime
+    (kind : Kind) (e : Entry) (cloaked : Option PageId) (led : Led) → Sees gave first old w → IsRegimeIn (space_in old.regime) regime
     → t ≡ looked regime (va / 4096) kind old.memory.now.shadows → Some e ≡ find (is_for regime (va / 4096) kind) old.memory.now.shadows.live
     → is_in_frames (frames_of old.memory.now) (start_of e.frame.0 + va % 4096) ≡ true → led.pa ≡ start_of e.frame.0 + va % 4096
     → (led.walked ≡ Some (entry_walk e va)) ⊎ ((led.walked ≡ None) × (e.cloaked ≡ cloaked))
@@ -361,7 +366,7 @@ birth_misses false e old new made = ap (λ (t : Table). t.counts.misses) made.1 
 
 pub learns : {E : Type 0} (gave : E → E → List Piece → Type 0) (first old : Side E) (t : Table) (e : Entry) (satp : ℕ) (a : Access) (walked : Walked)
     (cloaked : Option PageId) (w : World) → Sees gave first old w → IsEntryOf w (held_in old.memory.now.pager) e
-    → entry_in old.space satp a walked cloaked ≡ e → is_own_table e ≡ false
+    → entry_in (space_in old.regime) satp a walked cloaked ≡ e → is_own_table e ≡ false
     → (IsWithin old.memory.now.shadows.frames e
     → AreBirthCalls (is_known e.regime e.page e.kind old.memory.now.shadows) e old.memory.now.shadows t)
     → Sees gave first (with_table old t) (noted (Born satp a walked cloaked ∷ []) w)
@@ -373,11 +378,11 @@ learns gave first old t e satp a walked cloaked (Cloaked c) sees is same other b
     sees_with gave first old t c (Born satp a walked cloaked ∷ []) 0 sees
     (keeps_birth (EntryAgrees (present (held_in old.memory.now.pager) c.memory)) _ e old.memory.now.shadows t made is.0 h.agrees)
     (birth_frames _ e old.memory.now.shadows t made)
-    (born_tracks old.space satp a walked cloaked old.memory.now.counting old.memory.now.shadows t (held_in old.memory.now.pager)
+    (born_tracks (space_in old.regime) satp a walked cloaked old.memory.now.counting old.memory.now.shadows t (held_in old.memory.now.pager)
     (λ counts. subst (λ (x : Entry). AreBirthCallsUnless (is_own_table x) x old.memory.now.shadows t) (sym same)
     (birth_made e old.memory.now.shadows t other made)))
     (spends_still old.memory.now (record old.memory.now { shadows = t }) refl (birth_misses _ e old.memory.now.shadows t made))
-    (maps_born old.memory.now (record old.memory.now { shadows = t }) old.space satp a walked cloaked _ e same made)
+    (maps_born old.memory.now (record old.memory.now { shadows = t }) (space_in old.regime) satp a walked cloaked _ e same made)
 
 -- if accesses are not counted, nothing needs to be learnt
 pub unlearnt : {E : Type 0} (gave : E → E → List Piece → Type 0) (first old : Side E) (t : Table) (satp : ℕ) (a : Access) (walked : Walked)
@@ -386,7 +391,7 @@ pub unlearnt : {E : Type 0} (gave : E → E → List Piece → Type 0) (first ol
 unlearnt gave first old t satp a walked cloaked w uncounted same sees =
     subst (λ (x : Table). Sees gave first (with_table old x) (noted (Born satp a walked cloaked ∷ []) w)) (sym same)
     (sees_noted gave first old _ w
-    (born_tracks old.space satp a walked cloaked old.memory.now.counting old.memory.now.shadows old.memory.now.shadows (held_in old.memory.now.pager)
+    (born_tracks (space_in old.regime) satp a walked cloaked old.memory.now.counting old.memory.now.shadows old.memory.now.shadows (held_in old.memory.now.pager)
     (λ counts. absurd (false≢true (sym uncounted ∙ counts)))) sees)
 
 -- The walk of an access that led somewhere.
@@ -441,11 +446,11 @@ walk_outside gave first old mid satp a walked (Cloaked c) sees told =
     let stands = subst (λ (v : World). SeesWalking gave first mid v) there.1 told.stands in
     let tables = touches (listed walked.pt1 ++ listed walked.pt0) in
     let s = fold_of first.memory.now in
-    let before = after_events mid.space c.events s in
-    let keeps : Tracks mid.memory.now (after_events mid.space tables before) =
-    subst (λ (u : Fold). Tracks mid.memory.now u) (events_then mid.space c.events tables s)
-    (subst (λ (es : List Event). Tracks mid.memory.now (after_events mid.space es s)) there.2 (stands.tracks s (tracks_self first.memory.now))) in
-    let none = tables_none mid.space walked.pt1 walked.pt0 before in
+    let before = after_events (space_in mid.regime) c.events s in
+    let keeps : Tracks mid.memory.now (after_events (space_in mid.regime) tables before) =
+    subst (λ (u : Fold). Tracks mid.memory.now u) (events_then (space_in mid.regime) c.events tables s)
+    (subst (λ (es : List Event). Tracks mid.memory.now (after_events (space_in mid.regime) es s)) there.2 (stands.tracks s (tracks_self first.memory.now))) in
+    let none = tables_none (space_in mid.regime) walked.pt1 walked.pt0 before in
     record { first = held_none mid.memory.now _ keeps walked.pt1 none.0; second = held_none mid.memory.now _ keeps walked.pt0 none.1 }
   where
     held_none : (memory : Memory) (s : Fold) → Tracks memory s → (o : Option Frame) → IfSome o (λ f. s.held f.0 ≡ None) → IfSome o (λ f. held_in memory.pager f.0 ≡ None)
@@ -463,10 +468,10 @@ births_still now space satp a cloaked (Ok walked) calls s keeps =
 
 pub sees_known : {E : Type 0} (gave : E → E → List Piece → Type 0) (first now : Side E) (satp : ℕ) (a : Access) (cloaked : Option PageId) (w : World)
     → Sees gave first now w → ((walked : Walked) → walk (ram_of w) satp a ≡ Ok walked → now.memory.now.counting ≡ true
-    → let e = entry_in now.space satp a walked cloaked in AreBirthCallsUnless (is_own_table e) e now.memory.now.shadows now.memory.now.shadows)
+    → let e = entry_in (space_in now.regime) satp a walked cloaked in AreBirthCallsUnless (is_own_table e) e now.memory.now.shadows now.memory.now.shadows)
     → Sees gave first now (known satp a cloaked w)
 sees_known gave first now satp a cloaked w sees calls =
-    sees_noted gave first now _ w (births_still now.memory.now now.space satp a cloaked (walk (ram_of w) satp a) calls) sees
+    sees_noted gave first now _ w (births_still now.memory.now (space_in now.regime) satp a cloaked (walk (ram_of w) satp a) calls) sees
 
 -- the entry of an access of a regime
 entry_key : (space : Option SpaceId) (regime : Regime) (va : ℕ) (kind : Kind) (walked : Walked) (cloaked : Option PageId) → IsRegimeIn space regime
@@ -475,12 +480,12 @@ entry_key space (Outside satp mode sum mxr) va kind walked cloaked viewed t = ap
 entry_key space (Inside satp sum mxr x) va kind walked cloaked viewed t = ap (λ (v : Regime). is_known v (va / 4096) kind t) (viewed va kind)
 
 pub sees_live : {E : Type 0} (gave : E → E → List Piece → Type 0) (first now : Side E) (regime : Regime) (va : ℕ) (kind : Kind) (cloaked : Option PageId) (w : World)
-    → Sees gave first now w → IsRegimeIn now.space regime → (now.memory.now.counting ≡ true → is_known regime (va / 4096) kind now.memory.now.shadows ≡ true)
+    → Sees gave first now w → IsRegimeIn (space_in now.regime) regime → (now.memory.now.counting ≡ true → is_known regime (va / 4096) kind now.memory.now.shadows ≡ true)
     → Sees gave first now (known (satp_in regime) (access_in regime va kind) cloaked w)
 sees_live gave first now regime va kind cloaked w sees viewed live =
     sees_known gave first now (satp_in regime) (access_in regime va kind) cloaked w sees
-    (λ walked leads counts. birth_still (entry_in now.space (satp_in regime) (access_in regime va kind) walked cloaked) now.memory.now.shadows
-    (entry_key now.space regime va kind walked cloaked viewed now.memory.now.shadows ∙ live counts))
+    (λ walked leads counts. birth_still (entry_in (space_in now.regime) (satp_in regime) (access_in regime va kind) walked cloaked) now.memory.now.shadows
+    (entry_key (space_in now.regime) regime va kind walked cloaked viewed now.memory.now.shadows ∙ live counts))
 
 -- the entry of the walk is the one that is built
 pub entry_same : (space : Option SpaceId) (regime : Regime) (va : ℕ) (kind : Kind) (walked : Walked) (cloaked : Option PageId) (f : Frame) (pa : ℕ) (e : Entry) → IsRegimeIn space regime
@@ -678,11 +683,12 @@ walked_sees gave first now satp a c =
       holds = seen.holds;
       emits = seen.emits;
       violation = seen.violation;
+      domain = seen.domain;
       regime = seen.regime;
       tracks = seen.tracks;
       spends = (
           let n = touched_since 0 there.0.events in
-          let due = reads_due (asked_by now.space there.0) in
+          let due = reads_due (asked_by (space_in now.regime) there.0) in
           let more = paid_is n due in
           spends_more 2 0 (paid n due) due (spent_in first.memory.now) (spent_in now.memory.now) (omega (arith, none, few, more)) seen.spends
           );
@@ -750,7 +756,7 @@ quiet_known regime page kind t t' o f ends none known =
     ap (λ (u : Table). is_known regime page kind u) (ends ∙ ap (λ (x : Option PageId). killed_if (is_some x) (frame f) t) none) ∙ known
 
 pub opened_live : {E : Type 0} (gave : E → E → List Piece → Type 0) (first old new : Side E) (regime : Regime) (va : ℕ) (kind : Kind) (led : Led) (f : ℕ) (w : World)
-    → f ≡ frame_of led.pa → Sees gave first new (settled (frame_of led.pa) w) → IsRegimeIn new.space regime → led.walked ≡ None
+    → f ≡ frame_of led.pa → Sees gave first new (settled (frame_of led.pa) w) → IsRegimeIn (space_in new.regime) regime → led.walked ≡ None
     → IsLive old.memory.now regime va kind None led → new.memory.now.counting ≡ old.memory.now.counting
     → new.memory.now.shadows ≡ killed_if (is_some (held_in old.memory.now.pager f)) (frame f) old.memory.now.shadows
     → Sees gave first new (opened (satp_in regime) (access_in regime va kind) led.pa w)
@@ -810,54 +816,71 @@ pub own_same : (q : PageId) (e x : Entry) → e ≡ x → is_own_table x ≡ fal
 own_same q e x is other some = ap (λ (b : Bool). b && is_table e.frame e) (sym some) ∙ ap is_own_table is ∙ other
 
 pub never_known : {E : Type 0} (gave : E → E → List Piece → Type 0) (first now : Side E) (regime : Regime) (va : ℕ) (kind : Kind) (walked : Walked) (cloaked : Option PageId) (e : Entry) (w : World)
-    → Sees gave first now w → IsWalkOf w regime va kind walked → entry_in now.space (satp_in regime) (access_in regime va kind) walked cloaked ≡ e → is_own_table e ≡ true
+    → Sees gave first now w → IsWalkOf w regime va kind walked → entry_in (space_in now.regime) (satp_in regime) (access_in regime va kind) walked cloaked ≡ e → is_own_table e ≡ true
     → Sees gave first now (known (satp_in regime) (access_in regime va kind) cloaked w)
 never_known gave first now regime va kind walked cloaked e w sees is same own =
     born_known gave first now regime va kind walked cloaked w is
     (sees_noted gave first now _ w
-    (born_tracks now.space (satp_in regime) (access_in regime va kind) walked cloaked now.memory.now.counting now.memory.now.shadows now.memory.now.shadows (held_in now.memory.now.pager)
+    (born_tracks (space_in now.regime) (satp_in regime) (access_in regime va kind) walked cloaked now.memory.now.counting now.memory.now.shadows now.memory.now.shadows (held_in now.memory.now.pager)
     (λ counts. birth_never _ now.memory.now.shadows (ap is_own_table same ∙ own))) sees)
 
--- the questions of a cloaked program are asked by the regime of its hart
+-- A context asks in mode U, as its regime says.
+
+abbrev asked_so : InsideRegime → ℕ → Kind → ℕ × Access
+asked_so v va kind = (v.satp, record { mode = U; sum = v.sum; mxr = v.mxr; va = va; kind = kind })
+
+asks_so : (v : InsideRegime) (r : Regime) (space : SpaceId) (va : ℕ) (kind : Kind) → space_in r ≡ Some space → IsRegimeFor v r
+    → asked_so v va kind ≡ (satp_in r, access_in r va kind)
+asks_so v (Outside satp mode sum mxr) space va kind at is = absurd (none-some space at)
+asks_so v (Inside satp sum mxr s) space va kind at is =
+    λ i. (is.0 i, record { mode = U; sum = is.1 i; mxr = is.2 i; va = va; kind = kind })
+
+-- the questions of a context are asked by the regime of its side
 pub asked_inside : {E : Type 0} (gave : E → E → List Piece → Type 0) (first now : Side E) (space : SpaceId) (va : ℕ) (kind : Kind)
-    (w : World) → Sees gave first now w → ask_inside_address va kind w ≡ asked_led (inside_regime now.regime space) va kind w
+    (w : World) → Sees gave first now w → space_in now.regime ≡ Some space → ask_inside_address va kind w ≡ asked_led now.regime va kind w
 unfolding ask_inside_address
-asked_inside gave first now space va kind (Flat ram) sees = absurd sees
-asked_inside gave first now space va kind (Alone handed) sees = absurd sees
-asked_inside gave first now space va kind (Cloaked c) sees =
-    let by_regime : InsideRegime → Told (Result ℕ ℕ) = λ v. ask_led v.satp (record { mode = U; sum = v.sum; mxr = v.mxr; va = va; kind = kind }) (Cloaked c) in
-    sym (ap by_regime sees.regime)
+asked_inside gave first now space va kind (Flat ram) sees at = absurd sees
+asked_inside gave first now space va kind (Alone handed) sees at = absurd sees
+asked_inside gave first now space va kind (Cloaked c) sees at =
+    ap (λ (x : ℕ × Access). ask_led x.0 x.1 (Cloaked c)) (asks_so c.regime now.regime space va kind at sees.regime)
 
 -- and by its access
 pub access_inside : {E : Type 0} (gave : E → E → List Piece → Type 0) (first now : Side E) (space : SpaceId) (va : ℕ) (kind : Kind)
-    (w : World) → Sees gave first now w → (P : ℕ → Access → Type 0)
-    → P (satp_in (inside_regime now.regime space)) (access_in (inside_regime now.regime space) va kind) → P (regime_of w).satp (inside_access w va kind)
-access_inside gave first now space va kind (Flat ram) sees P is = absurd sees
-access_inside gave first now space va kind (Alone handed) sees P is = absurd sees
-access_inside gave first now space va kind (Cloaked c) sees P is =
-    subst (λ (v : InsideRegime). P v.satp (record { mode = U; sum = v.sum; mxr = v.mxr; va = va; kind = kind })) sees.regime is
+    (w : World) → Sees gave first now w → space_in now.regime ≡ Some space → (P : ℕ → Access → Type 0)
+    → P (satp_in now.regime) (access_in now.regime va kind) → P (regime_of w).satp (inside_access w va kind)
+access_inside gave first now space va kind (Flat ram) sees at P is = absurd sees
+access_inside gave first now space va kind (Alone handed) sees at P is = absurd sees
+access_inside gave first now space va kind (Cloaked c) sees at P is =
+    subst (λ (x : ℕ × Access). P x.0 x.1) (sym (asks_so c.regime now.regime space va kind at sees.regime)) is
 
--- The questions of a program, by its regime.
+-- a side's own regime is one of its accesses
+pub viewed_own : (regime : Regime) → IsRegimeIn (space_in regime) regime
+viewed_own (Outside satp mode sum mxr) = λ va kind. refl
+viewed_own (Inside satp sum mxr space) = λ va kind. refl
 
-pub opened_inside : {E : Type 0} (gave : E → E → List Piece → Type 0) (first now mid : Side E) (space : SpaceId) (regime : Regime) (va : ℕ) (kind : Kind) (pa : ℕ) (w : World)
-    → Sees gave first now w → regime ≡ inside_regime now.regime space → Sees gave first mid (opened (satp_in regime) (access_in regime va kind) pa w)
+-- The questions of a context, by its regime.
+
+pub opened_inside : {E : Type 0} (gave : E → E → List Piece → Type 0) (first now mid : Side E) (space : SpaceId) (va : ℕ) (kind : Kind) (pa : ℕ) (w : World)
+    → Sees gave first now w → space_in now.regime ≡ Some space → Sees gave first mid (opened (satp_in now.regime) (access_in now.regime va kind) pa w)
     → Sees gave first mid (opened (regime_of w).satp (inside_access w va kind) pa w)
-opened_inside gave first now mid space regime va kind pa w sees is stands =
-    access_inside gave first now space va kind w sees (λ (satp : ℕ) (a : Access). Sees gave first mid (opened satp a pa w))
-    (subst (λ (v : Regime). Sees gave first mid (opened (satp_in v) (access_in v va kind) pa w)) is stands)
+opened_inside gave first now mid space va kind pa w sees at stands =
+    access_inside gave first now space va kind w sees at (λ (satp : ℕ) (a : Access). Sees gave first mid (opened satp a pa w)) stands
 
-pub known_inside : {E : Type 0} (gave : E → E → List Piece → Type 0) (first now mid : Side E) (space : SpaceId) (regime : Regime) (va : ℕ) (kind : Kind) (cloaked : Option PageId) (w : World)
-    → Sees gave first now w → regime ≡ inside_regime now.regime space → Sees gave first mid (known (satp_in regime) (access_in regime va kind) cloaked w)
+-- an access was opened by the regime that the side has still
+pub opened_on : {E : Type 0} (gave : E → E → List Piece → Type 0) (first now mid : Side E) (space : SpaceId) (regime : Regime) (va : ℕ) (kind : Kind) (pa : ℕ) (w : World)
+    → Sees gave first now w → regime ≡ now.regime → space_in regime ≡ Some space
+    → (IsRegimeIn (space_in now.regime) regime → Sees gave first mid (opened (satp_in regime) (access_in regime va kind) pa w))
+    → Sees gave first mid (opened (regime_of w).satp (inside_access w va kind) pa w)
+opened_on gave first now mid space regime va kind pa w sees same at stands =
+    opened_inside gave first now mid space va kind pa w sees (sym (ap space_in same) ∙ at)
+    (subst (λ (v : Regime). Sees gave first mid (opened (satp_in v) (access_in v va kind) pa w)) same
+    (stands (subst (λ (v : Regime). IsRegimeIn (space_in v) regime) same (viewed_own regime))))
+
+pub known_inside : {E : Type 0} (gave : E → E → List Piece → Type 0) (first now mid : Side E) (space : SpaceId) (va : ℕ) (kind : Kind) (cloaked : Option PageId) (w : World)
+    → Sees gave first now w → space_in now.regime ≡ Some space → Sees gave first mid (known (satp_in now.regime) (access_in now.regime va kind) cloaked w)
     → Sees gave first mid (known (regime_of w).satp (inside_access w va kind) cloaked w)
-known_inside gave first now mid space regime va kind cloaked w sees is stands =
-    access_inside gave first now space va kind w sees (λ (satp : ℕ) (a : Access). Sees gave first mid (known satp a cloaked w))
-    (subst (λ (v : Regime). Sees gave first mid (known (satp_in v) (access_in v va kind) cloaked w)) is stands)
-
--- Regimes.
-
-pub viewed_inside : (space : Option SpaceId) (s : SpaceId) (v : Regime) (regime : InsideRegime) → space ≡ Some s → v ≡ inside_regime regime s → IsRegimeIn space v
-viewed_inside space s v regime at is =
-    subst (λ (o : Option SpaceId). IsRegimeIn o v) (sym at) (subst (λ (x : Regime). IsRegimeIn (Some s) x) (sym is) (λ va kind. refl))
+known_inside gave first now mid space va kind cloaked w sees at stands =
+    access_inside gave first now space va kind w sees at (λ (satp : ℕ) (a : Access). Sees gave first mid (known satp a cloaked w)) stands
 
 pub viewed_outside : (space : Option SpaceId) (satp : ℕ) (a : Access) → space ≡ None → IsRegimeIn space (Outside satp a.mode a.sum a.mxr)
 viewed_outside space satp a none = subst (λ (o : Option SpaceId). IsRegimeIn o (Outside satp a.mode a.sum a.mxr)) (sym none) (λ va kind. refl)
@@ -921,25 +944,23 @@ entry_is regime va kind f pa walked cloaked e at is =
     let by : ℕ → Entry = λ n. record { regime = regime; page = va / 4096; kind = kind; frame = record { 0 = n }; pt1 = walked.pt1; pt0 = walked.pt0; cloaked = cloaked } in
     sym (is ∙ ap by at)
 
--- when the question of a cloaked program begins with an access
-pub inside_follows : {E : Type 0} (gave : E → E → List Piece → Type 0) (first old mid : Side E) (space : SpaceId) (regime : Regime) (va : ℕ)
-    (kind : Kind) (to : Result ℕ ℕ) (w : World) → Sees gave first old w → regime ≡ inside_regime old.regime space
-    → (is_clashed (asked_led regime va kind w).world ≡ false → FollowsFrom (Sees gave first) mid to (asked_led regime va kind w))
+-- when the question of a context begins with an access
+pub inside_follows : {E : Type 0} (gave : E → E → List Piece → Type 0) (first old mid : Side E) (space : SpaceId) (va : ℕ)
+    (kind : Kind) (to : Result ℕ ℕ) (w : World) → Sees gave first old w → space_in old.regime ≡ Some space
+    → (is_clashed (asked_led old.regime va kind w).world ≡ false → FollowsFrom (Sees gave first) mid to (asked_led old.regime va kind w))
     → is_clashed (ask_inside_address va kind w).world ≡ false → FollowsFrom (Sees gave first) mid to (ask_inside_address va kind w)
-inside_follows gave first old mid space regime va kind to w sees is told =
+inside_follows gave first old mid space va kind to w sees at told =
     subst (λ (t : Told (Result ℕ ℕ)). is_clashed t.world ≡ false → FollowsFrom (Sees gave first) mid to t)
-    (sym (asked_inside gave first old space va kind w sees))
-    (subst (λ (v : Regime). is_clashed (asked_led v va kind w).world ≡ false → FollowsFrom (Sees gave first) mid to (asked_led v va kind w)) is told)
+    (sym (asked_inside gave first old space va kind w sees at)) told
 
 -- the world after it is one in which it was led
-pub led_behind : {E : Type 0} (gave : E → E → List Piece → Type 0) (first old : Side E) (memory : Memory) (space : SpaceId) (regime : Regime) (va : ℕ)
-    (kind : Kind) (cloaked : Option PageId) (led : Led) (w : World) → Sees gave first old w → regime ≡ inside_regime old.regime space
-    → (is_clashed (asked_led regime va kind w).world ≡ false → IsLedSo memory (asked_led regime va kind w).world regime va kind cloaked led)
-    → is_clashed (ask_inside_address va kind w).world ≡ false → IsLedSo memory (ask_inside_address va kind w).world regime va kind cloaked led
-led_behind gave first old memory space regime va kind cloaked led w sees is by =
-    subst (λ (t : Told (Result ℕ ℕ)). is_clashed t.world ≡ false → IsLedSo memory t.world regime va kind cloaked led)
-    (sym (asked_inside gave first old space va kind w sees))
-    (subst (λ (v : Regime). is_clashed (asked_led v va kind w).world ≡ false → IsLedSo memory (asked_led v va kind w).world regime va kind cloaked led) is by)
+pub led_behind : {E : Type 0} (gave : E → E → List Piece → Type 0) (first old : Side E) (memory : Memory) (space : SpaceId) (va : ℕ)
+    (kind : Kind) (cloaked : Option PageId) (led : Led) (w : World) → Sees gave first old w → space_in old.regime ≡ Some space
+    → (is_clashed (asked_led old.regime va kind w).world ≡ false → IsLedSo memory (asked_led old.regime va kind w).world old.regime va kind cloaked led)
+    → is_clashed (ask_inside_address va kind w).world ≡ false → IsLedSo memory (ask_inside_address va kind w).world old.regime va kind cloaked led
+led_behind gave first old memory space va kind cloaked led w sees at by =
+    subst (λ (t : Told (Result ℕ ℕ)). is_clashed t.world ≡ false → IsLedSo memory t.world old.regime va kind cloaked led)
+    (sym (asked_inside gave first old space va kind w sees at)) by
 
 -- Without paging an access leads to its own address.
 
@@ -970,7 +991,7 @@ bare_translates gave first now (Inside satp sum mxr space) va kind b w sees off 
     bare_access gave first now satp (access_in (Inside satp sum mxr space) va kind) b w sees off inside
 
 pub bare_follows : {E : Type 0} (gave : E → E → List Piece → Type 0) (first now : Side E) (regime : Regime) (va : ℕ) (kind : Kind)
-    (b : Bool) (w : World) → Sees gave first now w → IsRegimeIn now.space regime → now.memory.now.counting ≡ false → has_paging (satp_in regime) ≡ false
+    (b : Bool) (w : World) → Sees gave first now w → IsRegimeIn (space_in now.regime) regime → now.memory.now.counting ≡ false → has_paging (satp_in regime) ≡ false
     → b ≡ is_in_frames (frames_of now.memory.now) va
     → FollowsFrom (Sees gave first) now (cond b (Ok va) (Err (access_fault kind))) (asked_led regime va kind w)
 unfolding ask_led
@@ -987,3 +1008,22 @@ pub found_inside : {E : Type 0} (gave : E → E → List Piece → Type 0) (firs
 found_inside gave first now regime va kind cloaked to w same so =
     subst (λ (t : Told (Result ℕ ℕ)). is_clashed t.world ≡ false → FollowsFrom (Sees gave first) now (place_in to) t × IfOk to (IsLedSo now.memory.now t.world regime va kind cloaked))
     (sym same) so
+
+-- on from what was found, where the side has the regime that it had before the look
+pub found_on : {E : Type 0} (gave : E → E → List Piece → Type 0) (old new : Side E) (given : Answer) (q : PageId) (va : ℕ)
+    (kind : Kind) (to : Option (Result Led ℕ)) (regime : Regime) → regime ≡ old.regime → Reaches gave old new given q va kind to
+    → (first : Side E) (w : World) (s : SpaceId) → space_in regime ≡ Some s → ask_inside_address va kind w ≡ asked_led regime va kind w
+    → (is_clashed (asked_led regime va kind w).world ≡ false → IsFoundSo gave first old w regime va kind (Some q) to)
+    → is_clashed (reach_by_table q va kind w).world ≡ false → FollowsFrom (Sees gave first) new given (reach_by_table q va kind w)
+found_on gave old new given q va kind to regime same reaches first w s at asked found =
+    reaches first w s (sym (ap space_in same) ∙ at) (asked ∙ ap (λ (v : Regime). asked_led v va kind w) same)
+    (subst (λ (v : Regime). is_clashed (asked_led v va kind w).world ≡ false → IsFoundSo gave first old w v va kind (Some q) to) same found)
+
+-- if it leads to no address, the answer to the question for a page is its fault
+pub fault_reaches : {E : Type 0} (gave : E → E → List Piece → Type 0) (old new : Side E) (given : Answer) (q : PageId) (va : ℕ)
+    (kind : Kind) (cause : ℕ) → FollowsAlways gave old new given (if_drawn (replies (Absent cause)))
+    → Reaches gave old new given q va kind (Some (Err cause))
+unfolding reach_by_table
+fault_reaches gave old new given q va kind cause told first w s at same so unclashed =
+    asked_fault gave first old new given va kind (reached q va kind) cause w (later_reached q va kind) (reached_fault q va kind cause) unclashed
+    (λ u. (found_inside gave first old old.regime va kind (Some q) (Err cause) w same so u).0) told

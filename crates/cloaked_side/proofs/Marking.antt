@@ -50,6 +50,7 @@ sees_remarked gave first old new next (Cloaked c) is sees = record {
   holds = holds_remarked old.memory.now new (next c.memory.marks) c.memory (is ∙ ap next sees.holds.marks) sees.holds;
   emits = sees.emits;
   violation = sees.violation;
+  domain = sees.domain;
   regime = sees.regime;
   tracks = sees.tracks;
   spends = sees.spends;

@@ -23,10 +23,11 @@ use Rattle.cloak_base.specs.declared.names.Frame.{Frame}
 use Rattle.shadow_fold.specs.Keeping.{Agrees}
 use Rattle.shadow_fold.specs.Entries.{is_table}
 use Rattle.shadow_fold.specs.Table.{Table, ending}
+use Rattle.shadow_fold.specs.declared.entry.Regime.{Regime}
 use Rattle.shadow_law.specs.Agreeing.{present}
 use Rattle.shadow_law.proofs.Tables.{write_agrees}
 use Rattle.cloaked_side.specs.Holding.{Holds, Settles, SameSize, HoldsNoMore, HoldsNoOther, frames_of}
-use Rattle.cloaked_side.specs.Seeing.{Sees, SeesCloak, SeesCounted, SeesWalking, Stays, StaysWithin, asked_by, paid, touched_since}
+use Rattle.cloaked_side.specs.Seeing.{IsRegimeFor, Sees, SeesCloak, SeesCounted, SeesWalking, Stays, StaysWithin, asked_by, paid, space_in, touched_since}
 use Rattle.cloak_base.specs.declared.names.Meta.{Meta}
 use Rattle.protect_meta.specs.Table.{domains_of}
 use Rattle.cloak_pager.specs.State.{PagerState, held_in}
@@ -45,55 +46,57 @@ use Rattle.cloaked_side.specs.declared.side.Side.{Side}
 -- What calls did to a side that sees this: events and items more, and a memory that went on with them.
 pub counted_on : {E : Type 0} (gave : E → E → List Piece → Type 0) (first old new : Side E) (c c' : Cloak) (left more : ℕ)
     (es : List Event) (is : List Item) → c'.events ≡ c.events ++ es → c'.items ≡ c.items ++ is → c'.violation ≡ new.violation →
-    c'.regime ≡ c.regime → new.regime ≡ old.regime → new.space ≡ old.space → Holds new.memory.now c'.memory →
+    c'.regime ≡ c.regime → new.domain ≡ old.domain → new.regime ≡ old.regime → Holds new.memory.now c'.memory →
     Emits gave first.emitter.now new.emitter.now (item_pieces (c.items ++ is)) →
-    TracksBy old.memory.now new.memory.now (after_events new.space es) →
-    Spends 0 (reads_due (record { space = new.space; events = es; items = is; changed = [] })) (spent_in old.memory.now) (spent_in new.memory.now) →
-    MapsBy old.memory.now new.memory.now new.space es →
+    TracksBy old.memory.now new.memory.now (after_events (space_in new.regime) es) →
+    Spends 0 (reads_due (record { space = space_in new.regime; events = es; items = is; changed = [] })) (spent_in old.memory.now) (spent_in new.memory.now) →
+    MapsBy old.memory.now new.memory.now (space_in new.regime) es →
     SeesCounted gave first old c left more → SeesCounted gave first new c' left more
-counted_on gave first old new c c' left more es is evented itemed violated viewed regime space holds emits tracks spends maps sees = record {
+counted_on gave first old new c c' left more es is evented itemed violated viewed domain regime holds emits tracks spends maps sees = record {
   holds = holds;
   emits = subst (λ (xs : List Item). Emits gave first.emitter.now new.emitter.now (item_pieces xs)) (sym itemed) emits;
   violation = sym violated;
-  regime = regime ∙ sees.regime ∙ sym viewed;
-  tracks = subst (λ (xs : List Event). TracksBy first.memory.now new.memory.now (after_events new.space xs)) (sym evented)
-      (tracks_on first.memory.now old.memory.now new.memory.now new.space c.events es
-      (respaced first.memory.now old.memory.now old.space new.space c.events space sees.tracks) tracks);
+  domain = domain ∙ sees.domain ∙ sym (ap (λ (v : InsideRegime). v.domain) viewed);
+  regime = subst (λ (r : Regime). IsRegimeFor c'.regime r) (sym regime) (subst (λ (v : InsideRegime). IsRegimeFor v old.regime) (sym viewed) sees.regime);
+  tracks = subst (λ (xs : List Event). TracksBy first.memory.now new.memory.now (after_events (space_in new.regime) xs)) (sym evented)
+      (tracks_on first.memory.now old.memory.now new.memory.now (space_in new.regime) c.events es
+      (respaced first.memory.now old.memory.now (space_in old.regime) (space_in new.regime) c.events (ap space_in regime) sees.tracks) tracks);
   spends = subst (λ (x : List Event × List Item). SpendsFor (looks_in x.0) left
-      (paid more (reads_due (record { space = new.space; events = x.0; items = x.1; changed = [] }))) (spent_in first.memory.now) (spent_in new.memory.now))
+      (paid more (reads_due (record { space = space_in new.regime; events = x.0; items = x.1; changed = [] }))) (spent_in first.memory.now) (spent_in new.memory.now))
       (λ i. (sym evented i, sym itemed i))
-      (spends_on left more new.space c.events es c.items is (spent_in first.memory.now) (spent_in old.memory.now) (spent_in new.memory.now)
+      (spends_on left more (space_in new.regime) c.events es c.items is (spent_in first.memory.now) (spent_in old.memory.now) (spent_in new.memory.now)
       sees.spends spends);
-  maps = subst (λ (xs : List Event). MapsBy first.memory.now new.memory.now new.space xs) (sym evented)
-      (maps_on first.memory.now old.memory.now new.memory.now new.space c.events es
-      (maps_of first.memory.now old.memory.now old.space new.space c.events space sees.maps) maps);
+  maps = subst (λ (xs : List Event). MapsBy first.memory.now new.memory.now (space_in new.regime) xs) (sym evented)
+      (maps_on first.memory.now old.memory.now new.memory.now (space_in new.regime) c.events es
+      (maps_of first.memory.now old.memory.now (space_in old.regime) (space_in new.regime) c.events (ap space_in regime) sees.maps) maps);
 }
 
 -- events that leave a memory as it is
 
 pub sees_also : {E : Type 0} (gave : E → E → List Piece → Type 0) (first now : Side E) (c : Cloak) (left more : ℕ) (events : List Event) →
-    TracksBy now.memory.now now.memory.now (after_events now.space events) → SeesCounted gave first now c left more →
+    TracksBy now.memory.now now.memory.now (after_events (space_in now.regime) events) → SeesCounted gave first now c left more →
     SeesCounted gave first now (record c { events = c.events ++ events }) left more
 sees_also gave first now c left more events still sees = record {
   holds = sees.holds;
   emits = sees.emits;
   violation = sees.violation;
+  domain = sees.domain;
   regime = sees.regime;
-  tracks = tracks_on first.memory.now now.memory.now now.memory.now now.space c.events events sees.tracks still;
+  tracks = tracks_on first.memory.now now.memory.now now.memory.now (space_in now.regime) c.events events sees.tracks still;
   spends = (
-      let further = due_events now.space c.events events c.items in
-      let few = paid_is more (reads_due (asked_by now.space c)) in
-      let many = paid_is more (reads_due (record { space = now.space; events = c.events ++ events; items = c.items; changed = [] })) in
+      let further = due_events (space_in now.regime) c.events events c.items in
+      let few = paid_is more (reads_due (asked_by (space_in now.regime) c)) in
+      let many = paid_is more (reads_due (record { space = space_in now.regime; events = c.events ++ events; items = c.items; changed = [] })) in
       let looks = looks_then c.events events in
       spends_looks (omega (arith, looks))
-      (spends_more left left (paid more (reads_due (asked_by now.space c))) _ (spent_in first.memory.now) (spent_in now.memory.now)
+      (spends_more left left (paid more (reads_due (asked_by (space_in now.regime) c))) _ (spent_in first.memory.now) (spent_in now.memory.now)
       (omega (arith, further, few, many)) sees.spends)
       );
-  maps = maps_on first.memory.now now.memory.now now.memory.now now.space c.events events sees.maps (λ mapped make are. are);
+  maps = maps_on first.memory.now now.memory.now now.memory.now (space_in now.regime) c.events events sees.maps (λ mapped make are. are);
 }
 
 pub sees_noted : {E : Type 0} (gave : E → E → List Piece → Type 0) (first now : Side E) (events : List Event)
-    (w : World) → TracksBy now.memory.now now.memory.now (after_events now.space events) → Sees gave first now w →
+    (w : World) → TracksBy now.memory.now now.memory.now (after_events (space_in now.regime) events) → Sees gave first now w →
     Sees gave first now (noted events w)
 sees_noted gave first now events (Flat ram) still sees = sees
 sees_noted gave first now events (Alone handed) still sees = sees
@@ -101,23 +104,24 @@ sees_noted gave first now events (Cloaked c) still sees = sees_also gave first n
 
 -- an item more, and the memory as it was
 pub sees_written : {E : Type 0} (gave : E → E → List Piece → Type 0) (first old new : Side E) (i : Item) (w : World) →
-    new.memory ≡ old.memory → new.violation ≡ old.violation → new.regime ≡ old.regime → new.space ≡ old.space →
+    new.memory ≡ old.memory → new.violation ≡ old.violation → new.domain ≡ old.domain → new.regime ≡ old.regime →
     Emits gave old.emitter.now new.emitter.now (item_pieces (i ∷ [])) → Sees gave first old w → Sees gave first new (written i w)
-sees_written gave first old new i (Flat ram) memory violation regime space emits sees = sees
-sees_written gave first old new i (Alone handed) memory violation regime space emits sees = sees
-sees_written gave first old new i (Cloaked c) memory violation regime space emits sees = record {
+sees_written gave first old new i (Flat ram) memory violation domain regime emits sees = sees
+sees_written gave first old new i (Alone handed) memory violation domain regime emits sees = sees
+sees_written gave first old new i (Cloaked c) memory violation domain regime emits sees = record {
   holds = subst (λ x. Holds x.now c.memory) (sym memory) sees.holds;
   emits = emits_items c.items (i ∷ []) sees.emits emits;
   violation = violation ∙ sees.violation;
-  regime = regime ∙ sees.regime;
-  tracks = subst (λ x. TracksBy first.memory.now x.now (after_events new.space c.events)) (sym memory)
-      (respaced first.memory.now old.memory.now old.space new.space c.events space sees.tracks);
-  spends = subst (λ x. SpendsFor (looks_in c.events) 0 (reads_due (asked_by new.space (record c { items = c.items ++ i ∷ [] })))
+  domain = domain ∙ sees.domain;
+  regime = subst (λ (r : Regime). IsRegimeFor c.regime r) (sym regime) sees.regime;
+  tracks = subst (λ x. TracksBy first.memory.now x.now (after_events (space_in new.regime) c.events)) (sym memory)
+      (respaced first.memory.now old.memory.now (space_in old.regime) (space_in new.regime) c.events (ap space_in regime) sees.tracks);
+  spends = subst (λ x. SpendsFor (looks_in c.events) 0 (reads_due (asked_by (space_in new.regime) (record c { items = c.items ++ i ∷ [] })))
       (spent_in first.memory.now) (spent_in x.now)) (sym memory)
-      (spends_more 0 0 (reads_due (asked_by old.space c)) _ (spent_in first.memory.now) (spent_in old.memory.now)
-      (let further = due_items old.space c.events c.items (i ∷ []) in omega (arith, further)) sees.spends);
-  maps = subst (λ x. MapsBy first.memory.now x.now new.space c.events) (sym memory)
-      (maps_of first.memory.now old.memory.now old.space new.space c.events space sees.maps);
+      (spends_more 0 0 (reads_due (asked_by (space_in old.regime) c)) _ (spent_in first.memory.now) (spent_in old.memory.now)
+      (let further = due_items (space_in old.regime) c.events c.items (i ∷ []) in omega (arith, further)) sees.spends);
+  maps = subst (λ x. MapsBy first.memory.now x.now (space_in new.regime) c.events) (sym memory)
+      (maps_of first.memory.now old.memory.now (space_in old.regime) (space_in new.regime) c.events (ap space_in regime) sees.maps);
 }
 
 pub counted_settled : {E : Type 0} (gave : E → E → List Piece → Type 0) (first old new : Side E) (f : ℕ) (c : Cloak) (left more : ℕ) →
@@ -126,18 +130,18 @@ pub counted_settled : {E : Type 0} (gave : E → E → List Piece → Type 0) (f
     TracksBy old.memory.now new.memory.now (touched (frame f)) →
     ((m : CloakedMemory) → Holds old.memory.now m → Spends 0 (length (settle f m).ciphers) (spent_in old.memory.now) (spent_in new.memory.now)) →
     MapsStill old.memory.now new.memory.now →
-    new.violation ≡ old.violation → new.regime ≡ old.regime → new.space ≡ old.space →
+    new.violation ≡ old.violation → new.domain ≡ old.domain → new.regime ≡ old.regime →
     SeesCounted gave first old c left more → SeesCounted gave first new (settled_in f c) left more
-counted_settled gave first old new f c left more settles tracks spends maps violation regime space sees =
+counted_settled gave first old new f c left more settles tracks spends maps violation domain regime sees =
     let s = settles c.memory sees.holds in
     let cs = (settle f c.memory).ciphers in
-    let due : reads_due (record { space = new.space; events = Touch f ∷ []; items = cipher_items cs; changed = [] }) ≡ length cs =
+    let due : reads_due (record { space = space_in new.regime; events = Touch f ∷ []; items = cipher_items cs; changed = [] }) ≡ length cs =
     (let shown = ciphers_due cs in omega (arith, shown)) in
     counted_on gave first old new c (settled_in f c) left more (Touch f ∷ []) (cipher_items cs) refl refl (sym (violation ∙ sees.violation)) refl
-    regime space s.holds (emits_items c.items (cipher_items cs) sees.emits s.emits)
-    (tracks_touch old.memory.now new.memory.now new.space f tracks)
+    domain regime s.holds (emits_items c.items (cipher_items cs) sees.emits s.emits)
+    (tracks_touch old.memory.now new.memory.now (space_in new.regime) f tracks)
     (subst (λ (n : ℕ). Spends 0 n (spent_in old.memory.now) (spent_in new.memory.now)) (sym due) (spends c.memory sees.holds))
-    (maps_still old.memory.now new.memory.now new.space (Touch f ∷ []) maps) sees
+    (maps_still old.memory.now new.memory.now (space_in new.regime) (Touch f ∷ []) maps) sees
 
 pub sees_settled : {E : Type 0} (gave : E → E → List Piece → Type 0) (first old new : Side E) (f : ℕ) (w : World) →
     ((m : CloakedMemory) → Holds old.memory.now m →
@@ -145,12 +149,12 @@ pub sees_settled : {E : Type 0} (gave : E → E → List Piece → Type 0) (firs
     TracksBy old.memory.now new.memory.now (touched (frame f)) →
     ((m : CloakedMemory) → Holds old.memory.now m → Spends 0 (length (settle f m).ciphers) (spent_in old.memory.now) (spent_in new.memory.now)) →
     MapsStill old.memory.now new.memory.now →
-    new.violation ≡ old.violation → new.regime ≡ old.regime → new.space ≡ old.space →
+    new.violation ≡ old.violation → new.domain ≡ old.domain → new.regime ≡ old.regime →
     Sees gave first old w → Sees gave first new (settled f w)
-sees_settled gave first old new f (Flat ram) settles tracks spends maps violation regime space sees = sees
-sees_settled gave first old new f (Alone handed) settles tracks spends maps violation regime space sees = sees
-sees_settled gave first old new f (Cloaked c) settles tracks spends maps violation regime space sees =
-    counted_settled gave first old new f c 0 0 settles tracks spends maps violation regime space sees
+sees_settled gave first old new f (Flat ram) settles tracks spends maps violation domain regime sees = sees
+sees_settled gave first old new f (Alone handed) settles tracks spends maps violation domain regime sees = sees
+sees_settled gave first old new f (Cloaked c) settles tracks spends maps violation domain regime sees =
+    counted_settled gave first old new f c 0 0 settles tracks spends maps violation domain regime sees
 
 pub same_size : {memory : Memory} → SameSize memory memory
 same_size = record { frames = refl; domains = refl }
@@ -165,8 +169,8 @@ stays_self gave side = record {
   same_emitter = refl;
   emits_some = ([], emits_none gave side.emitter.now);
   size = same_size;
+  domain = refl;
   regime = refl;
-  space = refl;
   counting = refl;
   others = λ k q n e. e;
 }
@@ -181,10 +185,10 @@ stays_then gave first old new s t = record {
   same_emitter = t.same_emitter ∙ s.same_emitter;
   emits_some = some_then gave _ _ _ s.emits_some t.emits_some;
   size = size_then first.memory.now old.memory.now new.memory.now s.size t.size;
+  domain = t.domain ∙ s.domain;
   regime = t.regime ∙ s.regime;
-  space = t.space ∙ s.space;
   counting = t.counting ∙ s.counting;
-  others = λ k q n e. s.others k q n (t.others k q (subst (λ (v : InsideRegime). q.domain ≢ v.domain) (sym s.regime) n) e);
+  others = λ k q n e. s.others k q n (t.others k q (subst (λ (d : ℕ). q.domain ≢ d) (sym s.domain) n) e);
 }
 
 pub within_then : {E : Type 0} (gave : E → E → List Piece → Type 0) (first old new : Side E) →
@@ -203,17 +207,17 @@ stays_on gave first old new keeps s = stays_then gave first old new s (keeps old
 pub within_more : {E : Type 0} (gave : E → E → List Piece → Type 0) (first old new : Side E) →
     StaysWithin gave first old →
     new.memory.ghost_name ≡ old.memory.ghost_name → new.emitter.ghost_name ≡ old.emitter.ghost_name →
-    EmitsSome gave old.emitter.now new.emitter.now → SameSize old.memory.now new.memory.now → new.regime ≡ old.regime →
-    new.space ≡ old.space → new.memory.now.counting ≡ old.memory.now.counting →
+    EmitsSome gave old.emitter.now new.emitter.now → SameSize old.memory.now new.memory.now → new.domain ≡ old.domain →
+    new.regime ≡ old.regime → new.memory.now.counting ≡ old.memory.now.counting →
     HoldsNoMore old.memory.now.pager new.memory.now.pager → StaysWithin gave first new
-within_more gave first old new s memory emitter some size regime space counting less = within_then gave first old new s (record {
+within_more gave first old new s memory emitter some size domain regime counting less = within_then gave first old new s (record {
   stays = record {
     same_memory = memory;
     same_emitter = emitter;
     emits_some = some;
     size = size;
+    domain = domain;
     regime = regime;
-    space = space;
     counting = counting;
     others = λ k q n e. less.held k q e;
   };
@@ -222,19 +226,19 @@ within_more gave first old new s memory emitter some size regime space counting 
 
 -- the same, if a page of the domain that is served was offered
 pub stays_offered : {E : Type 0} (gave : E → E → List Piece → Type 0) (first old new : Side E) (q : PageId) →
-    Stays gave first old → q.domain ≡ old.regime.domain →
+    Stays gave first old → q.domain ≡ old.domain →
     new.memory.ghost_name ≡ old.memory.ghost_name → new.emitter.ghost_name ≡ old.emitter.ghost_name →
-    EmitsSome gave old.emitter.now new.emitter.now → SameSize old.memory.now new.memory.now → new.regime ≡ old.regime →
-    new.space ≡ old.space → new.memory.now.counting ≡ old.memory.now.counting →
+    EmitsSome gave old.emitter.now new.emitter.now → SameSize old.memory.now new.memory.now → new.domain ≡ old.domain →
+    new.regime ≡ old.regime → new.memory.now.counting ≡ old.memory.now.counting →
     HoldsNoOther q old.memory.now.pager new.memory.now.pager → Stays gave first new
-stays_offered gave first old new q s own memory emitter some size regime space counting others =
+stays_offered gave first old new q s own memory emitter some size domain regime counting others =
     stays_then gave first old new s (record {
       same_memory = memory;
       same_emitter = emitter;
       emits_some = some;
       size = size;
+      domain = domain;
       regime = regime;
-      space = space;
       counting = counting;
       others = λ k p n e. others k p (λ same. n (ap (λ (x : PageId). x.domain) same ∙ own)) e;
     })
@@ -243,13 +247,13 @@ stays_offered gave first old new q s own memory emitter some size regime space c
 pub within_repaged : {E : Type 0} (gave : E → E → List Piece → Type 0) (first old new : Side E) →
     StaysWithin gave first old →
     new.memory.ghost_name ≡ old.memory.ghost_name → new.emitter ≡ old.emitter →
-    SameSize old.memory.now new.memory.now → new.regime ≡ old.regime → new.space ≡ old.space →
+    SameSize old.memory.now new.memory.now → new.domain ≡ old.domain → new.regime ≡ old.regime →
     new.memory.now.counting ≡ old.memory.now.counting → HoldsNoMore old.memory.now.pager new.memory.now.pager →
     StaysWithin gave first new
-within_repaged gave first old new s memory emitter size regime space counting less =
+within_repaged gave first old new s memory emitter size domain regime counting less =
     within_more gave first old new s memory (ap (λ e. e.ghost_name) emitter)
-    (subst (λ e. EmitsSome gave old.emitter.now e.now) (sym emitter) ([], emits_none gave old.emitter.now)) size regime
-    space counting less
+    (subst (λ e. EmitsSome gave old.emitter.now e.now) (sym emitter) ([], emits_none gave old.emitter.now)) size domain
+    regime counting less
 
 -- another pager, and all else of the side as it was
 pub record Repaged {E : Type 0} (old new : Side E) : Type 0 where
@@ -259,8 +263,8 @@ pub record Repaged {E : Type 0} (old new : Side E) : Type 0 where
   pub marks : new.memory.now.reservations ≡ old.memory.now.reservations
   pub emitter : new.emitter.now ≡ old.emitter.now
   pub violation : new.violation ≡ old.violation
+  pub domain : new.domain ≡ old.domain
   pub regime : new.regime ≡ old.regime
-  pub space : new.space ≡ old.space
 
 -- other reservations too, since a frame was written
 pub record Rewritten {E : Type 0} (old new : Side E) : Type 0 where
@@ -269,8 +273,8 @@ pub record Rewritten {E : Type 0} (old new : Side E) : Type 0 where
   pub missed : new.memory.now.missed ≡ old.memory.now.missed
   pub emitter : new.emitter.now ≡ old.emitter.now
   pub violation : new.violation ≡ old.violation
+  pub domain : new.domain ≡ old.domain
   pub regime : new.regime ≡ old.regime
-  pub space : new.space ≡ old.space
 
 repaged : {E : Type 0} (old new : Side E) → Repaged old new → Rewritten old new
 repaged old new same = record {
@@ -279,8 +283,8 @@ repaged old new same = record {
   missed = same.missed;
   emitter = same.emitter;
   violation = same.violation;
+  domain = same.domain;
   regime = same.regime;
-  space = same.space;
 }
 
 -- another memory with this of its ledger as it was
@@ -353,14 +357,14 @@ pub counted_moved : {E : Type 0} (gave : E → E → List Piece → Type 0) (fir
     AgreesStill old.memory.now new.memory.now c.memory m' →
     ((w : PageId → Bool) → StandsForMemory old.memory.now.pager w c.memory →
     StandsForMemory new.memory.now.pager w m') →
-    TracksBy old.memory.now new.memory.now (after_events new.space events) →
-    Spends 0 (reads_due (record { space = new.space; events = events; items = []; changed = [] })) (spent_in old.memory.now) (spent_in new.memory.now) →
+    TracksBy old.memory.now new.memory.now (after_events (space_in new.regime) events) →
+    Spends 0 (reads_due (record { space = space_in new.regime; events = events; items = []; changed = [] })) (spent_in old.memory.now) (spent_in new.memory.now) →
     MapsStill old.memory.now new.memory.now →
     SeesCounted gave first old c left more → SeesCounted gave first new (record c { memory = m'; events = c.events ++ events }) left more
 counted_moved gave first old new c m' events left more same kept marks still stands tracks spends maps sees =
     let h = sees.holds in
     counted_on gave first old new c (record c { memory = m'; events = c.events ++ events }) left more events [] refl
-    (sym (append-nil c.items)) (sym (same.violation ∙ sees.violation)) refl same.regime same.space
+    (sym (append-nil c.items)) (sym (same.violation ∙ sees.violation)) refl same.domain same.regime
     (record {
       wiped = h.wiped;
       pager = stands h.wiped h.pager;
@@ -374,7 +378,7 @@ counted_moved gave first old new c m' events left more same kept marks still sta
     })
     (subst (λ (is : List Item). Emits gave first.emitter.now new.emitter.now (item_pieces is)) (sym (append-nil c.items))
     (subst (λ e. Emits gave first.emitter.now e (item_pieces c.items)) (sym same.emitter) sees.emits))
-    tracks spends (maps_still old.memory.now new.memory.now new.space events maps) sees
+    tracks spends (maps_still old.memory.now new.memory.now (space_in new.regime) events maps) sees
 
 -- and no events
 pub sees_still : {E : Type 0} (gave : E → E → List Piece → Type 0) (first old new : Side E) (c : Cloak)
@@ -388,7 +392,7 @@ pub sees_still : {E : Type 0} (gave : E → E → List Piece → Type 0) (first 
 sees_still gave first old new c m' same kept marks still stands tracks reads shadows sees =
     subst (λ (es : List Event). SeesCloak gave first new (record c { memory = m'; events = es })) (append-nil c.events)
     (counted_moved gave first old new c m' [] 0 0 (repaged old new same) kept (λ is. same.marks ∙ is ∙ sym marks) still stands
-    (λ s keeps. subst (λ (u : Fold). Tracks new.memory.now u) (no_events new.space s) (tracks s keeps))
+    (λ s keeps. subst (λ (u : Fold). Tracks new.memory.now u) (no_events (space_in new.regime) s) (tracks s keeps))
     (spends_still old.memory.now new.memory.now reads (ap (λ (t : Table). t.counts.misses) shadows))
     (maps_same old.memory.now new.memory.now shadows) sees)
 
@@ -414,13 +418,14 @@ counted_read gave first old new c left more same shadows counting read sees =
       };
       emits = subst (λ e. Emits gave first.emitter.now e (item_pieces c.items)) (sym same.emitter) sees.emits;
       violation = same.violation ∙ sees.violation;
-      regime = same.regime ∙ sees.regime;
-      tracks = tracks_same first.memory.now old.memory.now new.memory.now new.space c.events
-          (respaced first.memory.now old.memory.now old.space new.space c.events same.space sees.tracks)
+      domain = same.domain ∙ sees.domain;
+      regime = subst (λ (r : Regime). IsRegimeFor c.regime r) (sym same.regime) sees.regime;
+      tracks = tracks_same first.memory.now old.memory.now new.memory.now (space_in new.regime) c.events
+          (respaced first.memory.now old.memory.now (space_in old.regime) (space_in new.regime) c.events (ap space_in same.regime) sees.tracks)
           (same_tracks _ _ _ _ (held_in old.memory.now.pager) (held_in new.memory.now.pager) counting shadows
           (read_held old.memory.now.pager new.memory.now.pager read));
       spends = (
-          let n = reads_due (asked_by old.space c) in
+          let n = reads_due (asked_by (space_in old.regime) c) in
           let few = paid_is more n in
           let many = paid_is (more + 1) n in
           spends_looks (omega arith)
@@ -429,8 +434,8 @@ counted_read gave first old new c left more same shadows counting read sees =
           (spends_then left 0 (paid more n) 1 (spent_in first.memory.now) (spent_in old.memory.now) (spent_in new.memory.now)
           sees.spends (spends_read old.memory.now new.memory.now read (ap (λ (t : Table). t.counts.misses) shadows))))
           );
-      maps = maps_further first.memory.now old.memory.now new.memory.now new.space c.events
-          (maps_of first.memory.now old.memory.now old.space new.space c.events same.space sees.maps)
+      maps = maps_further first.memory.now old.memory.now new.memory.now (space_in new.regime) c.events
+          (maps_of first.memory.now old.memory.now (space_in old.regime) (space_in new.regime) c.events (ap space_in same.regime) sees.maps)
           (maps_same old.memory.now new.memory.now shadows);
     }
 
@@ -442,14 +447,15 @@ counted_event gave first now c f sees =
       holds = sees.holds;
       emits = sees.emits;
       violation = sees.violation;
+      domain = sees.domain;
       regime = sees.regime;
-      tracks = tracks_on first.memory.now now.memory.now now.memory.now now.space c.events (Read f ∷ []) sees.tracks
-          (tracks_read now.memory.now now.space f);
+      tracks = tracks_on first.memory.now now.memory.now now.memory.now (space_in now.regime) c.events (Read f ∷ []) sees.tracks
+          (tracks_read now.memory.now (space_in now.regime) f);
       spends = spends_looks (let looks = looks_then c.events (Read f ∷ []) in omega (arith, looks))
-          (spends_more 0 0 (suc (reads_due (asked_by now.space c))) _ (spent_in first.memory.now) (spent_in now.memory.now)
-          (let both : reads_due (record { space = now.space; events = c.events ++ Read f ∷ []; items = c.items; changed = [] })
-          ≡ reads_due (asked_by now.space c) + 1 = due_event now.space c.events c.items (Read f) in omega (arith, both)) sees.spends);
-      maps = maps_on first.memory.now now.memory.now now.memory.now now.space c.events (Read f ∷ []) sees.maps (λ mapped make are. are);
+          (spends_more 0 0 (suc (reads_due (asked_by (space_in now.regime) c))) _ (spent_in first.memory.now) (spent_in now.memory.now)
+          (let both : reads_due (record { space = space_in now.regime; events = c.events ++ Read f ∷ []; items = c.items; changed = [] })
+          ≡ reads_due (asked_by (space_in now.regime) c) + 1 = due_event (space_in now.regime) c.events c.items (Read f) in omega (arith, both)) sees.spends);
+      maps = maps_on first.memory.now now.memory.now now.memory.now (space_in now.regime) c.events (Read f ∷ []) sees.maps (λ mapped make are. are);
     }
 
 -- Frame f was read: what is shown of it is what the world shows.
@@ -476,7 +482,7 @@ pub stored_after : {E : Type 0} (gave : E → E → List Piece → Type 0) (firs
     StandsForMemory new.memory.now.pager w
     (with_shown_frame (frame_of pa)
     (with_value_in (slice_index_or m.ram (frame_of pa) []) (place_of pa) width value) m)) →
-    TracksBy old.memory.now new.memory.now (after_events new.space (Write (frame_of pa) ∷ [])) →
+    TracksBy old.memory.now new.memory.now (after_events (space_in new.regime) (Write (frame_of pa) ∷ [])) →
     (g : Frame) → new.memory.now.pager.reads ≡ old.memory.now.pager.reads → new.memory.now.shadows ≡ ending (is_table g) old.memory.now.shadows →
     Sees gave first old v → FollowsFrom (λ side w. Sees gave first side w) new (tt {0})
     (record { answer = tt; world = stored_at pa width value v })
@@ -504,7 +510,7 @@ pub filled_after : {E : Type 0} (gave : E → E → List Piece → Type 0) (firs
     ((m : CloakedMemory) → AgreesStill old.memory.now new.memory.now m (with_shown_frame f bytes m)) →
     ((w : PageId → Bool) (m : CloakedMemory) → StandsForMemory old.memory.now.pager w m →
     StandsForMemory new.memory.now.pager w (with_shown_frame f bytes m)) →
-    TracksBy old.memory.now new.memory.now (after_events new.space (Write f ∷ [])) →
+    TracksBy old.memory.now new.memory.now (after_events (space_in new.regime) (Write f ∷ [])) →
     (g : Frame) → new.memory.now.pager.reads ≡ old.memory.now.pager.reads → new.memory.now.shadows ≡ ending (is_table g) old.memory.now.shadows →
     Sees gave first old v → FollowsFrom (λ side w. Sees gave first side w) new (tt {0})
     (record { answer = tt; world = filled_frame f bytes v })
@@ -539,17 +545,17 @@ pub walking_read : {E A : Type 0} (gave : E → E → List Piece → Type 0) (fi
     TracksBy old.memory.now mid.memory.now (touched (frame f)) →
     ((m : CloakedMemory) → Holds old.memory.now m → Spends 0 (length (settle f m).ciphers) (spent_in old.memory.now) (spent_in mid.memory.now)) →
     MapsStill old.memory.now mid.memory.now →
-    mid.violation ≡ old.violation → mid.regime ≡ old.regime → mid.space ≡ old.space → Repaged mid new →
+    mid.violation ≡ old.violation → mid.domain ≡ old.domain → mid.regime ≡ old.regime → Repaged mid new →
     new.memory.now.shadows ≡ mid.memory.now.shadows → new.memory.now.counting ≡ mid.memory.now.counting →
     SeesFrame mid.memory.now.pager f bytes → IsReadOnce mid.memory.now.pager new.memory.now.pager → a ≡ show bytes →
     SeesWalking gave first old v → FollowsFrom (λ side w. SeesWalking gave first side w) new a
     (record { answer = show (slice_index_or (ram_of (settled f v)) f []); world = settled f v })
-walking_read gave first old mid new f (Flat ram) show bytes a settles tracks spends maps violation regime space same shadows counting sees_frame read is sees = absurd sees
-walking_read gave first old mid new f (Alone handed) show bytes a settles tracks spends maps violation regime space same shadows counting sees_frame read is sees = absurd sees
-walking_read gave first old mid new f (Cloaked c) show bytes a settles tracks spends maps violation regime space same shadows counting sees_frame read is sees =
+walking_read gave first old mid new f (Flat ram) show bytes a settles tracks spends maps violation domain regime same shadows counting sees_frame read is sees = absurd sees
+walking_read gave first old mid new f (Alone handed) show bytes a settles tracks spends maps violation domain regime same shadows counting sees_frame read is sees = absurd sees
+walking_read gave first old mid new f (Cloaked c) show bytes a settles tracks spends maps violation domain regime same shadows counting sees_frame read is sees =
     let c' = settled_in f c in
     let n = touched_since 0 c.events in
-    let seen : SeesCounted gave first mid c' 2 n = counted_settled gave first old mid f c 2 n settles tracks spends maps violation regime space sees in
+    let seen : SeesCounted gave first mid c' 2 n = counted_settled gave first old mid f c 2 n settles tracks spends maps violation domain regime sees in
     record {
       answer = is ∙ ap show (sees_frame seen.holds.wiped c'.memory seen.holds.pager);
       stands = subst (λ (k : ℕ). SeesCounted gave first new c' 2 k) (sym (since_then 0 c.events (Touch f ∷ [])))
@@ -595,12 +601,12 @@ no_other_on gave old new q keeps k p n e = (keeps old (within_self gave old)).no
 -- the same for what stays of it if pages are offered too
 pub stays_repaged : {E : Type 0} (gave : E → E → List Piece → Type 0) (first old new : Side E) → Stays gave first old →
     new.memory.ghost_name ≡ old.memory.ghost_name → new.emitter ≡ old.emitter →
-    SameSize old.memory.now new.memory.now → new.regime ≡ old.regime → new.space ≡ old.space →
+    SameSize old.memory.now new.memory.now → new.domain ≡ old.domain → new.regime ≡ old.regime →
     new.memory.now.counting ≡ old.memory.now.counting → HoldsNoMore old.memory.now.pager new.memory.now.pager →
     Stays gave first new
-stays_repaged gave first old new s memory emitter size regime space counting less =
+stays_repaged gave first old new s memory emitter size domain regime counting less =
     stays_then gave first old new s
-    (within_repaged gave old old new (within_self gave old) memory emitter size regime space counting less).stays
+    (within_repaged gave old old new (within_self gave old) memory emitter size domain regime counting less).stays
 
 -- metadata alone leaves as many frames and domains
 pub turned_size : (old new : Memory) (metas : PageId → Option Meta) → MetasTurn old.pager new.pager metas →

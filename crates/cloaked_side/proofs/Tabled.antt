@@ -8,7 +8,7 @@ use Rattle.cloak_base.specs.declared.names.SpaceId.{SpaceId}
 use Rattle.cloak_model.specs.declared.access.Access.{Access}
 use Rattle.cloak_model.specs.declared.access.Walked.{Walked}
 use Rattle.cloak_model.specs.Ask.{ask_word, ask_walk}
-use Rattle.cloak_model.proofs.WalkParts.{ask_second, ask_after, ask_first}
+use Rattle.cloak_model.proofs.WalkParts.{ask_after, ask_first}
 use Rattle.cloak_model.specs.Asking.{Told, answered}
 use Rattle.cloak_model.specs.Events.{Touch}
 use Rattle.cloak_base.specs.Constants.{frame_of}

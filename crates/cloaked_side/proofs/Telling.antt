@@ -1,7 +1,6 @@
 -- What a side saw is told of its memory and its emitter.
-use Rattle.std.proofs.Common.{◌≡◌, arith, ℕ, Bool, false, List, [], Option, ap, sym, ◌∙◌, subst}
+use Rattle.std.proofs.Common.{◌≡◌, arith, ℕ, false, List, [], Option, ap, sym, ◌∙◌, subst}
 use Rattle.std.proofs.lemmas.List.{append-nil}
-use Rattle.cloak_model.specs.declared.regime.InsideRegime.{InsideRegime}
 use Rattle.cloak_model.specs.World.{World, Cloak, Flat, Cloaked, Alone, is_clashed, unnoted}
 use Rattle.cloak_model.specs.Asking.{Told, FollowsFrom}
 use Rattle.cloak_model.specs.Hart.{Hart}
@@ -20,7 +19,7 @@ use Rattle.cloaked_side.proofs.Spending.{spends_looks, spends_more, spends_none}
 use Rattle.cloaked_side.proofs.Tracking.{no_events}
 use Rattle.cloak_pager.specs.State.{PagerState}
 use Rattle.cloaked_side.specs.Holding.{Holds, SameSize, HoldsNoMore}
-use Rattle.cloaked_side.specs.Seeing.{Sees, asked_by}
+use Rattle.cloaked_side.specs.Seeing.{IsRegimeFor, Sees, asked_by, space_in}
 use Rattle.cloaked_side.specs.Telling.{HoldsWorld, TellsSide}
 use Rattle.cloaked_side.specs.declared.memory.Memory.{Memory}
 use Rattle.cloaked_side.specs.declared.side.Side.{Side}
@@ -28,32 +27,34 @@ use Rattle.cloaked_side.proofs.Emitting.{emits_none}
 
 -- a side as a step begins
 pub sees_first : {E : Type 0} (gave : E → E → List Piece → Type 0) (s : Side E) (c : Cloak) →
-    Holds s.memory.now c.memory → c.items ≡ [] → c.events ≡ [] → s.violation ≡ c.violation → s.regime ≡ c.regime →
+    Holds s.memory.now c.memory → c.items ≡ [] → c.events ≡ [] → s.violation ≡ c.violation →
+    s.domain ≡ c.regime.domain → IsRegimeFor c.regime s.regime →
     Sees gave s s (Cloaked c)
-sees_first gave s c holds none quiet violation regime = record {
+sees_first gave s c holds none quiet violation domain regime = record {
   holds = holds;
   emits = subst (λ is. Emits gave s.emitter.now s.emitter.now (item_pieces is)) (sym none)
       (emits_none gave s.emitter.now);
   violation = violation;
+  domain = domain;
   regime = regime;
-  tracks = subst (λ (es : List Event). TracksBy s.memory.now s.memory.now (after_events s.space es)) (sym quiet)
-      (λ f keeps. subst (λ (u : Fold). Tracks s.memory.now u) (no_events s.space f) keeps);
+  tracks = subst (λ (es : List Event). TracksBy s.memory.now s.memory.now (after_events (space_in s.regime) es)) (sym quiet)
+      (λ f keeps. subst (λ (u : Fold). Tracks s.memory.now u) (no_events (space_in s.regime) f) keeps);
   spends = spends_looks (omega arith)
-      (spends_more 0 0 0 (reads_due (asked_by s.space c)) (spent_in s.memory.now) (spent_in s.memory.now) (omega arith)
+      (spends_more 0 0 0 (reads_due (asked_by (space_in s.regime) c)) (spent_in s.memory.now) (spent_in s.memory.now) (omega arith)
       (spends_none (spent_in s.memory.now)));
   maps = λ mapped make are. are;
 }
 
 -- the memory of a side has gone on by what its world was asked
 pub goes_world : {E : Type 0} (gave : E → E → List Piece → Type 0) (first now : Side E) (space : Option SpaceId) (w : World) →
-    now.space ≡ space → Sees gave first now w →
+    space_in now.regime ≡ space → Sees gave first now w →
     GoesBy first.memory.now now.memory.now (record { space = space; events = events_of w; items = items_of w; changed = [] })
 goes_world gave first now space (Flat ram) at sees = absurd sees
 goes_world gave first now space (Alone handed) at sees = absurd sees
 goes_world gave first now space (Cloaked c) at sees =
     subst (λ (o : Option SpaceId). GoesBy first.memory.now now.memory.now (asked_by o c)) at
     (record {
-      tracks = subst (λ (es : List Event). TracksBy first.memory.now now.memory.now (after_events now.space es)) (sym (append-nil c.events)) sees.tracks;
+      tracks = subst (λ (es : List Event). TracksBy first.memory.now now.memory.now (after_events (space_in now.regime) es)) (sym (append-nil c.events)) sees.tracks;
       spends = sees.spends;
       maps = sees.maps;
       gone = tt;
@@ -85,10 +86,6 @@ tells_from gave first now after told memory e same_memory same_emitter follows =
       (emits_world gave first now told.world follows.stands);
   holds = subst (λ x. HoldsWorld x told.world) (sym same_memory) (holds_world gave first now told.world follows.stands);
 }
-
-pub regime_is : (v : InsideRegime) (satp : ℕ) (sum mxr : Bool) (domain : ℕ) → v.satp ≡ satp → v.sum ≡ sum → v.mxr ≡ mxr →
-    v.domain ≡ domain → v ≡ record { satp = satp; sum = sum; mxr = mxr; domain = domain }
-regime_is v satp sum mxr domain a b c d = λ i. record { satp = a i; sum = b i; mxr = c i; domain = d i }
 
 -- the events of what was told are not told
 

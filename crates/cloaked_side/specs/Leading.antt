@@ -26,7 +26,7 @@ use Rattle.shadow_fold.specs.declared.entry.Entry.{Entry}
 use Rattle.shadow_fold.specs.declared.entry.Regime.{Regime}
 use Rattle.shadow_fold.specs.declared.entry.Regime.TheVariants.{Inside}
 use Rattle.shadow_law.specs.Agreeing.{present, AreOutside}
-use Rattle.cloaked_side.specs.Seeing.{Sees, SeesWalking}
+use Rattle.cloaked_side.specs.Seeing.{Sees, SeesWalking, space_in}
 use Rattle.cloaked_side.specs.declared.leading.Found.{Found}
 use Rattle.cloaked_side.specs.declared.leading.Found.TheVariants as found
 use Rattle.cloaked_side.specs.declared.leading.Led.{Led}
@@ -91,7 +91,7 @@ entry_at regime va kind pa walked cloaked = record {
 -- a side stands for what follows when a walk to memory that is not cloaked makes this entry
 abbrev pub LearnsWalk : {E : Type 0} → (E → E → List Piece → Type 0) → Side E → Side E → Entry → Type 0
 LearnsWalk {E} gave old new e = (first : Side E) (w : World) (satp : ℕ) (a : Access) (walked : Walked) →
-    Sees gave first old w → IsEntryOf w (held_in old.memory.now.pager) e → entry_in old.space satp a walked None ≡ e →
+    Sees gave first old w → IsEntryOf w (held_in old.memory.now.pager) e → entry_in (space_in old.regime) satp a walked None ≡ e →
     Sees gave first new (noted (Born satp a walked None ∷ []) w)
 
 -- Where an access was led, and what is true of the memory then: by the walk that there was, through tables that are
@@ -142,12 +142,13 @@ IsFoundSo gave first now w regime va kind cloaked (Some to) =
 IsFoundSo gave first now w regime va kind cloaked None =
     SeesWalking gave first now (noted (Look (satp_in regime) (access_in regime va kind) ∷ []) w)
 
--- On from a look that found this, the question for a page is answered as the definition tells.
-abbrev pub Reaches : {E : Type 0} → (E → E → List Piece → Type 0) → Side E → Side E → Answer → PageId → Regime →
-    ℕ → Kind → Option (Result Led ℕ) → Type 0
-Reaches {E} gave old new given q regime va kind to =
-    (first : Side E) (w : World) (s : SpaceId) → old.space ≡ Some s → regime ≡ inside_regime old.regime s →
-    ask_inside_address va kind w ≡ asked_led regime va kind w →
-    (is_clashed (asked_led regime va kind w).world ≡ false → IsFoundSo gave first old w regime va kind (Some q) to) →
+-- On from a look that found this, the question of a context for a page is answered as the definition tells.
+abbrev pub Reaches : {E : Type 0} → (E → E → List Piece → Type 0) → Side E → Side E → Answer → PageId → ℕ → Kind →
+    Option (Result Led ℕ) → Type 0
+Reaches {E} gave old new given q va kind to =
+    (first : Side E) (w : World) (s : SpaceId) → space_in old.regime ≡ Some s →
+    ask_inside_address va kind w ≡ asked_led old.regime va kind w →
+    (is_clashed (asked_led old.regime va kind w).world ≡ false →
+    IsFoundSo gave first old w old.regime va kind (Some q) to) →
     is_clashed (reach_by_table q va kind w).world ≡ false →
     FollowsFrom (Sees gave first) new given (reach_by_table q va kind w)

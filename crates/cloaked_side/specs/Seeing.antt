@@ -6,14 +6,17 @@ use Rattle.cloak_base.specs.declared.names.SpaceId.{SpaceId}
 use Rattle.cloak_pager.specs.State.{held_in, owed_at, IsNoneOwed, IsNoneHeld}
 use Rattle.cloak_model.specs.World.{World, Cloak, Flat, Cloaked, Alone, is_clashed}
 use Rattle.cloak_model.specs.Asking.{Asking, FollowsFrom}
+use Rattle.cloak_model.specs.declared.regime.InsideRegime.{InsideRegime}
 use Rattle.cloak_model.specs.Exchange.{Piece, Emits, EmitsSome, item_pieces}
 use Rattle.cloak_model.specs.Events.{Event, Look, Touch, Offer, Born, Read, Write, Drop, Space}
 use Rattle.shadow_fold.specs.Fold.{after_events}
 use Rattle.shadow_fold.specs.Reads.{AskedByStep, SpendsFor, looks_in, reads_due}
 use Rattle.shadow_fold.specs.Table.{Table, is_known}
 use Rattle.shadow_fold.specs.declared.entry.Regime.{Regime}
+use Rattle.shadow_fold.specs.declared.entry.Regime.TheVariants.{Outside, Inside}
 use Rattle.cloaked_side.specs.Tracking.{TracksBy, MapsBy, spent_in}
 use Rattle.cloaked_side.specs.Holding.{Holds, SameSize, HoldsNoMore, domains_in}
+use Rattle.cloaked_side.specs.declared.program_side.ProgramSide.{ProgramSide}
 use Rattle.cloaked_side.specs.declared.side.Side.{Side}
 
 -- What a step has asked so far, for a context of this space or outside.
@@ -25,6 +28,16 @@ abbrev pub paid : ℕ → ℕ → ℕ
 paid zero due = due
 paid (suc more) due = suc (paid more due)
 
+-- the space of the context that translates; none outside
+abbrev pub space_in : Regime → Option SpaceId
+space_in (Outside satp mode sum mxr) = None
+space_in (Inside satp sum mxr space) = Some space
+
+-- A context translates as its hart sees memory. Outside, each access says how.
+abbrev pub IsRegimeFor : InsideRegime → Regime → Type 0
+IsRegimeFor v (Outside satp mode sum mxr) = Unit {0}
+IsRegimeFor v (Inside satp sum mxr space) = (v.satp ≡ satp) × (v.sum ≡ sum) × (v.mxr ≡ mxr)
+
 -- What memory and step have become since an earlier state of the side, in which the emitter was as when a step began. A
 -- side does not know which pages lie at the addresses of a space. Of the reads of page tables that the misses pay for,
 -- `left` are left, and `more` reads are paid for beyond those that are due.
@@ -33,12 +46,13 @@ pub record SeesCounted {E : Type 0} (gave : E → E → List Piece → Type 0) (
   pub holds : Holds now.memory.now c.memory
   pub emits : Emits gave first.emitter.now now.emitter.now (item_pieces c.items)
   pub violation : now.violation ≡ c.violation
-  pub regime : now.regime ≡ c.regime
+  pub domain : now.domain ≡ c.regime.domain
+  pub regime : IsRegimeFor c.regime now.regime
   -- the memory has become what the step's events make of it
-  pub tracks : TracksBy first.memory.now now.memory.now (after_events now.space c.events)
-  pub spends : SpendsFor (looks_in c.events) left (paid more (reads_due (asked_by now.space c)))
+  pub tracks : TracksBy first.memory.now now.memory.now (after_events (space_in now.regime) c.events)
+  pub spends : SpendsFor (looks_in c.events) left (paid more (reads_due (asked_by (space_in now.regime) c)))
       (spent_in first.memory.now) (spent_in now.memory.now)
-  pub maps : MapsBy first.memory.now now.memory.now now.space c.events
+  pub maps : MapsBy first.memory.now now.memory.now (space_in now.regime) c.events
 
 abbrev pub SeesCloak : {E : Type 0} → (E → E → List Piece → Type 0) → Side E → Side E → Cloak → Type 0
 SeesCloak gave first now c = SeesCounted gave first now c 0 0
@@ -75,10 +89,11 @@ pub record ShowsCloak {E : Type 0} (gave : E → E → List Piece → Type 0) (f
   pub holds : Holds now.memory.now c.memory
   pub emits : Emits gave first.emitter.now now.emitter.now (item_pieces c.items)
   pub violation : now.violation ≡ c.violation
-  pub regime : now.regime ≡ c.regime
-  pub spends : SpendsFor (looks_in c.events) 0 (reads_due (asked_by now.space c)) (spent_in first.memory.now)
-      (spent_in now.memory.now)
-  pub maps : MapsBy first.memory.now now.memory.now now.space c.events
+  pub domain : now.domain ≡ c.regime.domain
+  pub regime : IsRegimeFor c.regime now.regime
+  pub spends : SpendsFor (looks_in c.events) 0 (reads_due (asked_by (space_in now.regime) c))
+      (spent_in first.memory.now) (spent_in now.memory.now)
+  pub maps : MapsBy first.memory.now now.memory.now (space_in now.regime) c.events
 
 abbrev pub ShowsWorld : {E : Type 0} → (E → E → List Piece → Type 0) → Side E → Side E → World → Type 0
 ShowsWorld gave first now (Flat ram) = ⊥
@@ -102,15 +117,15 @@ FollowsAlways gave old new given ask =
 -- A side for a context, and one outside.
 
 abbrev pub SeesInside : {E : Type 0} → (E → E → List Piece → Type 0) → Side E → Side E → World → Type 0
-SeesInside gave first now w = Sees gave first now w × ((s : SpaceId) × (now.space ≡ Some s))
+SeesInside gave first now w = Sees gave first now w × ((s : SpaceId) × (space_in now.regime ≡ Some s))
 
 abbrev pub SeesOutside : {E : Type 0} → (E → E → List Piece → Type 0) → Side E → Side E → World → Type 0
-SeesOutside gave first now w = Sees gave first now w × (now.space ≡ None)
+SeesOutside gave first now w = Sees gave first now w × (space_in now.regime ≡ None)
 
 -- So a question of a context follows.
 abbrev pub FollowsInside : {E A : Type 0} → (E → E → List Piece → Type 0) → Side E → Side E → A → Asking A → Type 0
 FollowsInside gave old new given ask =
-    (first : _) (w : World) (s : SpaceId) → Sees gave first old w → old.space ≡ Some s →
+    (first : _) (w : World) (s : SpaceId) → Sees gave first old w → space_in old.regime ≡ Some s →
     is_clashed (ask w).world ≡ false → FollowsFrom (Sees gave first) new given (ask w)
 
 -- What stays of a side, whatever it stands for. No frame holds a page of another domain that it did not hold.
@@ -119,10 +134,10 @@ pub record Stays {E : Type 0} (gave : E → E → List Piece → Type 0) (first 
   pub same_emitter : now.emitter.ghost_name ≡ first.emitter.ghost_name
   pub emits_some : EmitsSome gave first.emitter.now now.emitter.now
   pub size : SameSize first.memory.now now.memory.now
+  pub domain : now.domain ≡ first.domain
   pub regime : now.regime ≡ first.regime
-  pub space : now.space ≡ first.space
   pub counting : now.memory.now.counting ≡ first.memory.now.counting
-  pub others : (k : ℕ) (q : PageId) → q.domain ≢ first.regime.domain →
+  pub others : (k : ℕ) (q : PageId) → q.domain ≢ first.domain →
       held_in now.memory.now.pager k ≡ Some q → held_in first.memory.now.pager k ≡ Some q
 
 -- What stays of it if no page is offered: no frame holds any page that it did not hold.
@@ -142,29 +157,29 @@ pub record StaysWalking {E : Type 0} (gave : E → E → List Piece → Type 0) 
 
 -- The number of the domain that a side serves. If the memory has no such domain, it is the number of none.
 abbrev pub served : {E : Type 0} → Side E → ℕ
-served side = if nat_lt side.regime.domain (domains_in side.memory.now) then side.regime.domain else 2 ^ 32
+served side = if nat_lt side.domain (domains_in side.memory.now) then side.domain else 2 ^ 32
 
 -- The page can be read: the frame that was reached last holds it, and no draw is missing.
-pub record CanRead {E : Type 0} (side : Side E) (q : PageId) : Type 0 where
-  pub domain : q.domain < domains_in side.memory.now
+pub record CanRead {E : Type 0} (side : ProgramSide E) (q : PageId) : Type 0 where
+  pub domain : q.domain < domains_in side.side.memory.now
   pub resource : q.resource < 16
   pub page : q.page < 1024
-  pub drawn : side.memory.now.missed ≡ false
-  pub held : held_in side.memory.now.pager side.reached.0 ≡ Some q
+  pub drawn : side.side.memory.now.missed ≡ false
+  pub held : held_in side.side.memory.now.pager side.reached.0 ≡ Some q
 
 -- The page can be written: the frame that was reached last is owed it, and no draw is missing.
-pub record CanWrite {E : Type 0} (side : Side E) (q : PageId) : Type 0 where
-  pub domain : q.domain < domains_in side.memory.now
+pub record CanWrite {E : Type 0} (side : ProgramSide E) (q : PageId) : Type 0 where
+  pub domain : q.domain < domains_in side.side.memory.now
   pub resource : q.resource < 16
   pub page : q.page < 1024
-  pub drawn : side.memory.now.missed ≡ false
-  pub owed : owed_at side.memory.now.pager side.reached.0 ≡ Some q
+  pub drawn : side.side.memory.now.missed ≡ false
+  pub owed : owed_at side.side.memory.now.pager side.reached.0 ≡ Some q
 
 -- There is resource r, and no frame is owed a page of it.
 pub record IsCleared {E : Type 0} (side : Side E) (r : ℕ) : Type 0 where
   pub resource : r < 16
-  pub none_owed : IsNoneOwed side.memory.now.pager side.regime.domain r
+  pub none_owed : IsNoneOwed side.memory.now.pager side.domain r
 
 -- no frame holds a page of resource n
 abbrev pub IsUnused : {E : Type 0} → Side E → ℕ → Type 0
-IsUnused side n = IsNoneHeld side.memory.now.pager side.regime.domain n
+IsUnused side n = IsNoneHeld side.memory.now.pager side.domain n

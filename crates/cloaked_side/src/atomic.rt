@@ -31,12 +31,12 @@ impl<'m, 'e, E: Emit> Side<'m, 'e, E> {
     ghost use Rattle.cloak_pager.specs.State.{held_in};
     ghost use Rattle.cloaked_side.specs.Atomic.{ask_led_word};
     ghost use Rattle.cloaked_side.specs.Holding.{frames_of};
-    ghost use Rattle.cloaked_side.specs.Seeing.{Sees, FollowsAlways, StaysWithin};
+    ghost use Rattle.cloaked_side.specs.Seeing.{Sees, FollowsAlways, StaysWithin, space_in};
 
     /// The word to which an access of the kernel leads, or the cause of its fault. Its frame is settled then.
     pub(crate) fn led_word(&mut self, satp: u32, access: Access) -> Result<LedWord, u32>
         requires aligned { access.va % 4 ≡ 0 }
-        ensures follows { (first : _) (w : World) → Sees E.gave first self.old w → self.old.space ≡ None →
+        ensures follows { (first : _) (w : World) → Sees E.gave first self.old w → space_in self.old.regime ≡ None →
             is_clashed (ask.ask_led satp access w).world ≡ false →
             FollowsFrom (Sees E.gave first) self.new result (ask_led_word satp access w) }
         ensures keeps { Keeps (StaysWithin E.gave) self.old self.new }

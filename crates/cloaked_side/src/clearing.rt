@@ -5,6 +5,7 @@ ghost use Rattle.cloak_base.specs.declared.names.PageId.{PageId as AnyPage};
 ghost use Rattle.cloak_model.specs.AskPages as inside;
 ghost use Rattle.shadow_fold.specs.Fold.{holds};
 
+use crate::program_side::ProgramSide;
 use crate::side::Side;
 use cloak_base::{Frame, PageId};
 use cloak_model::{Answer, Emit};
@@ -39,7 +40,7 @@ fn is_page_of(domain: u32, resource: u32, held: Option<PageId>) -> bool
 
 impl<'m, 'e, E: Emit> Side<'m, 'e, E> {
     ghost use Rattle.cloak_model.specs.Asking.{Keeps};
-    ghost use Rattle.cloak_model.specs.AskPages.{settled_if_marked, ask_clear, ask_forget};
+    ghost use Rattle.cloak_model.specs.AskPages.{settled_if_marked, ask_forget};
     ghost use Rattle.cloak_pager.specs.State.{held_in, owed_at, IsNoneOwed, IsNoneHeld};
     ghost use Rattle.cloaked_side.specs.Holding.{frames_of, domains_in};
     ghost use Rattle.cloaked_side.specs.Seeing.{Becomes, FollowsAlways, ShowsOn, StaysWithin};
@@ -57,24 +58,6 @@ impl<'m, 'e, E: Emit> Side<'m, 'e, E> {
         if is_marked(domain, resources, self.memory.owed_page(f)) {
             self.settle(f);
         }
-    }
-
-    /// Settles the frames that are owed pages of the marked resources, by rising number, up to a missing draw.
-    pub(crate) fn clear_frames(&mut self, domain: u32, resources: &[bool; 16]) -> Answer
-        ensures told { FollowsAlways E.gave self.old self.new result (ask_clear domain resources.now) }
-        ensures keeps { Keeps (StaysWithin E.gave) self.old self.new }
-        ensures cleared { result ≡ Answer.Ok → (r : ℕ) → slice_index_or resources.now r false ≡ true →
-            IsNoneOwed self.new.memory.now.pager domain r }
-    {
-        let count = self.memory.pager.count();
-        for i in 0..count {
-            self.clear_frame(domain, resources, Frame(i));
-            if self.memory.missed {
-                return self.answer(Answer::Stopped);
-            }
-        }
-        self.memory.pager.whole();
-        self.answer(Answer::Ok)
     }
 
     /// Brings a frame outside if it holds a page of a resource of which none is owed. The frame shows what was last
@@ -121,5 +104,32 @@ impl<'m, 'e, E: Emit> Side<'m, 'e, E> {
     {
         self.empty_frames(domain, resource);
         self.memory.pager.drop_pages(domain, resource)
+    }
+}
+
+impl<'m, 'e, E: Emit> ProgramSide<'m, 'e, E> {
+    ghost use Rattle.cloak_model.specs.Asking.{Keeps};
+    ghost use Rattle.cloak_model.specs.AskPages.{ask_clear};
+    ghost use Rattle.cloak_pager.specs.State.{IsNoneOwed};
+    ghost use Rattle.cloaked_side.specs.Seeing.{FollowsAlways, StaysWithin};
+
+    /// Settles the frames that are owed pages of the marked resources, by rising number, up to a missing draw.
+    pub(crate) fn clear_frames(&mut self, domain: u32, resources: &[bool; 16]) -> Answer
+        ensures told { FollowsAlways E.gave self.old.side self.new.side result (ask_clear domain resources.now) }
+        ensures keeps { Keeps (StaysWithin E.gave) self.old.side self.new.side }
+        ensures cleared { result ≡ Answer.Ok → (r : ℕ) → slice_index_or resources.now r false ≡ true →
+            IsNoneOwed self.new.side.memory.now.pager domain r }
+    {
+        let memory = &mut *self.side.memory;
+        let count = memory.pager.count();
+        for i in 0..count {
+            self.side.clear_frame(domain, resources, Frame(i));
+            if self.side.memory.missed {
+                return self.answer(Answer::Stopped);
+            }
+        }
+        let memory = &mut *self.side.memory;
+        memory.pager.whole();
+        self.answer(Answer::Ok)
     }
 }

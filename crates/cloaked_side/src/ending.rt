@@ -13,9 +13,9 @@ ghost use Rattle.cloaked_side.specs.Tracking.{GoesBy};
 
 use crate::kept_put::KeptPut;
 use crate::memory::Memory;
-use crate::side::Side;
+use crate::side::{OUTSIDE, Side};
 use cloak_base::Frame;
-use cloak_model::{Emit, InsideRegime};
+use cloak_model::Emit;
 
 impl<'m, 'e, E: Emit> Side<'m, 'e, E> {
     ghost use Rattle.cloak_model.specs.Asking.{Keeps};
@@ -77,20 +77,13 @@ pub fn end_pages<E: Emit>(memory: &mut Memory, items: &mut KeptPut, domain: u8, 
         GoesBy memory.old memory.new
         (record { space = None; events = events_of w; items = items_of w; changed = [] }) }
 {
-    let regime = InsideRegime {
-        satp: 0,
-        sum: false,
-        mxr: false,
-        domain,
-    };
     let mut side = Side {
         memory,
         emitter: e,
         items,
         violation: None,
-        regime,
-        space: None,
-        reached: Frame(0),
+        domain,
+        regime: OUTSIDE,
     };
     side.end_domain(domain as u32);
     // No effect at run time. The proof reads what was lent from these uses.

@@ -3,7 +3,7 @@ ghost use Rattle.std.specs.Prelude.{◌≡◌, ◌≢◌, ◌<◌, ◌^◌, ◌/
 ghost use Rattle.shadow_fold.specs.Agreement.{satp_in, access_in};
 
 use crate::side::Side;
-use cloak_base::{Frame, Kind, Mode, PageId, RAM_START, SpaceId, frame_of};
+use cloak_base::{Frame, Kind, Mode, PageId, RAM_START, frame_of};
 use cloak_model::{Access, Emit, Walked, access_fault, has_bit};
 use multi_shadow::{Entry, Regime, is_table};
 use sv32_walk::walk;
@@ -124,7 +124,7 @@ impl<'m, 'e, E: Emit> Side<'m, 'e, E> {
     ghost use Rattle.cloaked_side.specs.Holding.{frames_of};
     ghost use Rattle.cloaked_side.specs.Leading.{place_in, found_to, IsFoundSo, IsRightFound, IsLedSo, IsEntryOf};
     ghost use Rattle.cloaked_side.specs.Leading.{IsReachedSo, IsUnknownIfMissed, IsRegimeIn, LearnsWalk, asked_led};
-    ghost use Rattle.cloaked_side.specs.Seeing.{Sees, SeesWalking, StaysWithin};
+    ghost use Rattle.cloaked_side.specs.Seeing.{Sees, SeesWalking, StaysWithin, space_in};
     ghost use Rattle.shadow_fold.specs.Fold.{entry_in, is_own_table};
     ghost use Rattle.shadow_fold.specs.Table.{is_known};
 
@@ -143,7 +143,7 @@ impl<'m, 'e, E: Emit> Side<'m, 'e, E> {
         requires bare { has_paging (satp_in regime.now) ≡ false }
         requires uncounted { self.old.memory.now.counting ≡ false }
         ensures found { (first : _) (w : World) (cloaked : Option AnyPage) → Sees E.gave first self.old w →
-            IsRegimeIn self.old.space regime.now →
+            IsRegimeIn (space_in self.old.regime) regime.now →
             IsFoundSo E.gave first self.new w regime.now va kind cloaked (found_to kind result) }
         ensures same { self.new ≡ self.old }
         ensures known { result ≢ Found.Missed }
@@ -165,7 +165,8 @@ impl<'m, 'e, E: Emit> Side<'m, 'e, E> {
     /// What is found of an access that is of this page, or not cloaked, among the translations that are known.
     #[inline(always)]
     fn look_up(&mut self, regime: &Regime, va: u32, kind: Kind, cloaked: Option<PageId>) -> Found
-        ensures found { (first : _) (w : World) → Sees E.gave first self.old w → IsRegimeIn self.old.space regime.now →
+        ensures found { (first : _) (w : World) → Sees E.gave first self.old w →
+            IsRegimeIn (space_in self.old.regime) regime.now →
             IsFoundSo E.gave first self.new w regime.now va kind cloaked (found_to kind result) }
         ensures unknown { result ≡ Found.Missed →
             is_known regime.now (va / 4096) kind self.new.memory.now.shadows ≡ false }
@@ -196,19 +197,13 @@ impl<'m, 'e, E: Emit> Side<'m, 'e, E> {
         })
     }
 
-    /// What is found of an access that is of this page, or not cloaked.
+    /// What is found of an access of the context that asks, which is of this page, or not cloaked.
     #[inline(always)]
-    pub(crate) fn look(
-        &mut self,
-        regime: &Regime,
-        va: u32,
-        kind: Kind,
-        cloaked: Option<PageId>,
-    ) -> Found
-        ensures found { (first : _) (w : World) → Sees E.gave first self.old w → IsRegimeIn self.old.space regime.now →
-            IsFoundSo E.gave first self.new w regime.now va kind cloaked (found_to kind result) }
+    pub(crate) fn look(&mut self, va: u32, kind: Kind, cloaked: Option<PageId>) -> Found
+        ensures found { (first : _) (w : World) → Sees E.gave first self.old w →
+            IsFoundSo E.gave first self.new w self.old.regime va kind cloaked (found_to kind result) }
         ensures unknown { result ≡ Found.Missed →
-            is_known regime.now (va / 4096) kind self.new.memory.now.shadows ≡ false }
+            is_known self.old.regime (va / 4096) kind self.new.memory.now.shadows ≡ false }
         ensures placed { IsRightFound result }
         ensures keeps { Keeps (StaysWithin E.gave) self.old self.new }
         ensures inside { IfSome (found_to kind result) (λ to. IfOk to (λ led.
@@ -216,10 +211,11 @@ impl<'m, 'e, E: Emit> Side<'m, 'e, E> {
         ensures offset { IfSome (found_to kind result) (λ to. IfOk to (λ led. led.pa % 4096 ≡ va % 4096)) }
         ensures same_count { frames_of self.new.memory.now ≡ frames_of self.old.memory.now }
     {
-        if self.is_bare(regime) {
-            return self.look_bare(regime, va, kind);
+        let regime = self.regime;
+        if self.is_bare(&regime) {
+            return self.look_bare(&regime, va, kind);
         }
-        self.look_up(regime, va, kind, cloaked)
+        self.look_up(&regime, va, kind, cloaked)
     }
 
     /// Where an access leads by a walk, or the cause of its fault, after a look that missed. The walk reads at most the
@@ -299,7 +295,8 @@ impl<'m, 'e, E: Emit> Side<'m, 'e, E> {
         kind: Kind,
         cloaked: Option<PageId>,
     ) -> Result<Led, u32>
-        ensures follows { (first : _) (w : World) → Sees E.gave first self.old w → IsRegimeIn self.old.space regime.now →
+        ensures follows { (first : _) (w : World) → Sees E.gave first self.old w →
+            IsRegimeIn (space_in self.old.regime) regime.now →
             is_clashed (asked_led regime.now va kind w).world ≡ false →
             FollowsFrom (Sees E.gave first) self.new (place_in result) (asked_led regime.now va kind w) }
         ensures keeps { Keeps (StaysWithin E.gave) self.old self.new }
@@ -308,7 +305,8 @@ impl<'m, 'e, E: Emit> Side<'m, 'e, E> {
         ensures same_count { frames_of self.new.memory.now ≡ frames_of self.old.memory.now }
         ensures missed { IfOk result (λ led. IsUnknownIfMissed self.new.memory.now regime.now va kind led.missed) }
         ensures leads { IfOk result (λ led. (first : _) (w : World) → Sees E.gave first self.old w →
-            IsRegimeIn self.old.space regime.now → let told = asked_led regime.now va kind w in is_clashed told.world ≡ false →
+            IsRegimeIn (space_in self.old.regime) regime.now →
+            let told = asked_led regime.now va kind w in is_clashed told.world ≡ false →
             IsLedSo self.new.memory.now told.world regime.now va kind cloaked led) }
     {
         if self.is_bare(regime) {
@@ -324,7 +322,7 @@ impl<'m, 'e, E: Emit> Side<'m, 'e, E> {
     fn learn(&mut self, e: Entry)
         ensures sees { (first : _) (w : World) (satp : ℕ) (a : AnyAccess) (walked : AnyWalk) (cloaked : Option AnyPage) →
             Sees E.gave first self.old w → IsEntryOf w (held_in self.old.memory.now.pager) e →
-            entry_in self.old.space satp a walked cloaked ≡ e → is_own_table e ≡ false →
+            entry_in (space_in self.old.regime) satp a walked cloaked ≡ e → is_own_table e ≡ false →
             Sees E.gave first self.new (noted (Born satp a walked cloaked ∷ []) w) }
         ensures keeps { Keeps (StaysWithin E.gave) self.old self.new }
         ensures same_pager { self.new.memory.now.pager ≡ self.old.memory.now.pager }
@@ -339,7 +337,7 @@ impl<'m, 'e, E: Emit> Side<'m, 'e, E> {
         requires unknown { is_known e.regime e.page e.kind self.old.memory.now.shadows ≡ false }
         ensures sees { (first : _) (w : World) (satp : ℕ) (a : AnyAccess) (walked : AnyWalk) (cloaked : Option AnyPage) →
             Sees E.gave first self.old w → IsEntryOf w (held_in self.old.memory.now.pager) e →
-            entry_in self.old.space satp a walked cloaked ≡ e → is_own_table e ≡ false →
+            entry_in (space_in self.old.regime) satp a walked cloaked ≡ e → is_own_table e ≡ false →
             Sees E.gave first self.new (noted (Born satp a walked cloaked ∷ []) w) }
         ensures keeps { Keeps (StaysWithin E.gave) self.old self.new }
         ensures same_pager { self.new.memory.now.pager ≡ self.old.memory.now.pager }
@@ -353,7 +351,8 @@ impl<'m, 'e, E: Emit> Side<'m, 'e, E> {
     pub(crate) fn settle_led(&mut self, regime: &Regime, va: u32, kind: Kind, led: &Led)
         requires inside { IsTrue (is_in_frames (frames_of self.old.memory.now) led.now.pa) }
         requires missed { IsUnknownIfMissed self.old.memory.now regime.now va kind led.now.missed }
-        ensures sees { (first : _) (w : World) → Sees E.gave first self.old w → IsRegimeIn self.old.space regime.now →
+        ensures sees { (first : _) (w : World) → Sees E.gave first self.old w →
+            IsRegimeIn (space_in self.old.regime) regime.now →
             IsLedSo self.old.memory.now w regime.now va kind None led.now →
             Sees E.gave first self.new (opened (satp_in regime.now) (access_in regime.now va kind) led.now.pa w) }
         ensures keeps { Keeps (StaysWithin E.gave) self.old self.new }
@@ -442,14 +441,14 @@ impl<'m, 'e, E: Emit> Side<'m, 'e, E> {
         }
     }
 
-    /// Makes known the translation that led to a cloaked page, which its frame holds now. One through its own frame is
-    /// not kept.
+    /// Makes known the translation that led the context that asks to a cloaked page, which its frame holds now. One
+    /// through its own frame is not kept.
     #[inline(always)]
-    pub(crate) fn learn_page(&mut self, q: PageId, regime: &Regime, va: u32, kind: Kind, led: &Led)
+    pub(crate) fn learn_page(&mut self, q: PageId, va: u32, kind: Kind, led: &Led)
         requires inside { IsTrue (is_in_frames (frames_of self.old.memory.now) led.now.pa) }
-        ensures sees { (first : _) (w : World) → Sees E.gave first self.old w → IsRegimeIn self.old.space regime.now →
-            IsReachedSo self.old.memory.now w regime.now va kind q led.now →
-            Sees E.gave first self.new (known (satp_in regime.now) (access_in regime.now va kind) (Some q) w) }
+        ensures sees { (first : _) (w : World) → Sees E.gave first self.old w →
+            IsReachedSo self.old.memory.now w self.old.regime va kind q led.now →
+            Sees E.gave first self.new (known (satp_in self.old.regime) (access_in self.old.regime va kind) (Some q) w) }
         ensures keeps { Keeps (StaysWithin E.gave) self.old self.new }
         ensures same_pager { self.new.memory.now.pager ≡ self.old.memory.now.pager }
         ensures same_missed { self.new.memory.now.missed ≡ self.old.memory.now.missed }
@@ -457,7 +456,7 @@ impl<'m, 'e, E: Emit> Side<'m, 'e, E> {
         match led.walked {
             Some(_) => {
                 let led = *led;
-                self.learn_walked_page(q, regime, va, kind, &led);
+                self.learn_walked_page(q, va, kind, &led);
             }
             None => {}
         }
@@ -465,18 +464,18 @@ impl<'m, 'e, E: Emit> Side<'m, 'e, E> {
 
     /// The same. Kept out of line, so that a hit makes no room for an entry.
     #[inline(never)]
-    fn learn_walked_page(&mut self, q: PageId, regime: &Regime, va: u32, kind: Kind, led: &Led)
+    fn learn_walked_page(&mut self, q: PageId, va: u32, kind: Kind, led: &Led)
         requires inside { IsTrue (is_in_frames (frames_of self.old.memory.now) led.now.pa) }
-        ensures sees { (first : _) (w : World) → Sees E.gave first self.old w → IsRegimeIn self.old.space regime.now →
-            IsReachedSo self.old.memory.now w regime.now va kind q led.now →
-            Sees E.gave first self.new (known (satp_in regime.now) (access_in regime.now va kind) (Some q) w) }
+        ensures sees { (first : _) (w : World) → Sees E.gave first self.old w →
+            IsReachedSo self.old.memory.now w self.old.regime va kind q led.now →
+            Sees E.gave first self.new (known (satp_in self.old.regime) (access_in self.old.regime va kind) (Some q) w) }
         ensures keeps { Keeps (StaysWithin E.gave) self.old self.new }
         ensures same_pager { self.new.memory.now.pager ≡ self.old.memory.now.pager }
         ensures same_missed { self.new.memory.now.missed ≡ self.old.memory.now.missed }
     {
         let f = frame_of(led.pa);
         if let Some(walked) = &led.walked {
-            let e = entry_of(regime, va, kind, f, walked, Some(q));
+            let e = entry_of(&self.regime, va, kind, f, walked, Some(q));
             if !is_table(f, &e) {
                 self.learn(e);
             }

@@ -1,6 +1,5 @@
 //! The step of a hart outside.
 ghost use Rattle.std.specs.Prelude.{◌≡◌, false, None, []};
-ghost use Rattle.cloak_model.specs.Csr as spec;
 ghost use Rattle.cloak_model.specs.Cloaking.{CloakedMemory};
 ghost use Rattle.cloak_model.specs.Ahead.{settled_step};
 ghost use Rattle.cloak_model.specs.Joint.{cloak_outside};
@@ -13,25 +12,9 @@ ghost use Rattle.cloaked_side.specs.Tracking.{GoesBy};
 
 use crate::kept_put::KeptPut;
 use crate::memory::Memory;
-use crate::side::Side;
-use cloak_base::Frame;
-use cloak_model::{Emit, InsideRegime};
+use crate::side::{OUTSIDE, Side};
+use cloak_model::Emit;
 use host_calls::{Disk, Hart, Kernel, kernel_step};
-
-/// How a hart that runs a context of this domain sees memory.
-pub fn regime_of(h: &Hart, domain: u8) -> InsideRegime
-    ensures satp { result.satp ≡ spec.satp_of h.now.csrs }
-    ensures sum { result.sum ≡ spec.sum_of h.now.csrs }
-    ensures mxr { result.mxr ≡ spec.mxr_of h.now.csrs }
-    ensures domain { result.domain ≡ domain }
-{
-    InsideRegime {
-        satp: h.csrs.satp(),
-        sum: h.csrs.sum(),
-        mxr: h.csrs.mxr(),
-        domain,
-    }
-}
 
 /// Makes the plain step of a hart outside. Each frame that it reaches is settled at the access, which has the same
 /// result as settling all that it touches ahead of the step.
@@ -53,15 +36,13 @@ pub fn outside_step<E: Emit>(
         let told = plain.kernel_step h.old d.old (Cloaked (cloak_outside m h.old)) in GoesBy memory.old memory.new
         (record { space = None; events = events_of told.world; items = items_of told.world; changed = [] }) }
 {
-    let regime = regime_of(h, 0);
     let mut side = Side {
         memory,
         emitter: e,
         items,
         violation: None,
-        regime,
-        space: None,
-        reached: Frame(0),
+        domain: 0,
+        regime: OUTSIDE,
     };
     let ending = kernel_step(h, d, &mut side);
     // No effect at run time. The proof reads what was lent from these uses.

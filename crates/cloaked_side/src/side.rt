@@ -3,8 +3,8 @@ ghost use Rattle.std.specs.Prelude.{◌≡◌, ◌<◌, ◌≤◌, ◌%◌, IsTr
 use crate::atomic::is_reserved;
 use crate::kept_put::KeptPut;
 use crate::memory::Memory;
-use cloak_base::{Frame, SpaceId, Violation, frame_of, place_of};
-use cloak_model::{Access, Emit, InsideRegime, value_in};
+use cloak_base::{Frame, Mode, Violation, frame_of, place_of};
+use cloak_model::{Access, Emit, value_in};
 use host_calls::Ram;
 use multi_shadow::Regime;
 use rv_atomic::{AtomicOp, combine};
@@ -19,13 +19,19 @@ pub struct Side<'m, 'e, E: Emit> {
     pub items: &'m mut KeptPut,
     /// What the kernel presented in place of what is recorded.
     pub violation: Option<Violation>,
-    /// For the questions of a cloaked program.
-    pub regime: InsideRegime,
-    /// The space of the context that asks; none outside.
-    pub space: Option<SpaceId>,
-    /// The frame that was reached last for a page of the context.
-    pub reached: Frame,
+    /// The domain of the context that asks, or that ends; 0 outside.
+    pub domain: u8,
+    /// Who translates for the context that asks, or `OUTSIDE`.
+    pub regime: Regime,
 }
+
+/// The regime of a side for no context. It translates nothing: each access of the kernel says how it is translated.
+pub const OUTSIDE: Regime = Regime::Outside {
+    satp: 0,
+    mode: Mode::S,
+    sum: false,
+    mxr: false,
+};
 
 impl<'m, 'e, E: Emit> Side<'m, 'e, E> {
     ghost use Rattle.cloak_model.specs.World.{settled};
@@ -59,6 +65,7 @@ impl<'m, 'e, E: Emit> Side<'m, 'e, E> {
         ensures settles { (m : CloakedMemory) → Holds self.old.memory.now m →
             Settles E.gave self.old.emitter.now self.new.emitter.now self.new.memory.now (settle f.0 m) }
         ensures violation { self.new.violation ≡ self.old.violation }
+        ensures domain { self.new.domain ≡ self.old.domain }
         ensures regime { self.new.regime ≡ self.old.regime }
     {
         self.memory.settle(f, self.emitter);

@@ -21,6 +21,7 @@ use Rattle.cloaked_side.specs.Seeing.{Sees, SeesInside, IsUnused, served}
 use Rattle.cloaked_side.proofs.Telling.{emits_world, holds_world}
 use Rattle.cloaked_side.specs.Telling.{HoldsWorld}
 use Rattle.cloaked_side.specs.declared.memory.Memory.{Memory}
+use Rattle.cloaked_side.specs.declared.program_side.ProgramSide.{ProgramSide}
 use Rattle.cloaked_side.specs.declared.side.Side.{Side}
 use Rattle.hypercalls.specs.declared.domain.Domain.{Domain}
 use Rattle.hypercalls.specs.Standing.{StepsTo, HasPagesOf}
@@ -28,8 +29,8 @@ use Rattle.joint_machine.specs.declared.stepping.SteppedProgram.{SteppedProgram}
 use Rattle.joint_machine.specs.Turning.{HoldsNoFree, HoldsNoOthers, StepsDomain, begun}
 
 -- a domain that the memory has is served under its number
-pub served_there : {E : Type 0} (side : Side E) → side.regime.domain < domains_in side.memory.now → side.regime.domain ≡ served side
-served_there side there = sym (ap (λ (b : Bool). cond b side.regime.domain (2 ^ 32)) (lt-ltb side.regime.domain (domains_in side.memory.now) there))
+pub served_there : {E : Type 0} (side : Side E) → side.domain < domains_in side.memory.now → side.domain ≡ served side
+served_there side there = sym (ap (λ (b : Bool). cond b side.domain (2 ^ 32)) (lt-ltb side.domain (domains_in side.memory.now) there))
 
 pages_in : (d : program.Domain) (c : Option Context) → IfSome c (λ x. (va : ℕ) (q : PageId) → page_at d.control.number d.control.resources x.space va ≡ Some q → pages_for d c va ≡ Some q)
 pages_in d None = tt
@@ -46,23 +47,23 @@ violation_world gave first now (Flat ram) sees = absurd sees
 violation_world gave first now (Alone handed) sees = absurd sees
 violation_world gave first now (Cloaked c) sees = sees.violation
 
--- the step over a side, of the memory and the emitter that it gave back
-pub steps_told : {E : Type 0} (gave : E → E → List Piece → Type 0) (first now : Side E) (domain : Domain) (given : SteppedProgram) (went : Went) (told : Told DomainStepped) (memory : Memory) (e : E) →
-    memory ≡ now.memory.now → e ≡ now.emitter.now → given.violation ≡ now.violation → given.went ≡ went →
-    StepsTo (λ side w. SeesInside gave first side w) now domain went told → StepsDomain gave first.emitter.now e memory domain given told
+-- the step over the side of a program, of the memory and the emitter that it gave back
+pub steps_told : {E : Type 0} (gave : E → E → List Piece → Type 0) (first : Side E) (now : ProgramSide E) (domain : Domain) (given : SteppedProgram) (went : Went) (told : Told DomainStepped) (memory : Memory) (e : E) →
+    memory ≡ now.side.memory.now → e ≡ now.side.emitter.now → given.violation ≡ now.side.violation → given.went ≡ went →
+    StepsTo (λ asked w. SeesInside gave first asked.side w) now domain went told → StepsDomain gave first.emitter.now e memory domain given told
 steps_told gave first now domain given went told memory e same_memory same_emitter same_violation same_went steps = record {
   went = same_went ∙ steps.went;
-  violation = same_violation ∙ violation_world gave first now told.world steps.world_stands.0;
-  emits = subst (λ x. Emits gave first.emitter.now x (item_pieces (items_of told.world))) (sym same_emitter) (emits_world gave first now told.world steps.world_stands.0);
-  holds = subst (λ x. HoldsWorld x told.world) (sym same_memory) (holds_world gave first now told.world steps.world_stands.0);
+  violation = same_violation ∙ violation_world gave first now.side told.world steps.world_stands.0;
+  emits = subst (λ x. Emits gave first.emitter.now x (item_pieces (items_of told.world))) (sym same_emitter) (emits_world gave first now.side told.world steps.world_stands.0);
+  holds = subst (λ x. HoldsWorld x told.world) (sym same_memory) (holds_world gave first now.side told.world steps.world_stands.0);
   stands = steps.domain_stands;
 }
 
 -- what is unused in a side is unused in the memory that it gave back
-pub unused_back : {E : Type 0} (side : Side E) (pager : PagerState) (regime : InsideRegime) (r : Resources) → pager ≡ side.memory.now.pager → side.regime ≡ regime → AreUnused (IsUnused side) r → HoldsNoFree regime.domain r pager
-unused_back side pager regime r same_pager same_regime unused =
-    subst (λ (p : PagerState). HoldsNoFree regime.domain r p) (sym same_pager)
-    (record { unused = subst (λ (v : InsideRegime). AreUnused (IsNoneHeld side.memory.now.pager v.domain) r) same_regime unused })
+pub unused_back : {E : Type 0} (side : Side E) (pager : PagerState) (domain : ℕ) (r : Resources) → pager ≡ side.memory.now.pager → side.domain ≡ domain → AreUnused (IsUnused side) r → HoldsNoFree domain r pager
+unused_back side pager domain r same_pager same_domain unused =
+    subst (λ (p : PagerState). HoldsNoFree domain r p) (sym same_pager)
+    (record { unused = subst (λ (d : ℕ). AreUnused (IsNoneHeld side.memory.now.pager d) r) same_domain unused })
 
 -- no page of another domain came into a frame of the memory that was given back
 pub others_back : (d : ℕ) (old back new : PagerState) → back ≡ new → ((k : ℕ) (q : PageId) → q.domain ≢ d → held_in new k ≡ Some q → held_in old k ≡ Some q) → HoldsNoOthers d old back

@@ -13,7 +13,7 @@ ghost use Rattle.joint_machine.specs.Turning.{HoldsNoFree, HoldsNoOthers, StepsD
 
 use cloak_base::{Frame, SpaceId, Violation};
 use cloak_model::{Emit, InsideRegime, Went};
-use cloaked_side::{KeptPut, Memory, Side};
+use cloaked_side::{KeptPut, Memory, ProgramSide, Side, regime_inside};
 use hypercalls::Domain;
 
 /// How the step of a program ended.
@@ -67,23 +67,26 @@ pub fn step_domain<E: Emit>(
         GoesBy memory.old memory.new
         (record { space = Some space; events = events_of told.world; items = items_of told.world; changed = [] }) }
 {
-    let mut side = Side {
+    let side = Side {
         memory,
         emitter: e,
         items,
         violation: None,
-        regime,
-        space: Some(space),
+        domain: regime.domain,
+        regime: regime_inside(regime, space),
+    };
+    let mut asked = ProgramSide {
+        side,
         reached: Frame(0),
     };
-    domain.step(slot, &mut side, &mut stepped.went);
+    domain.step(slot, &mut asked, &mut stepped.went);
     // No effect at run time. The proof reads what was lent from these uses.
     let Side {
         memory,
         emitter,
         violation,
         ..
-    } = side;
+    } = asked.side;
     let _ = &*memory;
     let _ = &*emitter;
     keep(&mut stepped.violation, violation);

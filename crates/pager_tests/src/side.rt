@@ -7,7 +7,7 @@ use crate::checks::{holds, same};
 use cloak_base::{Frame, Kind, Mode, NoMemory, PageId, SpaceId};
 use cloak_model::{Access, Answer, Emit, InsideRegime, Item, PageSide};
 use cloak_pager::Pager;
-use cloaked_side::{KeptPut, Memory, Side};
+use cloaked_side::{KeptPut, Memory, OUTSIDE, ProgramSide, Side, regime_inside};
 use host_calls::{Ram, Reservations};
 use io_traits::Stream;
 use multi_shadow::Shadows;
@@ -142,35 +142,38 @@ fn answers_each_question(rt: HostRuntime) -> Result<(), Fail> {
         others: 0,
     };
     let mut items = KeptPut::new();
-    let mut side = Side {
+    let side = Side {
         memory: &mut memory,
         emitter: &mut e,
         items: &mut items,
         violation: None,
-        regime: REGIME,
-        space: Some(SPACE),
+        domain: REGIME.domain,
+        regime: regime_inside(REGIME, SPACE),
+    };
+    let mut program = ProgramSide {
+        side,
         reached: Frame(0),
     };
     same(
         &rt,
-        &ask_each(&mut side),
+        &ask_each(&mut program),
         &Some((Answer::Word(0x3344), 77)),
         "questions",
     );
     holds(
         &rt,
-        load(&mut side, CLOAKED) != Some(77),
+        load(&mut program.side, CLOAKED) != Some(77),
         "the kernel's load of the page",
     );
     same(
         &rt,
-        &load(&mut side, PLAIN),
+        &load(&mut program.side, PLAIN),
         &Some(0x1122_3344),
         "the kernel's load",
     );
     same(
         &rt,
-        &fill_and_lend(&mut side, 7),
+        &fill_and_lend(&mut program.side, 7),
         &Some(7),
         "a frame that is filled",
     );
@@ -265,9 +268,8 @@ fn reserves_what_is_not_cloaked(rt: HostRuntime) -> Result<(), Fail> {
         emitter: &mut e,
         items: &mut items,
         violation: None,
-        regime: REGIME,
-        space: None,
-        reached: Frame(0),
+        domain: 0,
+        regime: OUTSIDE,
     };
     same(
         &rt,
@@ -303,19 +305,22 @@ fn ends_reservations_where_a_page_is_sealed(rt: HostRuntime) -> Result<(), Fail>
         others: 0,
     };
     let mut items = KeptPut::new();
-    let mut side = Side {
+    let side = Side {
         memory: &mut memory,
         emitter: &mut e,
         items: &mut items,
         violation: None,
-        regime: REGIME,
-        space: Some(SPACE),
+        domain: REGIME.domain,
+        regime: regime_inside(REGIME, SPACE),
+    };
+    let mut program = ProgramSide {
+        side,
         reached: Frame(0),
     };
-    holds(&rt, store_cloaked(&mut side), "a store");
+    holds(&rt, store_cloaked(&mut program), "a store");
     same(
         &rt,
-        &stores_reserved(&mut side, 0, CLOAKED),
+        &stores_reserved(&mut program.side, 0, CLOAKED),
         &Some(false),
         "the frame of the page",
     );
@@ -332,22 +337,26 @@ fn keeps_reservations_where_a_page_is_shown_again(rt: HostRuntime) -> Result<(),
         others: 0,
     };
     let mut items = KeptPut::new();
-    let mut side = Side {
+    let side = Side {
         memory: &mut memory,
         emitter: &mut e,
         items: &mut items,
         violation: None,
-        regime: REGIME,
-        space: Some(SPACE),
+        domain: REGIME.domain,
+        regime: regime_inside(REGIME, SPACE),
+    };
+    let mut program = ProgramSide {
+        side,
         reached: Frame(0),
     };
-    holds(&rt, store_cloaked(&mut side), "a store");
-    holds(&rt, show_all(&mut side), "the page is shown");
+    holds(&rt, store_cloaked(&mut program), "a store");
+    holds(&rt, show_all(&mut program), "the page is shown");
+    let side = &mut program.side;
     side.memory.reservations.mark(0, CLOAKED);
-    holds(&rt, hold_unchanged(&mut side), "a load");
+    holds(&rt, hold_unchanged(&mut program), "a load");
     same(
         &rt,
-        &stores_reserved(&mut side, 0, CLOAKED),
+        &stores_reserved(&mut program.side, 0, CLOAKED),
         &Some(true),
         "the frame of the page",
     );

@@ -1,7 +1,8 @@
-use Rattle.std.proofs.Common.{rules, refl, sym, None}
+use Rattle.std.proofs.Common.{rules, refl, ap, sym, None}
 use Rattle.cloak_model.specs.Ending.{cloak_for}
 use Rattle.cloak_model.specs.World.{Cloaked}
 use Rattle.cloaked_side.specs.Ending.{ended_world}
+use Rattle.cloaked_side.specs.Seeing.{space_in}
 use Rattle.cloaked_side.proofs.Ended.{ends_from, others_back, none_back}
 use Rattle.cloaked_side.proofs.Sided.{within_self}
 use Rattle.cloaked_side.proofs.Telling.{counting_back, goes_back, goes_world, sees_first, size_back, some_back}
@@ -43,7 +44,7 @@ pub returns-clause-ends : goal.returns-clause-ends
 returns-clause-ends g c m holds =
     let kept = c.end_domain.ensures.keeps _ (within_self g.E.Emit.gave _) in
     let cloak = cloak_for m c.args.domain in
-    let sees = sees_first g.E.Emit.gave _ cloak holds refl refl refl refl in
+    let sees = sees_first g.E.Emit.gave _ cloak holds refl refl refl refl tt in
     let memory_lent = sym kept.stays.same_memory in
     let emitter_lent = sym kept.stays.same_emitter in
     ends_from g.E.Emit.gave _ c.end_domain.new.self (ended_world m c.args.domain) _ _ (search rules) (search rules)
@@ -53,8 +54,8 @@ pub returns-clause-goes : goal.returns-clause-goes
 returns-clause-goes g c m holds =
     let kept = c.end_domain.ensures.keeps _ (within_self g.E.Emit.gave _) in
     let cloak = cloak_for m c.args.domain in
-    let sees = sees_first g.E.Emit.gave _ cloak holds refl refl refl refl in
+    let sees = sees_first g.E.Emit.gave _ cloak holds refl refl refl refl tt in
     let memory_lent = sym kept.stays.same_memory in
     let f = c.end_domain.ensures.told _ (Cloaked cloak) sees in
     goes_back _ _ c.end_domain.new.self.memory.now _ (returns-clause-size g c) (search rules)
-    (goes_world g.E.Emit.gave _ c.end_domain.new.self None (ended_world m c.args.domain) kept.stays.space f.stands)
+    (goes_world g.E.Emit.gave _ c.end_domain.new.self None (ended_world m c.args.domain) (ap space_in kept.stays.regime) f.stands)

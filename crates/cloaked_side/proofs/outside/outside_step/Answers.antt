@@ -5,7 +5,7 @@ use Rattle.cloak_model.specs.World.{Cloaked}
 use Rattle.cloak_model.specs.Joint.{cloak_outside}
 use Rattle.cloak_model.specs.KernelStep.{kernel_step}
 use Rattle.cloaked_side.proofs.Sided.{within_self}
-use Rattle.cloaked_side.proofs.Telling.{counting_back, size_back, no_more_back, some_back, sees_first, tells_ahead, goes_back, goes_world, regime_is}
+use Rattle.cloaked_side.proofs.Telling.{counting_back, size_back, no_more_back, some_back, sees_first, tells_ahead, goes_back, goes_world}
 use Rattle.cloaked_side.proofs.outside.outside_step.Goals as goal
 
 pub returns-clause-size : goal.returns-clause-size
@@ -38,8 +38,7 @@ returns-clause-tells g c m holds unclashed =
     let h = c.args.h.now in
     let disk = c.args.d.now in
     let cloak = cloak_outside m h in
-    let v = c.regime_of-regime.ensures in
-    let sees = sees_first g.E.Emit.gave _ cloak holds refl refl refl (regime_is _ _ _ _ _ v.satp v.sum v.mxr v.domain) in
+    let sees = sees_first g.E.Emit.gave _ cloak holds refl refl refl refl tt in
     let memory_lent = sym kept.stays.same_memory in
     let emitter_lent = sym kept.stays.same_emitter in
     tells_ahead g.E.Emit.gave _ c.kernel_step-ending.new.m _ h disk cloak _ _ (search rules) (search rules) unclashed
@@ -51,8 +50,7 @@ returns-clause-goes g c m holds unclashed =
     let h = c.args.h.now in
     let disk = c.args.d.now in
     let cloak = cloak_outside m h in
-    let v = c.regime_of-regime.ensures in
-    let sees = sees_first g.E.Emit.gave _ cloak holds refl refl refl (regime_is _ _ _ _ _ v.satp v.sum v.mxr v.domain) in
+    let sees = sees_first g.E.Emit.gave _ cloak holds refl refl refl refl tt in
     let memory_lent = sym kept.stays.same_memory in
     let f = c.kernel_step-ending.ensures.follows _ (Cloaked cloak) (sees, refl) (unclashed_ahead h disk cloak unclashed) in
     goes_back _ _ c.kernel_step-ending.new.m.memory.now _ (returns-clause-size g c) (search rules)

@@ -20,9 +20,9 @@ returns-clause-told g c first w sees =
     let kept = within_of gave begun mid c.empty_frames.ensures.keeps in
     let rights = c.drop_pages.ensures.state.rights_are in
     sees_dropped gave first begun mid _ c.args.domain c.args.resource w
-    (record { stream = refl; draws = refl; missed = refl; marks = refl; emitter = refl; violation = refl; regime = refl; space = refl })
+    (record { stream = refl; draws = refl; missed = refl; marks = refl; emitter = refl; violation = refl; domain = refl; regime = refl })
     (λ m m' seen. still_turned _ _ m m' rights (turned_count _ _ _ c.drop_pages.ensures.state) refl seen)
-    c.drop_pages.ensures.model kept.stays.space
+    c.drop_pages.ensures.model kept.stays.regime
     (λ s keeps. same_tracks _ _ _ _ (held_in mid.memory.now.pager) (held_in c.drop_pages.new.self) refl refl
     (λ k. ap (λ (h : ℕ → Option PageId). h k) (held_by_rights mid.memory.now.pager c.drop_pages.new.self rights))
     _ (c.empty_frames.ensures.tracks s keeps))

@@ -15,8 +15,8 @@ returns-then-is_page_of-clause-shows g c first w shows =
     shows_settled g.E.Emit.gave first c.args.self.now c.settle.new.self c.args.f.0 w
     c.settle.ensures.settles c.settle.ensures.spends
     (maps_killed c.args.self.now.memory.now c.settle.new.self.memory.now _ c.args.f c.settle.ensures.ends)
-    c.settle.ensures.violation c.settle.ensures.regime
-    (within_of g.E.Emit.gave c.args.self.now c.settle.new.self c.settle.ensures.keeps).stays.space
+    c.settle.ensures.violation c.settle.ensures.domain
+    (within_of g.E.Emit.gave c.args.self.now c.settle.new.self c.settle.ensures.keeps).stays.regime
     (unowed_of p c.args.domain c.args.resource c.args.f.0 c.requires.cleared here) shows
 
 pub returns-then-is_page_of-clause-tracks : goal.returns-then-is_page_of-clause-tracks

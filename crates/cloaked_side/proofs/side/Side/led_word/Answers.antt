@@ -1,9 +1,10 @@
-use Rattle.std.proofs.Common.{sym, subst, Option}
+use Rattle.std.proofs.Common.{ap, sym, subst, Option}
 use Rattle.cloak_base.specs.declared.names.SpaceId.{SpaceId}
 use Rattle.cloak_base.specs.Constants.{frame_of}
 use Rattle.cloak_model.specs.Ask.{ask_led, opened}
 use Rattle.shadow_fold.specs.declared.entry.Regime.TheVariants.{Outside}
 use Rattle.cloaked_side.specs.Leading.{IsRegimeIn}
+use Rattle.cloaked_side.specs.Seeing.{space_in}
 use Rattle.cloaked_side.proofs.Atomics.{led_word_told, led_word_fault}
 use Rattle.cloaked_side.proofs.Holders.{none_still}
 use Rattle.cloaked_side.proofs.Known.{viewed_outside}
@@ -13,7 +14,7 @@ use Rattle.cloaked_side.proofs.side.Side.led_word.Goals as goal
 pub returns-in-Err-clause-follows : goal.returns-in-Err-clause-follows
 returns-in-Err-clause-follows g c first w sees none unclashed =
     led_word_fault g.E.Emit.gave first c.led.new.self c.args.satp c.args.access c.in-Err.cause w
-    (c.in-Err.ensures.follows first w sees (viewed_outside c.args.self.now.space c.args.satp c.args.access none) unclashed)
+    (c.in-Err.ensures.follows first w sees (viewed_outside (space_in c.args.self.now.regime) c.args.satp c.args.access none) unclashed)
 
 pub returns-in-Ok-clause-follows : goal.returns-in-Ok-clause-follows
 returns-in-Ok-clause-follows g c first w sees none unclashed =
@@ -24,13 +25,13 @@ returns-in-Ok-clause-follows g c first w sees none unclashed =
     let a = c.args.access in
     let regime = Outside c.args.satp a.mode a.sum a.mxr in
     let told = ask_led c.args.satp a w in
-    let viewed = viewed_outside old.space c.args.satp a none in
+    let viewed = viewed_outside (space_in old.regime) c.args.satp a none in
     let kept = within_of gave old mid c.led.ensures.keeps in
     let f = c.in-Ok.ensures.follows first w sees viewed unclashed in
     led_word_told gave first mid c.read_settled-word.new.self c.args.satp a led.pa _ w f
     (c.read_settled-word.ensures.told first (opened c.args.satp a led.pa told.world)
     (c.settle_led.ensures.sees first told.world f.stands
-    (subst (λ (o : Option SpaceId). IsRegimeIn o regime) (sym kept.stays.space) viewed)
+    (subst (λ (o : Option SpaceId). IsRegimeIn o regime) (sym (ap space_in kept.stays.regime)) viewed)
     (c.in-Ok.ensures.leads first w sees viewed unclashed)))
 
 pub returns-in-Ok-clause-outside : goal.returns-in-Ok-clause-outside

@@ -12,7 +12,7 @@ returns-clause-told g c first w sees =
     let bytes = c.read_outside.result.now in
     read_after g.E.Emit.gave first side _ (frame_of pa) w
     (λ b. value_in b (place_of pa) c.args.width) bytes c.value_in.result
-    (record { stream = refl; draws = refl; missed = refl; marks = refl; emitter = refl; violation = refl; regime = refl; space = refl }) refl refl
+    (record { stream = refl; draws = refl; missed = refl; marks = refl; emitter = refl; violation = refl; domain = refl; regime = refl }) refl refl
     (subst (λ (f : ℕ). SeesFrame side.memory.now.pager f bytes) c.frame_of.ensures c.read_outside.ensures.model)
     c.read_outside.follows.holds-at-none
     (c.value_in.ensures ∙ ap (λ n. value_in bytes n c.args.width) c.place_of.ensures.value) sees

@@ -9,7 +9,7 @@ use Rattle.shadow_fold.specs.Table.{is_known}
 use Rattle.shadow_fold.specs.Agreement.{satp_in, access_in}
 use Rattle.shadow_law.specs.Agreeing.{AreOutside}
 use Rattle.cloaked_side.specs.Leading.{IsEntryOf, IsRegimeIn, IsWalkOf}
-use Rattle.cloaked_side.specs.Seeing.{Sees}
+use Rattle.cloaked_side.specs.Seeing.{Sees, space_in}
 use Rattle.cloaked_side.proofs.Known.{born_known, entry_is, entry_same, led_entry, opened_live, settled_is}
 use Rattle.cloaked_side.proofs.Losing.{loses_killed, unknown_still}
 use Rattle.cloaked_side.proofs.Sided.{within_of}
@@ -34,7 +34,7 @@ returns-in-Some-clause-sees g c first w sees viewed so =
     (settled_is gave first old regime c.args.va c.args.kind walked (frame_of pa) w sees out by.0)
     (c.learn_walk.ensures.sees first (settled (frame_of pa) w) (satp_in regime) (access_in regime c.args.va c.args.kind) walked seen
     (subst (λ e. IsEntryOf (settled (frame_of pa) w) (held_in mid.memory.now.pager) e) (entry_is _ _ _ c.frame_of-f.result pa walked None _ c.frame_of-f.ensures refl) entry)
-    (entry_same mid.space regime c.args.va c.args.kind walked None c.frame_of-f.result pa _ (subst (λ (o : Option SpaceId). IsRegimeIn o regime) (sym kept.stays.space) viewed) by.1 c.frame_of-f.ensures refl))
+    (entry_same (space_in mid.regime) regime c.args.va c.args.kind walked None c.frame_of-f.result pa _ (subst (λ (o : Option SpaceId). IsRegimeIn o regime) (sym (ap space_in kept.stays.regime)) viewed) by.1 c.frame_of-f.ensures refl))
 
 pub returns-in_default-clause-sees : goal.returns-in_default-clause-sees
 returns-in_default-clause-sees g c first w sees viewed so =
@@ -44,7 +44,7 @@ returns-in_default-clause-sees g c first w sees viewed so =
     let kept = within_of gave old mid c.settle.ensures.keeps in
     let seen = subst (λ (f : ℕ). Sees gave first mid (settled f w)) c.frame_of-f.ensures (c.settle.ensures.sees first w sees) in
     opened_live gave first old mid c.args.regime.now c.args.va c.args.kind c.args.led.now c.frame_of-f.result.0 w c.frame_of-f.ensures seen
-    (subst (λ (o : Option SpaceId). IsRegimeIn o c.args.regime.now) (sym kept.stays.space) viewed) (c.in_default.is) so.live c.settle.ensures.counting c.settle.ensures.ends
+    (subst (λ (o : Option SpaceId). IsRegimeIn o c.args.regime.now) (sym (ap space_in kept.stays.regime)) viewed) (c.in_default.is) so.live c.settle.ensures.counting c.settle.ensures.ends
 
 pub learn_walk-requires : goal.learn_walk-requires
 learn_walk-requires g c = record {

@@ -1,6 +1,7 @@
 use Rattle.std.proofs.Common.{refl, ap, subst, ℕ, Option}
 use Rattle.cloak_base.specs.declared.names.PageId.{PageId}
 use Rattle.cloak_pager.specs.State.{held_in}
+use Rattle.cloaked_side.specs.Seeing.{space_in}
 use Rattle.cloaked_side.proofs.Tracking.{write_tracks}
 use Rattle.cloaked_side.proofs.Translating.{held_by_rights}
 use Rattle.cloak_base.specs.Constants.{frame_of}
@@ -20,12 +21,12 @@ returns-clause-told g c first w sees =
     (after_write_outside (frame_of pa) (record { at = at; width = c.args.width; value = c.args.v })))
     c.place_of.ensures.value at_frame in
     stored_after g.E.Emit.gave first side _ pa c.args.width c.args.v w
-    (record { stream = refl; draws = refl; missed = refl; emitter = refl; violation = refl; regime = refl; space = refl })
+    (record { stream = refl; draws = refl; missed = refl; emitter = refl; violation = refl; domain = refl; regime = refl })
     c.word_written.ensures
     (λ m. still_written side.memory.now _ m c.frame_of-f.result (frame_of pa) _ _ c.frame_of-f.ensures
     c.write_outside.ensures.state c.kill_dependents.ensures)
     (λ wiped m stands. (meets wiped m stands).stands)
-    (write_tracks side.space _ _ _ _ (held_in side.memory.now.pager) (held_in c.write_outside.new.self) c.frame_of-f.result (frame_of pa) c.frame_of-f.ensures refl
+    (write_tracks (space_in side.regime) _ _ _ _ (held_in side.memory.now.pager) (held_in c.write_outside.new.self) c.frame_of-f.result (frame_of pa) c.frame_of-f.ensures refl
     c.kill_dependents.ensures (λ k. ap (λ (h : ℕ → Option PageId). h k) (held_by_rights side.memory.now.pager c.write_outside.new.self c.write_outside.ensures.state.rights_are)))
     c.frame_of-f.result c.write_outside.ensures.state.reads_stay c.kill_dependents.ensures sees
 

@@ -18,10 +18,10 @@ returns g c =
         record {
           follows = λ first w sees unclashed.
               wrap_outside g.E.Emit.gave first c.args.self.now _ _ _
-              (within_of g.E.Emit.gave c.args.self.now side c.settle.ensures.keeps).stays.space sees.1
+              (within_of g.E.Emit.gave c.args.self.now side c.settle.ensures.keeps).stays.regime sees.1
               (read_after g.E.Emit.gave first side _ c.args.f.0 (settled c.args.f.0 w)
               (λ b. b) c.read_outside.result.now c.read_outside.result.now
-              (record { stream = refl; draws = refl; missed = refl; marks = refl; emitter = refl; violation = refl; regime = refl; space = refl }) refl refl
+              (record { stream = refl; draws = refl; missed = refl; marks = refl; emitter = refl; violation = refl; domain = refl; regime = refl }) refl refl
               c.read_outside.ensures.model c.read_outside.follows.holds-at-none refl
               (c.settle.ensures.sees first w sees.0));
           keeps = λ first stays. within_repaged g.E.Emit.gave first side _

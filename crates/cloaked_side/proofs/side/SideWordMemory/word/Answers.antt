@@ -30,8 +30,8 @@ returns-clause-follows g c first w sees unclashed =
     (subst (λ (n : ℕ). TracksBy old.memory.now side.memory.now (touched (frame n))) at c.settle.ensures.tracks)
     (λ m holds. subst (λ (n : ℕ). Spends 0 (length (settle n m).ciphers) (spent_in old.memory.now) (spent_in side.memory.now)) at (c.settle.ensures.spends m holds))
     (maps_killed old.memory.now side.memory.now _ c.frame_of-f.result c.settle.ensures.ends)
-    c.settle.ensures.violation c.settle.ensures.regime kept.stays.space
-    (record { stream = refl; draws = refl; missed = refl; marks = refl; emitter = refl; violation = refl; regime = refl; space = refl }) refl refl
+    c.settle.ensures.violation c.settle.ensures.domain kept.stays.regime
+    (record { stream = refl; draws = refl; missed = refl; marks = refl; emitter = refl; violation = refl; domain = refl; regime = refl }) refl refl
     (subst (λ (n : ℕ). SeesFrame side.memory.now.pager n bytes) at c.read_outside.ensures.model)
     c.read_outside.follows.holds-at-none
     (ap (λ n. Some n) (c.value_in.ensures ∙ ap (λ n. value_in bytes n 4) c.place_of.ensures.value)) sees)

@@ -1,0 +1,28 @@
+use Rattle.std.proofs.Common.{Some, Ok}
+use Rattle.cloak_model.specs.AskPages.{reached, reach_by_table}
+use Rattle.cloak_model.proofs.PagesLater.{later_reached}
+use Rattle.cloaked_side.proofs.Answering.{asked_drawn, asked_undrawn}
+use Rattle.cloaked_side.proofs.Known.{found_inside}
+use Rattle.cloaked_side.proofs.Sided.{stays_on}
+use Rattle.cloaked_side.proofs.program_side.ProgramSide.reach_led.Goals as goal
+
+pub returns-then-self-clause-told : goal.returns-then-self-clause-told
+unfolding reach_by_table
+returns-then-self-clause-told g c first w s at_space same so unclashed =
+    asked_drawn g.E.Emit.gave first c.args.self.now.side _ _ c.args.va c.args.kind
+    (reached c.args.q c.args.va c.args.kind) (Ok c.args.led.now.pa) w (later_reached c.args.q c.args.va c.args.kind) unclashed
+    (λ u. (found_inside g.E.Emit.gave first c.args.self.now.side c.args.self.now.side.regime c.args.va c.args.kind (Some c.args.q) (Ok c.args.led.now) w same so u).0) c.if-self.true
+    (λ v stands. c.stop.ensures.told first v stands)
+
+pub returns-clause-told : goal.returns-clause-told
+unfolding reach_by_table
+returns-clause-told g c first w s at_space same so unclashed =
+    let found = found_inside g.E.Emit.gave first c.args.self.now.side c.args.self.now.side.regime c.args.va c.args.kind (Some c.args.q) (Ok c.args.led.now) w same so in
+    asked_undrawn g.E.Emit.gave first c.args.self.now.side _ _ c.args.va c.args.kind
+    (reached c.args.q c.args.va c.args.kind) (Ok c.args.led.now.pa) w (later_reached c.args.q c.args.va c.args.kind) unclashed
+    (λ u. (found u).0) c.if-self.false
+    (λ u stands clash. c.reached.ensures.told first _ s stands at_space (found u).1 clash)
+
+pub returns-then-self-clause-keeps : goal.returns-then-self-clause-keeps
+returns-then-self-clause-keeps g c first stays =
+    stays_on g.E.Emit.gave first c.args.self.now.side _ c.stop.ensures.keeps stays
