@@ -12,6 +12,7 @@ use Rattle.replayed_run.specs.Alone.{standing_told, words_of}
 use Rattle.replayed_run.specs.ContextsTold.{resumed_at}
 use Rattle.replayed_run.specs.Machines.{StandAlone}
 use Rattle.replayed_run.specs.Noted.{Noted, asked_at_end, asked_from, asked_unless, is_in_space, is_left, no_notes, noted_in, noted_more, notes_after, resume_noted}
+use Rattle.replayed_run.specs.PagesTold.{Paged, PagesTold, opened_pages, paged_in, paged_more, pages_after, pages_of}
 use Rattle.replayed_run.specs.Questions.{Questioned, no_questions, question_for, questioned_in, questioned_more, questions_after}
 use Rattle.replayed_run.specs.Watching.{Watches, notes_of}
 use Rattle.replayed_run.specs.declared.machines.HartWords.{HartWords}
@@ -62,18 +63,45 @@ questions_more b items i =
     (fold-append (questioned_more b) (record { items = []; questions = no_questions }) items (i ∷ []))
     ∙ ap (λ (l : List Item). questions_after q (question_for b l q.answers i) i) (questioned_items b items)
 
+-- the questions with an item more
+pub asked_more : (b : Bundle) (items : List Item) (i : Item) (old new : Questions) →
+    old ≡ (questioned_in b items).questions → new ≡ questions_after old (question_for b items old.answers i) i →
+    new ≡ (questioned_in b (items ++ i ∷ [])).questions
+asked_more b items i old new was asked =
+    asked
+    ∙ (ap (λ (q : Questions). questions_after q (question_for b items q.answers i) i) was ∙ sym (questions_more b items i))
+
+-- the items after which the pages are told
+items_paged : (b : Bundle) (n : Paged) (items : List Item) → (fold (paged_more b) n items).items ≡ n.items ++ items
+unfolding paged_more
+items_paged b n [] = sym (append-nil n.items)
+items_paged b n (i ∷ items) = items_paged b (paged_more b n i) items ∙ append_assoc n.items (i ∷ []) items
+
+paged_items : (b : Bundle) (items : List Item) → (paged_in b items).items ≡ items
+paged_items b items = items_paged b (record { items = []; pages = opened_pages b.kernel.frames b.programs }) items
+
+pages_more : (b : Bundle) (items : List Item) (i : Item) →
+    (paged_in b (items ++ i ∷ [])).pages ≡ pages_after b items (items ++ i ∷ []) (paged_in b items).pages i
+unfolding paged_more
+pages_more b items i =
+    let p = (paged_in b items).pages in
+    ap (λ (n : Paged). n.pages)
+    (fold-append (paged_more b) (record { items = []; pages = opened_pages b.kernel.frames b.programs }) items (i ∷ []))
+    ∙ ap (λ (l : List Item). pages_after b l (l ++ i ∷ []) p i) (paged_items b items)
+
 -- the machines took an item, and it was noted
 pub watches_more : (b : Bundle) (items : List Item) (i : Item) (old new : Watch) → Watches b items old →
     StandAlone b (items ++ i ∷ []) new.machines →
     notes_of new ≡ notes_after b items (items ++ i ∷ []) (notes_of old) i →
     new.questions ≡ questions_after old.questions (question_for b items old.questions.answers i) i →
+    pages_of new.pages ≡ pages_after b items (items ++ i ∷ []) (pages_of old.pages) i →
     Watches b (items ++ i ∷ []) new
-watches_more b items i old new watched stand noted asked = record {
+watches_more b items i old new watched stand noted asked paged = record {
   machines = stand;
   notes = noted ∙ (ap (λ (n : Notes). notes_after b items (items ++ i ∷ []) n i) watched.notes ∙ sym (notes_more b items i));
-  questions = asked
-      ∙ (ap (λ (q : Questions). questions_after q (question_for b items q.answers i) i) watched.questions
-      ∙ sym (questions_more b items i));
+  questions = asked_more b items i old.questions new.questions watched.questions asked;
+  pages = paged
+      ∙ (ap (λ (p : PagesTold). pages_after b items (items ++ i ∷ []) p i) watched.pages ∙ sym (pages_more b items i));
 }
 
 -- for which context a hart asked, by how the last plain step ended

@@ -1,16 +1,20 @@
 -- The frame that an access leads to.
-use Rattle.std.specs.Prelude.{ℕ, List, Option, Some, None, Ok, Err, slice_get, if◌then◌else◌}
+use Rattle.std.specs.Prelude.{ℕ, ◌%◌, ◌==◌, ◌&&◌, ◌||◌, Bool, true, false, List, [], Option, Some, None, Ok, Err, slice_get, slice_index_or, if◌then◌else◌}
 use Rattle.cloak_base.specs.Constants.{frame_of}
+use Rattle.cloak_base.specs.Registers.{register}
 use Rattle.cloak_base.specs.declared.names.Kind.{Kind}
-use Rattle.cloak_base.specs.declared.names.Mode.TheVariants.{U}
+use Rattle.cloak_base.specs.declared.names.Kind.TheVariants.{Fetch}
+use Rattle.cloak_base.specs.declared.names.Mode.{Mode}
+use Rattle.cloak_base.specs.declared.names.Mode.TheVariants.{U, S}
 use Rattle.cloak_base.specs.declared.names.PageId.{PageId}
 use Rattle.cloak_model.specs.Csr.{mxr_of, satp_of, sum_of}
 use Rattle.cloak_model.specs.Hart.{Hart}
 use Rattle.cloak_model.specs.KernelAlone.{KernelAlone, KernelPlace, Between, Inside, Left, Outside}
-use Rattle.cloak_model.specs.Memory.{is_in_ram}
+use Rattle.cloak_model.specs.Memory.{is_in_ram, value_in}
 use Rattle.cloak_model.specs.Walk.{Walk, walk}
 use Rattle.alone_views.specs.declared.asked.AskedAccess.{AskedAccess}
 use Rattle.alone_views.specs.declared.asked.AskedAccess.TheVariants as asked
+use Rattle.replayed_run.specs.declared.frames.DiskCall.{DiskCall}
 use Rattle.replayed_run.specs.declared.frames.PresentedPage.{PresentedPage}
 use Rattle.replayed_run.specs.declared.frames.Tables.{Tables}
 
@@ -70,3 +74,39 @@ presented_for ram tables (asked.Uncloaked address) = None
 -- in this state of the kernel alone
 abbrev pub presented_by : KernelAlone → AskedAccess → Option PresentedPage
 presented_by s question = presented_for s.kernel.ram (tables_in s) question
+
+-- The host call on the disk that a hart outside is about to make.
+
+-- the frame from which it fetches
+abbrev pub frame_fetched : List (List ℕ) → Hart → Option ℕ
+frame_fetched ram h = frame_led ram (walk ram (satp_of h.csrs) (record {
+  mode = h.mode;
+  sum = sum_of h.csrs;
+  mxr = mxr_of h.csrs;
+  va = h.pc;
+  kind = Fetch;
+}))
+
+abbrev pub is_supervisor : Mode → Bool
+is_supervisor S = true
+is_supervisor U = false
+
+-- it is in S mode, at an ECALL, and calls for a block to be read or written
+abbrev pub calls_disk : Hart → ℕ → Bool
+calls_disk h word = (word == 0x73) && (is_supervisor h.mode && ((register h.regs 17 == 2) || (register h.regs 17 == 3)))
+
+-- the call names this frame
+abbrev pub call_for : Hart → Option ℕ → Option DiskCall
+call_for h None = None
+call_for h (Some frame) =
+    Some (record { is_write = register h.regs 17 == 3; block = register h.regs 10; frame = frame })
+
+abbrev pub call_from : List (List ℕ) → Hart → Option ℕ → Option DiskCall
+call_from ram h None = None
+call_from ram h (Some at) =
+    if calls_disk h (value_in (slice_index_or ram at []) (h.pc % 4096) 4)
+    then call_for h (frame_in ram (register h.regs 11))
+    else None
+
+abbrev pub disk_call : List (List ℕ) → Hart → Option DiskCall
+disk_call ram h = call_from ram h (frame_fetched ram h)

@@ -5,4 +5,5 @@ pub mod Alone
 pub mod ContextsTold
 pub mod Machines
 pub mod Noted
+pub mod PagesTold
 pub mod Watching

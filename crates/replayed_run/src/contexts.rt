@@ -1,5 +1,5 @@
 //! What a record tells of contexts and of the page tables of spaces.
-ghost use Rattle.std.specs.Prelude.{◌≡◌, Some, None, slice_index_or, slice_set};
+ghost use Rattle.std.specs.Prelude.{◌≡◌, Some, None, slice_set};
 ghost use Rattle.replayed_run.specs.ContextsTold as spec;
 
 /// What is told of a context.

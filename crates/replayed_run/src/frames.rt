@@ -114,22 +114,43 @@ pub struct DiskCall {
     /// A frame goes to a block; otherwise a block comes into a frame.
     pub is_write: bool,
     pub block: u32,
-    pub frame: u32,
+    pub frame: usize,
+}
+
+/// A hart in S mode calls for a block to be read or written.
+fn calls_disk(hart: &Hart, word: u32) -> bool
+    ensures { result ≡ leading.calls_disk hart.now word }
+{
+    let number = hart.regs.get(17);
+    word == ECALL && matches!(hart.mode, Mode::S) && (number == 2 || number == 3)
+}
+
+/// The call of a hart that names this frame, if it names one.
+fn call_for(hart: &Hart, frame: Option<usize>) -> Option<DiskCall>
+    ensures { result ≡ leading.call_for hart.now frame }
+{
+    match frame {
+        None => None,
+        Some(frame) => Some(DiskCall {
+            is_write: hart.regs.get(17) == 3,
+            block: hart.regs.get(10),
+            frame,
+        }),
+    }
 }
 
 /// The host call that a hart outside is about to make, if it reaches the disk.
-pub fn disk_call(frames: &[[u8; 4096]], hart: &Hart) -> Option<DiskCall> {
-    let frame = frame_at(frames, tables_of(hart), hart.mode, hart.pc, Kind::Fetch)?;
-    let number = hart.regs.get(17);
-    let is_ecall = word_in(&frames[frame], (hart.pc % 4096) as usize) == ECALL;
-    if !is_ecall || hart.mode != Mode::S || (number != 2 && number != 3) {
-        return None;
+pub fn disk_call(frames: &[[u8; 4096]], hart: &Hart) -> Option<DiskCall>
+    ensures { result ≡ leading.disk_call frames.now hart.now }
+{
+    match frame_at(frames, tables_of(hart), hart.mode, hart.pc, Kind::Fetch) {
+        None => None,
+        Some(frame) => {
+            if calls_disk(hart, word_in(&frames[frame], (hart.pc % 4096) as usize)) {
+                call_for(hart, frame_of(frames, u64::from(hart.regs.get(11))))
+            } else {
+                None
+            }
+        }
     }
-    let address = hart.regs.get(11);
-    let frame = frame_of(frames, u64::from(address))?;
-    Some(DiskCall {
-        is_write: number == 3,
-        block: hart.regs.get(10),
-        frame: frame.min(u32::MAX as usize) as u32,
-    })
 }

@@ -1,5 +1,5 @@
 //! The machines that run alone on the items of a record: the kernel, and each program.
-ghost use Rattle.std.specs.Prelude.{◌≡◌, ◌++◌, [], ◌∷◌, List, IfOk};
+ghost use Rattle.std.specs.Prelude.{◌≡◌, ◌++◌, [], ◌∷◌, List, IfOk, option_copied, slice_get};
 ghost use Rattle.cloak_model.specs.Bundle.{IsInGrammar};
 ghost use Rattle.cloak_model.specs.Record.{IsItem};
 ghost use Rattle.cloak_model.specs.declared.image.Bundle.{Bundle};
@@ -7,13 +7,15 @@ ghost use Rattle.cloak_model.specs.declared.item.Item.{Item};
 ghost use Rattle.cloak_model.specs.KernelAlone.{kernel_alone, kernel_hart};
 ghost use Rattle.alone_views.specs.KernelPlaces.{stood_place};
 ghost use Rattle.replayed_run.specs.Alone as alone;
+ghost use Rattle.replayed_run.specs.Leading as leading;
 ghost use Rattle.replayed_run.specs.Questions as question;
 ghost use Rattle.replayed_run.specs.Machines.{ProgramsStand, ProgramsTake, StandAlone, TakeAlone};
 
+use crate::frames::{PresentedPage, Tables, frame_at, tables_of};
 use crate::questions::access_in;
 use crate::silent::Silent;
 use alone_views::{AskedAccess, DomainAlone, KernelAlone, KernelPlace, Unfit};
-use cloak_base::{HartId, NoMemory};
+use cloak_base::{HartId, Kind, Mode, NoMemory, PageId};
 use cloak_model::{Bundle, Item};
 use host_calls::Hart;
 use std::alloc::Global;
@@ -120,6 +122,95 @@ impl Machines {
             words_of(&harts[hart])
         } else {
             words_of(&Hart::start(0, 0))
+        }
+    }
+
+    /// The hart of a number.
+    pub fn hart_at(&self, number: usize) -> Option<&Hart>
+        ensures { (b : Bundle) (items : List Item) → StandAlone b items self.now →
+            option_copied result ≡ slice_get (kernel_alone b.kernel items).kernel.harts number }
+    {
+        self.kernel.harts().get(number)
+    }
+
+    /// The page tables of a hart.
+    fn tables_at(&self, number: usize) -> Option<Tables>
+        ensures { (b : Bundle) (items : List Item) → StandAlone b items self.now →
+            result ≡ leading.tables_by (slice_get (kernel_alone b.kernel items).kernel.harts number) }
+    {
+        match self.hart_at(number) {
+            None => None,
+            Some(hart) => Some(tables_of(hart)),
+        }
+    }
+
+    /// The page tables of the hart whose step is open.
+    pub fn tables(&self) -> Option<Tables>
+        ensures { (b : Bundle) (items : List Item) → StandAlone b items self.now →
+            result ≡ leading.tables_in (kernel_alone b.kernel items) }
+    {
+        match self.place() {
+            KernelPlace::Outside { hart } => self.tables_at(hart),
+            KernelPlace::Inside { hart, .. } => self.tables_at(hart),
+            KernelPlace::Between => None,
+            KernelPlace::Left => None,
+        }
+    }
+
+    /// The frames as the kernel sees them.
+    pub fn frames(&self) -> &[[u8; 4096]]
+        ensures { (b : Bundle) (items : List Item) → StandAlone b items self.now →
+            result.now ≡ (kernel_alone b.kernel items).kernel.ram }
+    {
+        self.kernel.frames()
+    }
+
+    /// The frame that an address of a program leads to.
+    pub fn frame_for(&self, tables: Tables, address: u32, kind: Kind) -> Option<usize>
+        ensures { (b : Bundle) (items : List Item) → StandAlone b items self.now →
+            result ≡ leading.frame_for (kernel_alone b.kernel items).kernel.ram tables address kind }
+    {
+        frame_at(self.frames(), tables, Mode::U, address, kind)
+    }
+
+    /// The page of a question, and the frame in which the kernel presents it.
+    fn presented_under(
+        &self,
+        tables: Option<Tables>,
+        page: PageId,
+        address: u32,
+        kind: Kind,
+    ) -> Option<PresentedPage>
+        ensures { (b : Bundle) (items : List Item) → StandAlone b items self.now →
+            result ≡ leading.presented_under (kernel_alone b.kernel items).kernel.ram tables page address kind }
+    {
+        match tables {
+            None => None,
+            Some(tables) => match self.frame_for(tables, address, kind) {
+                None => None,
+                Some(frame) => Some(PresentedPage {
+                    page,
+                    address,
+                    kind,
+                    frame,
+                }),
+            },
+        }
+    }
+
+    /// The page of this question of a program, and the frame in which the kernel presents it.
+    pub fn presented(&self, question: AskedAccess) -> Option<PresentedPage>
+        ensures { (b : Bundle) (items : List Item) → StandAlone b items self.now →
+            result ≡ leading.presented_by (kernel_alone b.kernel items) question }
+    {
+        match question {
+            AskedAccess::Page {
+                page,
+                address,
+                kind,
+            } => self.presented_under(self.tables(), page, address, kind),
+            AskedAccess::Nothing => None,
+            AskedAccess::Uncloaked { .. } => None,
         }
     }
 

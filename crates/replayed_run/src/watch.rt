@@ -1,6 +1,6 @@
 //! A run as it is made again from the items of its record: the kernel, the programs, what is noted of them, and which page each
 //! frame shows.
-ghost use Rattle.std.specs.Prelude.{◌≡◌, ◌/◌, ◌*◌, ◌++◌, ◌&&◌, [], ◌∷◌, List, ℕ, IfOk, false, not, option_copied, slice_get};
+ghost use Rattle.std.specs.Prelude.{◌≡◌, ◌/◌, ◌*◌, ◌++◌, ◌&&◌, [], ◌∷◌, List, IfOk, false, not, option_copied, slice_get};
 ghost use Rattle.cloak_model.specs.Bundle.{IsInGrammar};
 ghost use Rattle.cloak_model.specs.KernelAlone.{kernel_alone, kernel_hart};
 ghost use Rattle.cloak_model.specs.Record.{IsItem};
@@ -16,16 +16,18 @@ ghost use Rattle.replayed_run.specs.Questions.{questioned_in};
 ghost use Rattle.replayed_run.specs.Machines.{StandAlone};
 ghost use Rattle.replayed_run.specs.Noted as noted;
 ghost use Rattle.replayed_run.specs.Noted.{notes_after};
-ghost use Rattle.replayed_run.specs.Watching.{KeepsRun, WatchTakes, WatchTook, Watches, notes_of};
+ghost use Rattle.replayed_run.specs.PagesTold as paging;
+ghost use Rattle.replayed_run.specs.PagesTold.{paged_in, pages_after, pages_of, showing_in, showing_told};
+ghost use Rattle.replayed_run.specs.Watching.{KeepsRun, PagesNext, WatchTakes, WatchTook, Watches, notes_of};
 
 use crate::contexts::{FirstTable, ToldContext};
-use crate::frames::{PresentedPage, Tables, frame_at, tables_of};
+use crate::frames::{PresentedPage, Tables};
 use crate::machines::{HartWords, Machines, StandingContext};
 use crate::notes::{Asking, Notes, asked_from};
 use crate::pages::{Pages, Showing};
 use crate::questions::Questions;
 use alone_views::{AskedAccess, KernelPlace, Unfit};
-use cloak_base::{Kind, Mode, NoMemory, PageId, Shown};
+use cloak_base::{Kind, NoMemory};
 use cloak_model::{Bundle, Item};
 use host_calls::Hart;
 use sha2::{Digest, Sha256};
@@ -41,7 +43,9 @@ pub struct Watch {
 }
 
 /// Every byte is zero.
-fn is_wiped(bytes: &[u8; 4096]) -> bool {
+fn is_wiped(bytes: &[u8; 4096]) -> bool
+    ensures { result ≡ paging.is_wiped bytes.now }
+{
     bytes.iter().all(|byte| *byte == 0)
 }
 
@@ -94,18 +98,7 @@ impl Watch {
         ensures { (b : Bundle) (items : List Item) → Watches b items self.now →
             option_copied result ≡ slice_get (kernel_alone b.kernel items).kernel.harts number }
     {
-        self.machines.kernel.harts().get(number)
-    }
-
-    /// The page tables of a hart.
-    fn tables_at(&self, number: usize) -> Option<Tables>
-        ensures { (b : Bundle) (items : List Item) → Watches b items self.now →
-            result ≡ leading.tables_by (slice_get (kernel_alone b.kernel items).kernel.harts number) }
-    {
-        match self.hart_at(number) {
-            None => None,
-            Some(hart) => Some(tables_of(hart)),
-        }
+        self.machines.hart_at(number)
     }
 
     /// The page tables of the hart whose step is open.
@@ -113,12 +106,7 @@ impl Watch {
         ensures { (b : Bundle) (items : List Item) → Watches b items self.now →
             result ≡ leading.tables_in (kernel_alone b.kernel items) }
     {
-        match self.place() {
-            KernelPlace::Outside { hart } => self.tables_at(hart),
-            KernelPlace::Inside { hart, .. } => self.tables_at(hart),
-            KernelPlace::Between => None,
-            KernelPlace::Left => None,
-        }
+        self.machines.tables()
     }
 
     /// The frames as the kernel sees them.
@@ -126,7 +114,7 @@ impl Watch {
         ensures { (b : Bundle) (items : List Item) → Watches b items self.now →
             result.now ≡ (kernel_alone b.kernel items).kernel.ram }
     {
-        self.machines.kernel.frames()
+        self.machines.frames()
     }
 
     /// The frame that an address of a program leads to.
@@ -134,11 +122,14 @@ impl Watch {
         ensures { (b : Bundle) (items : List Item) → Watches b items self.now →
             result ≡ frame_for (kernel_alone b.kernel items).kernel.ram tables address kind }
     {
-        frame_at(self.frames(), tables, Mode::U, address, kind)
+        self.machines.frame_for(tables, address, kind)
     }
 
     /// Which page each frame holds, and what was shown of them.
-    pub fn pages(&self) -> &Pages {
+    pub fn pages(&self) -> &Pages
+        ensures { (b : Bundle) (items : List Item) → Watches b items self.now →
+            pages_of result.now ≡ (paged_in b items).pages }
+    {
         &self.pages
     }
 
@@ -179,45 +170,12 @@ impl Watch {
         self.machines.context(ctx)
     }
 
-    /// The page of a question, and the frame in which the kernel presents it.
-    fn presented_under(
-        &self,
-        tables: Option<Tables>,
-        page: PageId,
-        address: u32,
-        kind: Kind,
-    ) -> Option<PresentedPage>
-        ensures { (b : Bundle) (items : List Item) → Watches b items self.now →
-            result ≡ leading.presented_under (kernel_alone b.kernel items).kernel.ram tables page address kind }
-    {
-        match tables {
-            None => None,
-            Some(tables) => match self.frame_for(tables, address, kind) {
-                None => None,
-                Some(frame) => Some(PresentedPage {
-                    page,
-                    address,
-                    kind,
-                    frame,
-                }),
-            },
-        }
-    }
-
     /// The page of the last question, and the frame in which the kernel presents it.
     pub fn presented(&self) -> Option<PresentedPage>
         ensures { (b : Bundle) (items : List Item) → Watches b items self.now →
             result ≡ leading.presented_by (kernel_alone b.kernel items) (questioned_in b items).questions.last }
     {
-        match self.questions.last {
-            AskedAccess::Page {
-                page,
-                address,
-                kind,
-            } => self.presented_under(self.tables(), page, address, kind),
-            AskedAccess::Nothing => None,
-            AskedAccess::Uncloaked { .. } => None,
-        }
+        self.machines.presented(self.questions.last)
     }
 
     /// A context is in this space.
@@ -249,6 +207,7 @@ impl Watch {
         ensures notes { (b : Bundle) (items : List Item) → StandAlone b items self.old.machines →
             self.new.notes ≡ noted.resumed_notes b items self.old.notes ctx }
         ensures machines { self.new.machines ≡ self.old.machines }
+        ensures pages { self.new.pages ≡ self.old.pages }
     {
         self.notes.has_resumed = true;
         if let KernelPlace::Outside { hart } = self.machines.place() {
@@ -265,6 +224,7 @@ impl Watch {
         ensures notes { (b : Bundle) (items : List Item) → StandAlone b items self.old.machines →
             self.new.notes ≡ noted.left_notes b items self.old.notes ctx }
         ensures machines { self.new.machines ≡ self.old.machines }
+        ensures pages { self.new.pages ≡ self.old.pages }
     {
         if self.context(ctx).is_some() {
             return;
@@ -273,9 +233,6 @@ impl Watch {
             let alone = self.is_left(was.space);
             let step = self.notes.step;
             self.notes.contexts.end(ctx, was, step, alone);
-            if alone {
-                self.pages.forget(was.space / 8);
-            }
         }
     }
 
@@ -285,6 +242,7 @@ impl Watch {
           asked = noted.asked_unless self.old.notes.has_resumed (stood_place place) self.old.machines.kernel.ending;
         } }
         ensures machines { self.new.machines ≡ self.old.machines }
+        ensures pages { self.new.pages ≡ self.old.pages }
     {
         self.notes.asked = if self.notes.has_resumed {
             None
@@ -297,6 +255,7 @@ impl Watch {
     fn note_begin(&mut self, number: u32)
         ensures notes { self.new.notes ≡ record self.old.notes { step = number; has_resumed = false } }
         ensures machines { self.new.machines ≡ self.old.machines }
+        ensures pages { self.new.pages ≡ self.old.pages }
     {
         self.notes.step = number;
         self.notes.has_resumed = false;
@@ -307,6 +266,7 @@ impl Watch {
         ensures notes { (b : Bundle) (items : List Item) → WatchTook b items item.now (stood_place place) self.old →
             self.new.notes ≡ notes_after b items (items ++ item.now ∷ []) self.old.notes item.now }
         ensures machines { self.new.machines ≡ self.old.machines }
+        ensures pages { self.new.pages ≡ self.old.pages }
     {
         match item {
             Item::Step { number } => {
@@ -328,9 +288,12 @@ impl Watch {
         }
     }
 
-    /// A frame is shown. Returns the page to which the bytes belong.
+    /// A frame is shown. Returns what it shows of a page.
     fn note_cipher(&mut self, frame: u32, bytes: &[u8; 4096]) -> Option<Showing>
-        ensures { KeepsRun self.old self.new }
+        ensures run { KeepsRun self.old self.new }
+        ensures pages { pages_of self.new.pages ≡
+            paging.after_cipher (pages_of self.old.pages) (notes_of self.old).step frame bytes.now }
+        ensures shows { result ≡ paging.cipher_showing (pages_of self.old.pages) (notes_of self.old).step frame bytes.now }
     {
         if is_wiped(bytes) {
             self.pages.wipe(frame);
@@ -340,38 +303,80 @@ impl Watch {
         self.pages.show(frame, self.notes.step, digest)
     }
 
-    /// A program was granted its last question.
-    fn note_grant(&mut self)
-        ensures { KeepsRun self.old self.new }
+    /// A program was granted this question.
+    fn note_grant(&mut self, asked: AskedAccess)
+        ensures run { KeepsRun self.old self.new }
+        ensures pages { (b : Bundle) (items : List Item) → StandAlone b items self.old.machines →
+            pages_of self.new.pages ≡ paging.after_grant
+            (leading.presented_by (kernel_alone b.kernel items) asked) (pages_of self.old.pages) }
     {
-        if let Some(PresentedPage { page, frame, .. }) = self.presented() {
-            self.pages.reach(page, frame);
+        if let Some(found) = self.machines.presented(asked) {
+            self.pages.reach(found.page, found.frame);
         }
     }
 
-    /// Notes what an item says of pages. Returns what it shows of one, if it does.
-    fn note_page(&mut self, item: &Item) -> Option<Showing>
-        ensures { KeepsRun self.old self.new }
+    /// A context left. If its space ended with it, what was shown of its program's pages is of no more use.
+    fn note_end_of_pages(&mut self, ctx: u32)
+        ensures run { KeepsRun self.old self.new }
+        ensures pages { (b : Bundle) (items : List Item) → StandAlone b items self.old.machines →
+            pages_of self.new.pages ≡ paging.after_leave b items (standing_told b items ctx)
+            (told_of (notes_of self.old).contexts ctx) (pages_of self.old.pages) }
+    {
+        if self.context(ctx).is_some() {
+            return;
+        }
+        if let Some(was) = self.told(ctx) {
+            if self.is_left(was.space) {
+                self.pages.forget(was.space / 8);
+            }
+        }
+    }
+
+    /// Notes what an item says of pages, of which this is the question. Returns what it shows of one, if it does.
+    fn note_page(&mut self, item: &Item, asked: AskedAccess) -> Option<Showing>
+        ensures run { KeepsRun self.old self.new }
+        ensures pages { (b : Bundle) (items : List Item) → PagesNext b items item.now asked self.old →
+            pages_of self.new.pages ≡
+            pages_after b items (items ++ item.now ∷ []) (pages_of self.old.pages) item.now }
+        ensures shows { result ≡ showing_in (pages_of self.old.pages) (notes_of self.old).step item.now }
     {
         match item {
-            Item::Cipher { frame, bytes } => return self.note_cipher(*frame, bytes),
-            Item::Ok { .. } => self.note_grant(),
-            _ => {}
+            Item::Cipher { frame, bytes } => self.note_cipher(*frame, bytes),
+            Item::Ok { .. } => {
+                self.note_grant(asked);
+                None
+            }
+            Item::Leave(shown) => {
+                self.note_end_of_pages(shown.ctx);
+                None
+            }
+            Item::Step { .. }
+            | Item::Close { .. }
+            | Item::Resume { .. }
+            | Item::Put { .. }
+            | Item::End
+            | Item::Absent { .. }
+            | Item::Word { .. }
+            | Item::Timer { .. }
+            | Item::Stopped { .. }
+            | Item::Ended { .. } => None,
         }
-        None
     }
 
     /// Takes the next item. Returns what it shows of a page, if it does.
     pub fn take(&mut self, item: &Item) -> Result<Option<Showing>, Unfit>
-        ensures { (b : Bundle) (items : List Item) → IsItem item.now → Watches b items self.old →
+        ensures takes { (b : Bundle) (items : List Item) → IsItem item.now → Watches b items self.old →
             WatchTakes b items item.now self.new result }
+        ensures shows { (b : Bundle) (items : List Item) → IsItem item.now → Watches b items self.old →
+            IfOk result (λ showing. showing ≡ showing_told b items item.now) }
     {
         let place = self.machines.place();
         let question = self.machines.question_for(item, self.questions.answers);
         let questions = self.questions.after(item, question);
         self.machines.take(item)?;
+        let showing = self.note_page(item, questions.last);
         self.note(place, item);
         self.questions = questions;
-        Ok(self.note_page(item))
+        Ok(showing)
     }
 }
