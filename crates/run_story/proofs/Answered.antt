@@ -19,9 +19,9 @@ use Rattle.replayed_run.specs.Noted.{noted_in}
 use Rattle.replayed_run.specs.declared.notes.Notes.{Notes}
 use Rattle.run_story.specs.Answering.{ExplainAnswers, HasBundleFault, HasStory, LacksStory, ReadingEnds, ShowsEnding, ShowsStory, ShowsUntold, last_sentence}
 use Rattle.run_story.specs.Passages.{summary}
-use Rattle.run_story.specs.Telling.{Tells, story_text}
+use Rattle.run_story.specs.Telling.{Knows, story_text}
 use Rattle.run_story.specs.Told.{ended_count, told_in}
-use Rattle.run_story.proofs.StoryMore.{tells_fit}
+use Rattle.run_story.proofs.StoryMore.{knows_fit}
 use Rattle.run_story.specs.declared.story.Story.{Story}
 use Rattle.run_story.specs.declared.untold.Untold.{Untold}
 use Rattle.run_story.specs.declared.untold.Untold.TheVariants as untold
@@ -68,14 +68,14 @@ no_bundle {S} {O} bundle_name record_name before after r answer reads (inr front
     answers_so bundle_name record_name before after answer status.WriteFault front.answer front.faults
 
 -- what a story shows, by its items
-told_text : (b : Bundle) (items : List Item) (s : Story) → Tells b items s →
+told_text : (b : Bundle) (items : List Item) (s : Story) → Knows b items s →
     story_text s ≡ string_bytes s.text ++ last_sentence b items
-told_text b items s tells =
-    ap (λ (n : Notes). string_bytes s.text ++ summary n.step (ended_count s.ended) s.refused) tells.knows.watches.notes
+told_text b items s knows =
+    ap (λ (n : Notes). string_bytes s.text ++ summary n.step (ended_count s.ended) s.refused) knows.watches.notes
     ∙ (ap (λ (l : List (Option ℕ)). string_bytes s.text ++ summary (noted_in b items).notes.step (ended_count l) s.refused)
-    tells.knows.ended
+    knows.ended
     ∙ ap (λ (n : ℕ). string_bytes s.text
-    ++ summary (noted_in b items).notes.step (ended_count (told_in b items).ended) n) tells.knows.refused)
+    ++ summary (noted_in b items).notes.step (ended_count (told_in b items).ended) n) knows.refused)
 
 -- a story was shown
 pub shows_story : {S O : Type 0} (bundle_name record_name : List ℕ) (before after : Outside S O) (b : Bundle) (s : Story)
@@ -87,12 +87,12 @@ shows_story {S} {O} bundle_name record_name before after b s status.Done file ha
   file = file;
   items = has.items;
   record_file = has.file;
-  fits = tells_fit b has.items s has.tells;
+  fits = knows_fit b has.items s has.tells.knows;
   reading = reading;
   passages = string_bytes s.text;
   told = has.tells.text;
   shown = subst (λ (text : List ℕ). Grows before.output.taken after.output.taken text)
-      (told_text b has.items s has.tells) shows.0;
+      (told_text b has.items s has.tells.knows) shows.0;
   faults = shows.1;
 }
 shows_story {S} {O} bundle_name record_name before after b s status.Violation file has reading shows = absurd shows

@@ -1,15 +1,19 @@
 -- Texts of several parts.
-use Rattle.std.proofs.Common.{◌≡◌, ◌∙◌, ◌++◌, ℕ, List, append_assoc}
+use Rattle.std.proofs.Common.{◌≡◌, ◌∙◌, ◌++◌, List, [], ◌∷◌, ℕ, refl, sym, append_assoc}
 
--- with two names in it
-pub joined : (a b m s e : List ℕ) → a ++ b ++ m ++ s ++ e ≡ a ++ (b ++ (m ++ (s ++ e)))
-joined a b m s e =
-    append_assoc (a ++ b ++ m) s e ∙ append_assoc (a ++ b) m (s ++ e) ∙ append_assoc a b (m ++ (s ++ e))
+-- a first part and more, put together from the left, and from the right
+abbrev pub from_left : List ℕ → List (List ℕ) → List ℕ
+from_left first [] = first
+from_left first (part ∷ parts) = from_left (first ++ part) parts
 
--- with three numbers in it, of which the last one is its end
-pub joined_by_six : (a b m s e t : List ℕ) → a ++ b ++ m ++ s ++ e ++ t ≡ a ++ (b ++ (m ++ (s ++ (e ++ t))))
-joined_by_six a b m s e t = append_assoc (a ++ b ++ m ++ s) e t ∙ joined a b m s (e ++ t)
+abbrev pub from_right : List ℕ → List (List ℕ) → List ℕ
+from_right first [] = first
+from_right first (part ∷ parts) = first ++ from_right part parts
 
--- with three numbers in it
-pub joined_by_seven : (a b m s e t u : List ℕ) → a ++ b ++ m ++ s ++ e ++ t ++ u ≡ a ++ (b ++ (m ++ (s ++ (e ++ (t ++ u)))))
-joined_by_seven a b m s e t u = append_assoc (a ++ b ++ m ++ s ++ e) t u ∙ joined_by_six a b m s e (t ++ u)
+two_first : (a b : List ℕ) (parts : List (List ℕ)) → from_right (a ++ b) parts ≡ a ++ from_right b parts
+two_first a b [] = refl
+two_first a b (part ∷ parts) = append_assoc a b (from_right part parts)
+
+pub joined : (first : List ℕ) (parts : List (List ℕ)) → from_right first parts ≡ from_left first parts
+joined first [] = refl
+joined first (part ∷ parts) = sym (two_first first part parts) ∙ joined (first ++ part) parts

@@ -1,7 +1,11 @@
 pub mod Digits
 pub mod Joined
 pub mod ToldMore
+pub mod Before
 pub mod StoryMore
 pub mod Ends
 pub mod Answered
 pub mod SoFar
+pub mod Fronts
+pub mod Again
+pub mod DeedsMore

@@ -68,6 +68,10 @@ EndsAfter told items before now (ending.Fault fault) =
 EndsAfter told items before now ending.Unread = Rose before now
 EndsAfter told items before now (ending.Unfit step) = ⊥
 
+-- a file begins with these items, if its bytes are told
+abbrev pub BeginsSo : Option (List ℕ) → List Item → Type 0
+BeginsSo told items = IfSome told (λ bytes. BeginsWith (readable bytes) items)
+
 -- The record was read once more for a page, or it could not be read, or there was no memory.
 abbrev pub TellsDeeds : {A : Type 0} → ℕ → ℕ → Result A Untold → Type 0
 TellsDeeds before now (Ok a) = now ≡ before
@@ -76,23 +80,26 @@ TellsDeeds before now (Err (untold.Ended ending.Unread)) = Rose before now
 TellsDeeds before now (Err (untold.Ended _)) = ⊥
 
 -- the page was told
-abbrev pub TellsPage : Bundle → List Item → ℕ → ℕ → Story → Result (Unit {0}) Untold → Type 0
-TellsPage b items before now story (Ok done) = Tells b items story × (now ≡ before)
-TellsPage b items before now story (Err why) = TellsDeeds {A = Unit {0}} before now (Err why)
+abbrev pub TellsPage :
+    Bundle → Option (List ℕ) → List Item → ℕ → ℕ → Story → Result (Unit {0}) Untold → Type 0
+TellsPage b told items before now story (Ok done) = Tells b told items story × (now ≡ before)
+TellsPage b told items before now story (Err why) = TellsDeeds {A = Unit {0}} before now (Err why)
 
 -- after these items one more was told, or why not
-abbrev pub TellsItem : Bundle → List Item → Item → ℕ → ℕ → Story → Result (Unit {0}) Untold → Type 0
-TellsItem b items i before now story (Ok done) = Tells b (items ++ i ∷ []) story × (now ≡ before)
-TellsItem b items i before now story (Err untold.NoMemory) = Unit {0}
-TellsItem b items i before now story (Err (untold.Ended ending.Unread)) = Rose before now
-TellsItem b items i before now story (Err (untold.Ended (ending.Unfit step))) = IsUnfitNext b items i step × (now ≡ before)
-TellsItem b items i before now story (Err (untold.Ended _)) = ⊥
+abbrev pub TellsItem :
+    Bundle → Option (List ℕ) → List Item → Item → ℕ → ℕ → Story → Result (Unit {0}) Untold → Type 0
+TellsItem b told items i before now story (Ok done) = Tells b told (items ++ i ∷ []) story × (now ≡ before)
+TellsItem b told items i before now story (Err untold.NoMemory) = Unit {0}
+TellsItem b told items i before now story (Err (untold.Ended ending.Unread)) = Rose before now
+TellsItem b told items i before now story (Err (untold.Ended (ending.Unfit step))) =
+    IsUnfitNext b items i step × (now ≡ before)
+TellsItem b told items i before now story (Err (untold.Ended _)) = ⊥
 
 -- The file is a record whose items fit, and this is its story.
 pub record HasStory (b : Bundle) (told : Option (List ℕ)) (story : Story) : Type 0 where
   pub items : List Item
   pub file : IfSome told (λ bytes. IsRecord (readable bytes) items)
-  pub tells : Tells b items story
+  pub tells : Tells b told items story
 
 -- only a whole record has a story
 abbrev pub TellsStory : Bundle → Option (List ℕ) → ℕ → ℕ → Result Story Untold → Type 0
@@ -148,7 +155,7 @@ pub record IsExplained {S O : Type 0} (bundle_name record_name : List ℕ) (befo
   pub fits : Fits bundle items
   pub reading : after.files.reading ≡ before.files.reading
   pub passages : List ℕ
-  pub told : AreToldBy (told_in bundle items).violations passages
+  pub told : AreToldBy bundle (before.files.held record_name) (told_in bundle items).violations passages
   pub shown : Grows before.output.taken after.output.taken (passages ++ last_sentence bundle items)
   pub faults : after.output.faults ≡ before.output.faults
 

@@ -1,15 +1,29 @@
 -- The sentences of a story.
-use Rattle.std.specs.Prelude.{ℕ, ◌≡◌, ◌⊎◌, ◌/◌, ◌==◌, ◌++◌, List, [], ◌∷◌, codes, decimal, Option, Some, None, string_bytes, if◌then◌else◌}
+use Rattle.std.specs.Prelude.{ℕ, ◌≡◌, ◌/◌, ◌==◌, ◌++◌, length, List, [], ◌∷◌, codes, decimal, Option, Some, None, IfSome, string_bytes, if◌then◌else◌}
+use Rattle.std.specs.List.{flat_map}
+use Rattle.hex.specs.Hex.{encode_lower}
 use Rattle.cloak_model.specs.Report.{hexadecimal}
 use Rattle.cloak_base.specs.declared.names.Kind.{Kind}
 use Rattle.cloak_base.specs.declared.names.Kind.TheVariants as kind
 use Rattle.cloak_base.specs.declared.names.PageId.{PageId}
+use Rattle.cloak_model.specs.declared.image.Bundle.{Bundle}
+use Rattle.cloak_model.specs.declared.item.Item.{Item}
+use Rattle.record_reader.specs.Ahead.{readable}
+use Rattle.read_back.specs.Reading.{BeginsWith}
 use Rattle.replayed_run.specs.declared.contexts.FirstTable.{FirstTable}
 use Rattle.replayed_run.specs.declared.contexts.ToldContext.{ToldContext}
+use Rattle.replayed_run.specs.declared.frames.DiskCall.{DiskCall}
 use Rattle.replayed_run.specs.declared.frames.PresentedPage.{PresentedPage}
 use Rattle.replayed_run.specs.declared.notes.Asking.{Asking}
-use Rattle.run_story.specs.Told.{ByPage, ByResume, OfNone, Violation}
+use Rattle.replayed_run.specs.declared.pages.Showing.{Showing}
+use Rattle.run_story.specs.Deeds.{Done, done_in, last_events, left_out}
+use Rattle.run_story.specs.Told.{ByPage, ByQuestion, ByResume, OfNone, Violation}
+use Rattle.run_story.specs.declared.deeds.FrameChange.{FrameChange}
+use Rattle.run_story.specs.declared.deeds.PageDeed.{PageDeed}
+use Rattle.run_story.specs.declared.deeds.PageDeed.TheVariants as deed
+use Rattle.run_story.specs.declared.deeds.PageEvent.{PageEvent}
 use Rattle.run_story.specs.declared.presented.AskedResume.{AskedResume}
+use Rattle.run_story.specs.declared.presented.Presented.{Presented}
 use Rattle.run_story.specs.declared.presented.Refused.{Refused}
 use Rattle.run_story.specs.declared.presented.Refused.TheVariants as refused
 use Rattle.run_story.specs.declared.telling.Passage.{Passage}
@@ -80,7 +94,7 @@ question_text step ctx =
     ++ decimal (ctx / 8) ++ codes " ")
     ++ (codes "is not what was last shown of that page.\n" ++ end_text ctx)
 
--- A page that was presented, with more about it: what was done to it before, what was found, and the rule.
+-- A page of which more is known: the access that was stopped, what was done before, and what was found.
 
 abbrev pub access_name : Kind → List ℕ
 access_name kind.Fetch = codes "fetched an instruction"
@@ -89,7 +103,8 @@ access_name kind.Store = codes "stored"
 
 abbrev pub page_name : PageId → List ℕ
 page_name q =
-    codes "page " ++ decimal q.page ++ codes " of resource " ++ decimal q.resource ++ codes " of program " ++ decimal q.domain
+    codes "page " ++ decimal q.page ++ codes " of resource " ++ decimal q.resource ++ codes " of program "
+    ++ decimal q.domain
 
 -- the access that was stopped, and the frame to which it led
 abbrev pub access_text : PresentedPage → List ℕ
@@ -103,17 +118,108 @@ access_text p =
 -- the step of a context
 abbrev pub running_text : ℕ → ℕ → ℕ → List ℕ
 running_text step hart ctx =
-    codes "A violation at step " ++ decimal step ++ codes ": context " ++ decimal ctx ++ codes ", on hart " ++ decimal hart
-    ++ codes ", "
+    codes "A violation at step " ++ decimal step ++ codes ": context " ++ decimal ctx ++ codes ", on hart "
+    ++ decimal hart ++ codes ", "
 
-abbrev pub page_text : ℕ → ℕ → ℕ → PresentedPage → List ℕ → List ℕ
-page_text step hart ctx p more =
-    running_text step hart ctx ++ (access_text p ++ (more ++ end_text ctx))
+-- of which page the frame should have had the bytes
+abbrev pub whose_page : Option Showing → List ℕ
+whose_page (Some showing) = codes "the page.\n"
+whose_page None = codes "the page, or of the page from which a fork copied it, up to that fork.\n"
+
+abbrev pub whose_text : Option Showing → List ℕ
+whose_text showing = codes ", and what that frame has is not what was last shown of " ++ whose_page showing
+
+-- What was done.
+
+-- a byte in two hexadecimal digits
+abbrev pub byte_text : ℕ → List ℕ
+byte_text n = encode_lower (n ∷ [])
+
+abbrev pub step_name : ℕ → List ℕ
+step_name n = if n == 0 then codes "opening" else codes "step " ++ decimal n
+
+abbrev pub frame_name : Option ℕ → List ℕ
+frame_name (Some frame) = codes "frame " ++ decimal frame
+frame_name None = codes "no frame"
+
+-- a host call on the disk
+abbrev pub call_name : DiskCall → List ℕ
+call_name c =
+    if c.is_write
+    then codes "wrote frame " ++ decimal c.frame ++ codes " to block " ++ decimal c.block
+    else codes "read block " ++ decimal c.block ++ codes " into frame " ++ decimal c.frame
+
+-- the first byte that a store changed, and how many
+abbrev pub first_changed : FrameChange → List ℕ
+first_changed c =
+    codes "byte " ++ decimal c.place ++ codes " was " ++ byte_text c.was ++ codes " and became " ++ byte_text c.now
+
+abbrev pub change_text : FrameChange → List ℕ
+change_text c =
+    if c.count == 1
+    then first_changed c
+    else first_changed c ++ (codes ", and so on, " ++ decimal c.count ++ codes " bytes in all")
+
+abbrev pub deed_text : PageDeed → List ℕ
+deed_text (deed.LastShown showing) =
+    (page_name showing.page ++ codes " was last shown, in frame " ++ decimal showing.frame ++ codes ", ")
+    ++ (codes "as ciphertext with the digest " ++ encode_lower showing.digest)
+deed_text (deed.Shown page frame) = page_name page ++ codes " was shown, in frame " ++ decimal frame
+deed_text (deed.Moved hart call) = codes "the kernel, on hart " ++ decimal hart ++ codes ", " ++ call_name call
+deed_text (deed.Stored hart frame change) =
+    codes "the kernel, on hart " ++ decimal hart ++ codes ", stored to frame " ++ decimal frame ++ codes ": "
+    ++ change_text change
+deed_text (deed.Leads address from to) =
+    codes "the kernel changed its page table: "
+    ++ (hexadecimal address ++ (codes " led to " ++ frame_name from ++ codes ", and now leads to " ++ frame_name to))
+
+abbrev pub event_text : PageEvent → List ℕ
+event_text e = codes "  " ++ step_name e.step ++ codes ": " ++ deed_text e.deed ++ codes "\n"
+
+-- events, of which this many earlier ones are left out
+abbrev pub left_out_text : ℕ → List ℕ
+left_out_text n =
+    if n == 0 then [] else codes "  (earlier events that are left out: " ++ decimal n ++ codes ")\n"
+
+abbrev pub events_text : ℕ → List PageEvent → List ℕ
+events_text n events = left_out_text n ++ flat_map event_text events
+
+-- What was found.
+
+-- where those bytes had last been shown
+abbrev pub origin_place : ℕ → List ℕ
+origin_place n = if n == 0 then codes " at the opening\n" else codes " at step " ++ decimal n ++ codes "\n"
+
+abbrev pub origin_text : Option Showing → List ℕ
+origin_text (Some showing) = codes "shown of " ++ page_name showing.page ++ origin_place showing.step
+origin_text None = codes "not shown in this run before\n"
+
+abbrev pub found_text : Presented → Option Showing → List ℕ
+found_text p origin =
+    (codes "  step " ++ decimal p.step ++ codes ": the program asked for the page, and found in frame "
+    ++ decimal p.found.frame ++ codes " ")
+    ++ ((codes "bytes with the digest " ++ encode_lower p.digest ++ codes ", which were ") ++ origin_text origin)
+
+abbrev pub page_rule : List ℕ
+page_rule =
+    codes "The rule: a frame that the kernel presents for a cloaked page has exactly the bytes that were last shown of that page.\n"
+
+-- the lines of a page, with these events and this origin
+abbrev pub lines_of : Presented → ℕ → List PageEvent → Option Showing → List ℕ
+lines_of p n events origin =
+    whose_text p.showing ++ (events_text n events ++ (found_text p origin ++ page_rule))
+
+-- the lines of a page, by all that was done before
+abbrev pub page_lines : Presented → Done → List ℕ
+page_lines p d = lines_of p (left_out d.events) (last_events d.events) d.origin
+
+abbrev pub page_text : Presented → List ℕ → List ℕ
+page_text p more = running_text p.step p.hart p.ctx ++ (access_text p.found ++ (more ++ end_text p.ctx))
 
 abbrev pub passage_text : Passage → List ℕ
 passage_text (passage.Resume asking why) = resume_text asking why
 passage_text (passage.Gone step asked ended) = none_text step asked ended
-passage_text (passage.Page p more) = page_text p.step p.hart p.ctx p.found (string_bytes more)
+passage_text (passage.Page p more) = page_text p (string_bytes more)
 passage_text (passage.Question step ctx) = question_text step ctx
 
 -- The last sentence, by the number of steps, of programs that ended, and of resumes that were refused.
@@ -136,19 +242,30 @@ summary steps ended refused =
 
 -- Violations as they are told.
 
--- a text tells of a page that was presented
-abbrev pub TellsPageOf : ℕ → ℕ → ℕ → Option PresentedPage → List ℕ → Type 0
-TellsPageOf step hart ctx None text = ⊥
-TellsPageOf step hart ctx (Some p) text = (more : List ℕ) × (text ≡ page_text step hart ctx p more)
+-- a violation is told by this text, without what was done before
+abbrev pub IsToldAtOnce : Violation → List ℕ → Type 0
+IsToldAtOnce (ByQuestion step ctx) text = text ≡ question_text step ctx
+IsToldAtOnce (ByPage p) text = ⊥
+IsToldAtOnce (ByResume asking why) text = text ≡ resume_text asking why
+IsToldAtOnce (OfNone step asked ended) text = text ≡ none_text step asked ended
 
--- a violation is told by this text
-abbrev pub IsToldBy : Violation → List ℕ → Type 0
-IsToldBy (ByPage step hart ctx p) text = (text ≡ question_text step ctx) ⊎ TellsPageOf step hart ctx p text
-IsToldBy (ByResume asking why) text = text ≡ resume_text asking why
-IsToldBy (OfNone step asked ended) text = text ≡ none_text step asked ended
+-- The items before a question, read once more: those with which the file begins, if its bytes are told.
+pub record AreReadAgain (file : Option (List ℕ)) (before : ℕ) (items : List Item) : Type 0 where
+  pub front : IfSome file (λ bytes. BeginsWith (readable bytes) items × (length items ≡ before))
+
+-- a page is told by this text, with all that was done before
+pub record IsPageTold (b : Bundle) (file : Option (List ℕ)) (p : Presented) (text : List ℕ) : Type 0 where
+  pub items : List Item
+  pub again : AreReadAgain file p.before items
+  pub lines : text ≡ page_text p (page_lines p (done_in b p items))
+
+-- a violation of a record file is told by this text
+abbrev pub IsToldBy : Bundle → Option (List ℕ) → Violation → List ℕ → Type 0
+IsToldBy b file (ByPage p) text = IsPageTold b file p text
+IsToldBy b file v text = IsToldAtOnce v text
 
 -- The text has a passage for each of these violations, in order, and nothing else.
-abbrev pub AreToldBy : List Violation → List ℕ → Type 0
-AreToldBy [] text = text ≡ []
-AreToldBy (v ∷ vs) text =
-    (first : List ℕ) × (rest : List ℕ) × (text ≡ first ++ rest) × IsToldBy v first × AreToldBy vs rest
+abbrev pub AreToldBy : Bundle → Option (List ℕ) → List Violation → List ℕ → Type 0
+AreToldBy b file [] text = text ≡ []
+AreToldBy b file (v ∷ vs) text =
+    (first : List ℕ) × (rest : List ℕ) × (text ≡ first ++ rest) × IsToldBy b file v first × AreToldBy b file vs rest

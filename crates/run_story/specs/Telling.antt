@@ -1,13 +1,11 @@
 -- What a story stands for, as far as the items of a record were taken.
-use Rattle.std.specs.Prelude.{ℕ, ◌≡◌, ◌++◌, List, [], ◌∷◌, Option, Some, None, Result, Ok, Err, string_bytes}
+use Rattle.std.specs.Prelude.{ℕ, ◌≡◌, ◌<◌, ◌++◌, length, List, [], ◌∷◌, Option, Some, None, Result, Ok, Err, string_bytes}
 use Rattle.cloak_model.specs.declared.image.Bundle.{Bundle}
 use Rattle.cloak_model.specs.declared.item.Item.{Item}
-use Rattle.cloak_model.specs.KernelAlone.{KernelPlace}
 use Rattle.read_back.specs.declared.ending.Ending.TheVariants as ending
 use Rattle.replayed_run.specs.Watching.{Watches, notes_of}
-use Rattle.replayed_run.specs.declared.frames.PresentedPage.{PresentedPage}
-use Rattle.run_story.specs.Passages.{AreToldBy, IsToldBy, summary}
-use Rattle.run_story.specs.Told.{ByPage, ByResume, Due, IsUnfitNext, Nothing, OfNone, Outcome, Question, Quiet, Resume, Uncaused, Violated, Violation, due_after, ended_after, ended_count, outcome_of, refused_after, told_in}
+use Rattle.run_story.specs.Passages.{AreToldBy, IsToldAtOnce, summary}
+use Rattle.run_story.specs.Told.{ByPage, Due, IsUnfitNext, Nothing, OfNone, Outcome, Page, Question, Quiet, Resume, Uncaused, Violated, Violation, due_after, ended_after, ended_count, outcome_of, refused_after, told_in}
 use Rattle.run_story.specs.declared.presented.Presented.{Presented}
 use Rattle.run_story.specs.declared.presented.Target.{Target}
 use Rattle.run_story.specs.declared.presented.Target.TheVariants as target
@@ -18,8 +16,8 @@ use Rattle.run_story.specs.declared.untold.Untold.TheVariants as untold
 -- what a target is
 abbrev pub due_of : Target → Due
 due_of target.Nothing = Nothing
-due_of (target.Question hart ctx found) = Question hart ctx found
-due_of (target.Page presented) = Question presented.hart presented.ctx (Some presented.found)
+due_of (target.Question ctx) = Question ctx
+due_of (target.Page presented) = Page presented
 due_of (target.Context asking why) = Resume asking why
 
 -- What a story says besides its text is what these items tell, which fit.
@@ -30,17 +28,18 @@ pub record Knows (b : Bundle) (items : List Item) (s : Story) : Type 0 where
   pub refused : s.refused ≡ (told_in b items).refused
   pub caused : (told_in b items).uncaused ≡ None
 
--- A story tells these items, which fit.
-pub record Tells (b : Bundle) (items : List Item) (s : Story) : Type 0 where
+-- A story tells these items, which fit, of a record file of which this is told.
+pub record Tells (b : Bundle) (file : Option (List ℕ)) (items : List Item) (s : Story) : Type 0 where
   pub knows : Knows b items s
-  pub text : AreToldBy (told_in b items).violations (string_bytes s.text)
+  pub text : AreToldBy b file (told_in b items).violations (string_bytes s.text)
 
--- A story tells these items but for the last violation, in which this was presented.
-pub record TellsBut (b : Bundle) (items : List Item) (p : Presented) (s : Story) : Type 0 where
+-- A story tells these items but for the last violation, in which this was presented, for a question that stands before.
+pub record TellsBut (b : Bundle) (file : Option (List ℕ)) (items : List Item) (p : Presented) (s : Story) : Type 0 where
   pub knows : Knows b items s
   pub before : List Violation
-  pub violations : (told_in b items).violations ≡ before ++ ByPage p.step p.hart p.ctx (Some p.found) ∷ []
-  pub text : AreToldBy before (string_bytes s.text)
+  pub violations : (told_in b items).violations ≡ before ++ ByPage p ∷ []
+  pub text : AreToldBy b file before (string_bytes s.text)
+  pub within : p.before < length items
 
 -- why a story does not go on with an item
 abbrev pub LacksNext : Bundle → List Item → Item → Untold → Type 0
@@ -49,10 +48,11 @@ LacksNext b items i (untold.Ended (ending.Unfit step)) = IsUnfitNext b items i s
 LacksNext b items i (untold.Ended _) = ⊥
 
 -- After these items one more was taken, or why not.
-abbrev pub StoryTakes : Bundle → List Item → Item → Story → Result (Option Presented) Untold → Type 0
-StoryTakes b items i s (Ok None) = Tells b (items ++ i ∷ []) s
-StoryTakes b items i s (Ok (Some p)) = TellsBut b (items ++ i ∷ []) p s
-StoryTakes b items i s (Err why) = LacksNext b items i why
+abbrev pub StoryTakes :
+    Bundle → Option (List ℕ) → List Item → Item → Story → Result (Option Presented) Untold → Type 0
+StoryTakes b file items i s (Ok None) = Tells b file (items ++ i ∷ []) s
+StoryTakes b file items i s (Ok (Some p)) = TellsBut b file (items ++ i ∷ []) p s
+StoryTakes b file items i s (Err why) = LacksNext b items i why
 
 -- more was told, or there was no memory
 abbrev pub TellsOn : Result (Unit {0}) Untold → Type 0
@@ -77,7 +77,7 @@ pub record KeepsRest (old new : Story) : Type 0 where
 
 abbrev pub GrowsBy : Outcome → List ℕ → List ℕ → Type 0
 GrowsBy Quiet old new = new ≡ old
-GrowsBy (Violated v) old new = (text : List ℕ) × (new ≡ old ++ text) × IsToldBy v text
+GrowsBy (Violated v) old new = (text : List ℕ) × (new ≡ old ++ text) × IsToldAtOnce v text
 GrowsBy Uncaused old new = ⊥
 
 pub record GrewBy (o : Outcome) (old new : Story) : Type 0 where
@@ -86,13 +86,12 @@ pub record GrewBy (o : Outcome) (old new : Story) : Type 0 where
 
 -- a text tells a violation, which is no refused resume
 abbrev pub IsEndTold : Violation → List ℕ → Type 0
-IsEndTold (ByPage step hart ctx p) text = IsToldBy (ByPage step hart ctx p) text
-IsEndTold (ByResume asking why) text = IsToldBy (ByResume asking why) text
 IsEndTold (OfNone step asked ended) text = ⊥
+IsEndTold v text = IsToldAtOnce v text
 
 -- It is a page, which is told later.
 pub record OwesPage (o : Outcome) (p : Presented) (old new : Story) : Type 0 where
-  pub page : o ≡ Violated (ByPage p.step p.hart p.ctx (Some p.found))
+  pub page : o ≡ Violated (ByPage p)
   pub text : new.text ≡ old.text
   pub refused : new.refused ≡ old.refused
 
@@ -104,12 +103,11 @@ AddsOutcome o step old new (Err untold.NoMemory) = Unit {0}
 AddsOutcome o step old new (Err (untold.Ended (ending.Unfit at))) = (at ≡ step) × (o ≡ Uncaused)
 AddsOutcome o step old new (Err (untold.Ended _)) = ⊥
 
--- The item was noted in this step, with which the kernel alone is at this place, and this was presented for the last
--- question.
-pub record NotesItem (b : Bundle) (place : KernelPlace) (p : Option PresentedPage) (i : Item) (step : ℕ) (old new : Story)
+-- The item was noted in this step, and this was presented for a question that it stopped.
+pub record NotesItem (b : Bundle) (asked : Due) (i : Item) (step : ℕ) (old new : Story)
     (r : Result (Option Presented) Untold) : Type 0 where
   pub watch : new.watch ≡ old.watch
-  pub due : due_of new.target ≡ due_after place p (due_of old.target) i
+  pub due : due_of new.target ≡ due_after asked (due_of old.target) i
   pub ended : new.ended ≡ ended_after old.ended step i
   pub adds : AddsOutcome (outcome_of b step old.ended (due_of old.target) (notes_of old.watch).asked i) step old new r
 

@@ -1,5 +1,5 @@
 -- What is told of a run: what was presented in each step by which a program ended, and each violation.
-use Rattle.std.specs.Prelude.{ℕ, ◌≡◌, ◌⊎◌, ◌+◌, ◌-◌, ◌^◌, ◌==◌, min, List, [], ◌∷◌, ◌++◌, slice_index_or, slice_set, Option, Some, None, is_some, if◌then◌else◌}
+use Rattle.std.specs.Prelude.{ℕ, ◌≡◌, ◌⊎◌, ◌+◌, ◌-◌, ◌^◌, ◌==◌, min, List, [], ◌∷◌, ◌++◌, length, slice_index_or, slice_set, Option, Some, None, is_some, if◌then◌else◌}
 use Rattle.std.specs.List.{count_by, fold}
 use Rattle.cloak_base.specs.declared.names.HartId.{HartId}
 use Rattle.cloak_model.specs.declared.image.Bundle.{Bundle}
@@ -10,30 +10,33 @@ use Rattle.cloak_model.specs.KernelAlone as model
 use Rattle.cloak_model.specs.KernelAlone.{kernel_alone, kernel_hart}
 use Rattle.replayed_run.specs.Alone.{FitsAlone, IsUnfitAlone, has_program, standing_told, words_of}
 use Rattle.replayed_run.specs.ContextsTold.{table_of, told_of}
-use Rattle.replayed_run.specs.Leading.{presented_by}
 use Rattle.replayed_run.specs.Noted.{noted_in}
-use Rattle.replayed_run.specs.Questions.{questioned_in}
 use Rattle.replayed_run.specs.declared.contexts.FirstTable.{FirstTable}
-use Rattle.replayed_run.specs.declared.frames.PresentedPage.{PresentedPage}
 use Rattle.replayed_run.specs.declared.machines.HartWords.{HartWords}
 use Rattle.replayed_run.specs.declared.machines.StandingContext.{StandingContext}
 use Rattle.replayed_run.specs.declared.notes.Asking.{Asking}
 use Rattle.replayed_run.specs.declared.notes.Notes.{Notes}
+use Rattle.run_story.specs.Presenting.{presented_in}
 use Rattle.run_story.specs.declared.presented.AskedResume.{AskedResume}
+use Rattle.run_story.specs.declared.presented.Presented.{Presented}
 use Rattle.run_story.specs.declared.presented.Refused.{Refused}
 use Rattle.run_story.specs.declared.presented.Refused.TheVariants as refused
 
 -- What was presented in the step that is open, by which a program may end.
 pub data Due : Type 0 where
   Nothing : Due
-  -- for a question of the context that this hart runs, this page in this frame, if the question was for a page
-  Question : ℕ → ℕ → Option PresentedPage → Due
+  -- for a question of this context, of which no more is known
+  Question : ℕ → Due
+  -- for a question for a page
+  Page : Presented → Due
   -- a context, to be resumed, and why it is not
   Resume : AskedResume → Refused → Due
 
 pub data Violation : Type 0 where
-  -- in this step, on this hart, this context asked for a page, which was presented so, and its program ended
-  ByPage : ℕ → ℕ → ℕ → Option PresentedPage → Violation
+  -- in this step a program ended by a question of this context, of which no more is known
+  ByQuestion : ℕ → ℕ → Violation
+  -- a program ended by the page that was presented so
+  ByPage : Presented → Violation
   -- a program ended by the context that was to be resumed
   ByResume : AskedResume → Refused → Violation
   -- in this step a context was asked for whose program is not there, or ended in that step
@@ -93,7 +96,8 @@ resume_due b items n d hart w =
 
 -- a page, of a question of this program
 abbrev pub own_due : ℕ → Due → Due
-own_due d (Question hart ctx p) = if domain_of ctx == d then Question hart ctx p else Nothing
+own_due d (Question ctx) = if domain_of ctx == d then Question ctx else Nothing
+own_due d (Page p) = if domain_of p.ctx == d then Page p else Nothing
 own_due d (Resume asking why) = Nothing
 own_due d Nothing = Nothing
 
@@ -110,31 +114,37 @@ abbrev pub due_met : Bundle → List Item → Notes → Due → Item → Due
 due_met b items n due (item.Ended d) = due_at b items n due d (kernel_alone b.kernel items).place
 due_met b items n due _ = due
 
--- A question was stopped, for which this was presented.
-abbrev pub question_due : model.KernelPlace → Option PresentedPage → Due
-question_due (model.Inside hart ctx) p = Question hart ctx p
-question_due (model.Outside hart) p = Nothing
-question_due model.Between p = Nothing
-question_due model.Left p = Nothing
+-- A question of a context was stopped, and this is known of the page that was presented for it.
+abbrev pub page_due : ℕ → Option Presented → Due
+page_due ctx None = Question ctx
+page_due ctx (Some p) = Page p
 
--- What was presented for the last question of these items.
-abbrev pub presented_in : Bundle → List Item → Option PresentedPage
-presented_in b items = presented_by (kernel_alone b.kernel items) (questioned_in b items).questions.last
+-- it was one of the context that runs
+abbrev pub question_due : model.KernelPlace → (ℕ → ℕ → Option Presented) → Due
+question_due (model.Inside hart ctx) presented = page_due ctx (presented hart ctx)
+question_due (model.Outside hart) presented = Nothing
+question_due model.Between presented = Nothing
+question_due model.Left presented = Nothing
 
--- What is presented after an item, with which the kernel alone is at this place and this was presented for the last
--- question, if this was met with it.
-abbrev pub due_after : model.KernelPlace → Option PresentedPage → Due → Item → Due
-due_after place p due (item.Stopped d) = question_due place p
-due_after place p due (item.Step number) = Nothing
-due_after place p due (item.Close steps) = Nothing
-due_after place p due _ = due
+-- What was presented for the last question of these items, before which there were so many.
+abbrev pub question_in : Bundle → List Item → ℕ → Due
+question_in b items before =
+    question_due (kernel_alone b.kernel items).place (λ hart ctx. presented_in b items before hart ctx)
+
+-- What is presented after an item, if this was presented for a question that it stopped, and this was met with it.
+abbrev pub due_after : Due → Due → Item → Due
+due_after asked due (item.Stopped d) = asked
+due_after asked due (item.Step number) = Nothing
+due_after asked due (item.Close steps) = Nothing
+due_after asked due _ = due
 
 -- What is told.
 
 -- a program ended; if by a resume, it is told as the step ends
 abbrev pub end_outcome : ℕ → Due → Outcome
 end_outcome step Nothing = Uncaused
-end_outcome step (Question hart ctx p) = Violated (ByPage step hart ctx p)
+end_outcome step (Question ctx) = Violated (ByQuestion step ctx)
+end_outcome step (Page p) = Violated (ByPage p)
 end_outcome step (Resume asking why) = Quiet
 
 -- a context was asked for, and no program ended by that
@@ -156,7 +166,8 @@ resume_outcome asking why (Some asked) =
 -- a step ended, in which this context was asked for
 abbrev pub step_outcome : Bundle → ℕ → List (Option ℕ) → Due → Option Asking → Outcome
 step_outcome b step ended Nothing asked = asked_outcome b step ended asked
-step_outcome b step ended (Question hart ctx p) asked = asked_outcome b step ended asked
+step_outcome b step ended (Question ctx) asked = asked_outcome b step ended asked
+step_outcome b step ended (Page p) asked = asked_outcome b step ended asked
 step_outcome b step ended (Resume asking why) asked = resume_outcome asking why asked
 
 -- what an item tells in this step, if this was met with it, and this context was asked for as the step ended
@@ -179,7 +190,8 @@ violations_after violations Uncaused = violations
 
 abbrev pub refused_after : ℕ → Outcome → ℕ
 refused_after refused (Violated (OfNone step asked ended)) = min (refused + 1) (2 ^ 64 - 1)
-refused_after refused (Violated (ByPage step hart ctx p)) = refused
+refused_after refused (Violated (ByQuestion step ctx)) = refused
+refused_after refused (Violated (ByPage p)) = refused
 refused_after refused (Violated (ByResume asking why)) = refused
 refused_after refused Quiet = refused
 refused_after refused Uncaused = refused
@@ -206,7 +218,7 @@ told_next b items t i =
     let step = (noted_in b items).notes.step in
     let met = due_met b items (noted_in b items).notes t.due i in
     let now = items ++ i ∷ [] in
-    told_with t now step (due_after (kernel_alone b.kernel now).place (presented_in b now) met i) (ended_after t.ended step i)
+    told_with t now step (due_after (question_in b now (length items)) met i) (ended_after t.ended step i)
     (outcome_of b step t.ended met (noted_in b now).notes.asked i)
 
 abbrev pub told_more : Bundle → Told → Item → Told

@@ -1,12 +1,16 @@
 //! The command `explain`.
-ghost use Rattle.std.specs.Prelude.{◌≡◌, ℕ, List, Option};
+ghost use Rattle.std.specs.Prelude.{◌≡◌, ◌≢◌, ◌<◌, ◌++◌, [], ◌∷◌, ℕ, List, Option, Some, IfOk, length};
 ghost use Rattle.io_traits.specs.Told.{SameFiles};
 ghost use Rattle.command_parts.specs.Outside.{outside, output};
 ghost use Rattle.cloak_model.specs.Bundle.{IsInGrammar};
 ghost use Rattle.cloak_model.specs.Record.{IsItem};
 ghost use Rattle.cloak_model.specs.declared.image.Bundle.{Bundle};
 ghost use Rattle.cloak_model.specs.declared.item.Item.{Item};
-ghost use Rattle.run_story.specs.Answering.{EndsAfter, ExplainAnswers, ShowsStory, ShowsUntold, TellsDeeds, TellsItem, TellsPage, TellsStory};
+ghost use Rattle.read_back.specs.Reading.{ReadsAs};
+ghost use Rattle.run_story.specs.Answering.{BeginsSo, EndsAfter, ExplainAnswers, ShowsStory, ShowsUntold, TellsDeeds, TellsItem, TellsPage, TellsStory};
+ghost use Rattle.replayed_run.specs.Alone.{FitsAlone};
+ghost use Rattle.replayed_run.specs.Watching.{Watches};
+ghost use Rattle.run_story.specs.Gathering.{GathersAgain};
 ghost use Rattle.run_story.specs.Telling.{Tells, TellsBut, story_text};
 
 use crate::deeds::Deeds;
@@ -14,7 +18,6 @@ use crate::presented::Presented;
 use crate::story::Story;
 use crate::telling::{PageStory, Passage};
 use crate::untold::Untold;
-use cloak_base::NoMemory;
 use cloak_model::{Bundle, Item};
 use command_parts::{Refusal, Status, read_bundle, refuse};
 use io_traits::{Shelf, Sink, put_all};
@@ -24,30 +27,20 @@ use record_text::next_item;
 use replayed_run::Watch;
 use std::alloc::Global;
 
-/// Takes an item, and notes what it shows of a page and what the kernel's step did that it ends. Returns that there is more to
-/// note.
-fn note_item(deeds: &mut Deeds, watch: &mut Watch, item: &Item) -> Result<bool, NoMemory> {
-    let before = match item {
-        Item::Step { .. } => deeds.before(watch),
-        _ => None,
-    };
-    match watch.take(item) {
-        Ok(Some(showing)) => deeds.note_showing(showing)?,
-        Ok(None) => {}
-        Err(_) => return Ok(false),
+/// What was gathered, as reading a record once more ended so before the question.
+fn gathered(deeds: Deeds, ended: Ending) -> Result<Deeds, Untold>
+    ensures counts { (before now : ℕ) → ReadsAs before now (Some ended) → TellsDeeds before now result }
+    ensures same { IfOk result (λ given. (given ≡ deeds) × (ended ≢ Ending.Unread)) }
+{
+    match ended {
+        Ending::Unread => Err(Untold::Ended(Ending::Unread)),
+        Ending::Whole => Ok(deeds),
+        Ending::Fault(_) => Ok(deeds),
+        Ending::Unfit(_) => Ok(deeds),
     }
-    if let Some(before) = before {
-        deeds.after(watch, &before)?;
-    }
-    Ok(true)
 }
 
-/// The item is the question that was stopped by this page.
-fn is_stopped(watch: &Watch, presented: &Presented, item: &Item) -> bool {
-    matches!(item, Item::Stopped { .. }) && watch.step() == presented.step
-}
-
-/// Reads a record once more up to a violation, and gathers what was done to the page of it.
+/// Reads a record once more up to the question of a violation, and gathers what was done to the page of it.
 fn deeds_of<S: Shelf>(
     alloc: Global,
     watch: &mut Watch,
@@ -56,7 +49,10 @@ fn deeds_of<S: Shelf>(
     shelf: &mut S,
 ) -> Result<Deeds, Untold>
     requires { S.is_settled shelf.old }
-    ensures tells { TellsDeeds (S.reading_faults shelf.old) (S.reading_faults shelf.new) result }
+    ensures counts { TellsDeeds (S.reading_faults shelf.old) (S.reading_faults shelf.new) result }
+    ensures gathers { (b : Bundle) (items : List Item) → Watches b [] watch.old → FitsAlone b items →
+        BeginsSo (S.held shelf.old name.now) items → presented.now.before < length items →
+        IfOk result (GathersAgain b (S.held shelf.old name.now) presented.now) }
     ensures files { SameFiles (S.held shelf.old) (S.held shelf.new) }
     ensures writing { S.writing_faults shelf.new ≡ S.writing_faults shelf.old }
     ensures settled { S.is_settled shelf.new }
@@ -64,23 +60,18 @@ fn deeds_of<S: Shelf>(
     let mut deeds = Deeds::new(alloc, *presented);
     let mut reader = Reader::open(name);
     let mut kept = KeptItems::new();
-    loop {
+    for _ in 0..presented.before {
         let item = match next_item(&mut reader, shelf, &mut kept) {
             Ok(tag) => kept.item(tag),
-            Err(Ending::Unread) => return Err(Untold::Ended(Ending::Unread)),
-            Err(Ending::Whole) => return Ok(deeds),
-            Err(Ending::Fault(_)) => return Ok(deeds),
-            Err(Ending::Unfit(_)) => return Ok(deeds),
+            Err(ended) => return gathered(deeds, ended),
         };
-        if is_stopped(watch, presented, item) {
-            return Ok(deeds);
-        }
-        match note_item(&mut deeds, watch, item) {
+        match deeds.take(watch, item) {
             Ok(true) => {}
             Ok(false) => return Ok(deeds),
             Err(_) => return Err(Untold::NoMemory),
         }
     }
+    Ok(deeds)
 }
 
 /// Tells of a page that was presented, with what was done to it before.
@@ -94,8 +85,10 @@ fn tell_page<S: Shelf>(
 ) -> Result<(), Untold>
     requires settled { S.is_settled shelf.old }
     requires bundle { IsInGrammar bundle.now }
-    ensures tells { (b : Bundle) (items : List Item) → TellsBut b items presented.now story.old →
-        TellsPage b items (S.reading_faults shelf.old) (S.reading_faults shelf.new) story.new result }
+    ensures tells { (items : List Item) → BeginsSo (S.held shelf.old name.now) items →
+        TellsBut bundle.now (S.held shelf.old name.now) items presented.now story.old →
+        TellsPage bundle.now (S.held shelf.old name.now) items (S.reading_faults shelf.old) (S.reading_faults shelf.new)
+        story.new result }
     ensures files { SameFiles (S.held shelf.old) (S.held shelf.new) }
     ensures writing { S.writing_faults shelf.new ≡ S.writing_faults shelf.old }
     ensures settled { S.is_settled shelf.new }
@@ -117,24 +110,28 @@ fn tell_page<S: Shelf>(
     story.tell(&Passage::Page(*presented, more))
 }
 
-/// Takes an item of a record, and tells the violation that it ends with.
+/// Takes an item of a record, before which there were so many, and tells the violation that it ends with.
 fn tell_item<S: Shelf>(
     alloc: Global,
     bundle: &Bundle,
     story: &mut Story,
     item: &Item,
+    before: u64,
     name: &str,
     shelf: &mut S,
 ) -> Result<(), Untold>
     requires settled { S.is_settled shelf.old }
     requires bundle { IsInGrammar bundle.now }
-    ensures tells { (items : List Item) → IsItem item.now → Tells bundle.now items story.old →
-        TellsItem bundle.now items item.now (S.reading_faults shelf.old) (S.reading_faults shelf.new) story.new result }
+    ensures tells { (items : List Item) → IsItem item.now → length items ≡ before →
+        BeginsSo (S.held shelf.old name.now) (items ++ item.now ∷ []) →
+        Tells bundle.now (S.held shelf.old name.now) items story.old →
+        TellsItem bundle.now (S.held shelf.old name.now) items item.now (S.reading_faults shelf.old)
+        (S.reading_faults shelf.new) story.new result }
     ensures files { SameFiles (S.held shelf.old) (S.held shelf.new) }
     ensures writing { S.writing_faults shelf.new ≡ S.writing_faults shelf.old }
     ensures settled { S.is_settled shelf.new }
 {
-    match story.take(item) {
+    match story.take(item, before) {
         Ok(Some(presented)) => tell_page(alloc, bundle, story, &presented, name, shelf),
         Ok(None) => Ok(()),
         Err(untold) => Err(untold),
@@ -143,7 +140,7 @@ fn tell_item<S: Shelf>(
 
 /// The story of a record of which reading ended so.
 fn told_whole(story: Story, ended: Ending) -> Result<Story, Untold>
-    ensures { (b : Bundle) (told : Option (List ℕ)) (items : List Item) (before now : ℕ) → Tells b items story →
+    ensures { (b : Bundle) (told : Option (List ℕ)) (items : List Item) (before now : ℕ) → Tells b told items story →
         EndsAfter told items before now ended → TellsStory b told before now result }
 {
     match ended {
@@ -173,15 +170,17 @@ fn tell<S: Shelf>(
     };
     let mut reader = Reader::open(name);
     let mut kept = KeptItems::new();
+    let mut taken: u64 = 0;
     loop {
         let item = match next_item(&mut reader, shelf, &mut kept) {
             Ok(tag) => kept.item(tag),
             Err(ended) => return told_whole(story, ended),
         };
-        match tell_item(alloc, bundle, &mut story, item, name, shelf) {
+        match tell_item(alloc, bundle, &mut story, item, taken, name, shelf) {
             Ok(()) => {}
             Err(untold) => return Err(untold),
         }
+        taken += 1;
     }
 }
 

@@ -1,8 +1,24 @@
 //! What was done to a page, and to the frames that it was shown and presented in, up to the violation.
+ghost use Rattle.std.specs.Prelude.{◌≡◌, ◌≤◌, ◌<◌, ◌++◌, [], ◌∷◌, ℕ, List, IfOk, IfSome, Some, None, slice_get};
+ghost use Rattle.cloak_base.specs.Pages as pages;
+ghost use Rattle.cloak_model.specs.KernelAlone.{kernel_alone};
+ghost use Rattle.cloak_model.specs.Parts.{KernelPart};
+ghost use Rattle.cloak_model.specs.Record.{IsItem};
+ghost use Rattle.cloak_model.specs.declared.image.Bundle.{Bundle};
+ghost use Rattle.cloak_model.specs.declared.item.Item.{Item};
+ghost use Rattle.replayed_run.specs.Leading as leading;
+ghost use Rattle.replayed_run.specs.Watching.{Watches, notes_of};
+ghost use Rattle.run_story.specs.Deeds as spec;
+ghost use Rattle.run_story.specs.Gathering.{Gathers, GathersNext, KeepsLast};
+ghost use Rattle.run_story.specs.Seeing.{HasRoom, KeepsDeeds, KeepsTarget, SeesAhead, SeesFrames, StandsAhead, ahead_events, change_more, ended_events, seen_bytes};
+ghost use Rattle.run_story.specs.declared.deeds.PageEvent.{PageEvent};
+ghost use Rattle.run_story.specs.declared.presented.Presented.{Presented};
 
 use crate::presented::Presented;
 use alone_views::KernelPlace;
 use cloak_base::{NoMemory, PageId};
+use cloak_model::Item;
+use host_calls::Hart;
 use replayed_run::{DiskCall, Showing, Watch, disk_call};
 use std::alloc::Global;
 
@@ -33,7 +49,7 @@ pub enum PageDeed {
     /// A hart stored to a frame.
     Stored {
         hart: usize,
-        frame: u32,
+        frame: usize,
         change: FrameChange,
     },
     /// The address leads to another frame than before, or to none.
@@ -57,7 +73,8 @@ const MOST: usize = 16;
 /// A frame of interest as the last step found it.
 #[derive(Drop)]
 struct SeenFrame {
-    frame: u32,
+    /// There was such a frame.
+    is_there: bool,
     bytes: [u8; 4096],
 }
 
@@ -77,72 +94,141 @@ pub struct Deeds {
     /// The frame in which the page was last shown.
     shown_in: SeenFrame,
     /// The frame that was presented, if it is another one.
-    presented_in: Option<SeenFrame>,
+    presented_in: SeenFrame,
     events: Vec<PageEvent>,
     /// How many earlier events were left out.
-    left_out: u32,
+    left_out: u64,
     /// Where the bytes that were found had last been shown, if they were.
     origin: Option<Showing>,
 }
 
+/// One byte more changed.
+fn changed(change: Option<FrameChange>, place: u32, was: u8, now: u8) -> FrameChange
+    requires count { IfSome change (λ c. c.count ≤ place) }
+    requires place { place < 4096 }
+    ensures { result ≡ change_more change place was now }
+{
+    match change {
+        None => FrameChange {
+            place,
+            was,
+            now,
+            count: 1,
+        },
+        Some(first) => FrameChange {
+            count: first.count + 1,
+            ..first
+        },
+    }
+}
+
 /// How new bytes differ from old ones.
-fn difference(old: &[u8; 4096], new: &[u8; 4096]) -> Option<FrameChange> {
+fn difference(old: &[u8; 4096], new: &[u8; 4096]) -> Option<FrameChange>
+    ensures { result ≡ spec.change_of old.now new.now }
+{
     let mut change: Option<FrameChange> = None;
-    for (place, (was, now)) in old.iter().zip(new.iter()).enumerate() {
-        if *was != *now {
-            change = Some(match change {
-                None => FrameChange {
-                    place: place.min(4095) as u32,
-                    was: *was,
-                    now: *now,
-                    count: 1,
-                },
-                Some(first) => FrameChange {
-                    count: first.count.saturating_add(1),
-                    ..first
-                },
-            });
+    for place in 0..4096 {
+        let (was, now) = (old[place as usize], new[place as usize]);
+        if was != now {
+            change = Some(changed(change, place, was, now));
         }
     }
     change
 }
 
-impl SeenFrame {
-    fn new(frame: u32) -> SeenFrame {
-        SeenFrame {
+/// What a step did to a frame that it changed. One that makes a host call on the disk moves a block.
+fn change_deed(ahead: &StepAhead, frame: usize, change: FrameChange) -> PageDeed
+    ensures { result ≡ spec.change_deed ahead.now.hart frame ahead.now.call change }
+{
+    let hart = ahead.hart;
+    match ahead.call {
+        Some(call) => PageDeed::Moved { hart, call },
+        None => PageDeed::Stored {
+            hart,
             frame,
+            change,
+        },
+    }
+}
+
+/// Both are one frame, or none.
+fn same_frame(one: Option<usize>, other: Option<usize>) -> bool
+    ensures { result ≡ spec.frame_eq one other }
+{
+    match one {
+        None => other.is_none(),
+        Some(one) => match other {
+            None => false,
+            Some(other) => one == other,
+        },
+    }
+}
+
+/// Both are one page.
+#[tactic(auto, unfolding(cloak_base::specs::Pages::same_page))]
+fn same_page(one: PageId, other: PageId) -> bool
+    ensures { result ≡ pages.same_page one other }
+{
+    one.domain == other.domain && one.resource == other.resource && one.page == other.page
+}
+
+/// The frame in which the page was last shown, or the one that was presented.
+fn frame_shown(presented: &Presented) -> usize
+    ensures { result ≡ spec.shown_in presented.now }
+{
+    match presented.showing {
+        Some(showing) => showing.frame as usize,
+        None => presented.found.frame,
+    }
+}
+
+impl SeenFrame {
+    /// None was seen.
+    fn new() -> SeenFrame {
+        SeenFrame {
+            is_there: false,
             bytes: [0; 4096],
         }
     }
 
-    /// The frame as it is before a step.
-    fn look(&mut self, watch: &Watch) {
-        if let Some(bytes) = watch.frames().get(self.frame as usize) {
-            self.bytes = *bytes;
+    /// A frame as it is before a step.
+    fn look(&mut self, watch: &Watch, frame: usize)
+        ensures { (b : Bundle) (items : List Item) → Watches b items watch.now →
+            seen_bytes self.new ≡ slice_get (kernel_alone b.kernel items).kernel.ram frame }
+    {
+        match watch.frames().get(frame) {
+            None => self.is_there = false,
+            Some(bytes) => {
+                self.is_there = true;
+                self.bytes = *bytes;
+            }
         }
     }
 
     /// What a step changed of it.
-    fn change(&self, watch: &Watch) -> Option<FrameChange> {
-        difference(&self.bytes, watch.frames().get(self.frame as usize)?)
+    fn change(&self, watch: &Watch, frame: usize) -> Option<FrameChange>
+        ensures { (b : Bundle) (items : List Item) → Watches b items watch.now → result
+            ≡ spec.change_between (seen_bytes self.now) (slice_get (kernel_alone b.kernel items).kernel.ram frame) }
+    {
+        if !self.is_there {
+            return None;
+        }
+        match watch.frames().get(frame) {
+            None => None,
+            Some(bytes) => difference(&self.bytes, bytes),
+        }
     }
 }
 
 impl Deeds {
     /// None yet.
-    pub fn new(alloc: Global, target: Presented) -> Deeds {
-        let shown_in = match target.showing {
-            Some(showing) => showing.frame,
-            None => target.frame,
-        };
+    pub fn new(alloc: Global, target: Presented) -> Deeds
+        ensures { (b : Bundle) → Gathers b target [] result }
+    {
         Deeds {
             target,
-            shown_in: SeenFrame::new(shown_in),
-            presented_in: if shown_in == target.frame {
-                None
-            } else {
-                Some(SeenFrame::new(target.frame))
-            },
+            shown_in: SeenFrame::new(),
+            presented_in: SeenFrame::new(),
             events: Vec::new(alloc),
             left_out: 0,
             origin: None,
@@ -150,40 +236,64 @@ impl Deeds {
     }
 
     /// The last events, in order.
-    pub fn events(&self) -> &[PageEvent] {
+    pub fn events(&self) -> &[PageEvent]
+        ensures { result.now ≡ self.now.events.items }
+    {
         self.events.as_slice()
     }
 
     /// How many earlier events were left out.
-    pub fn left_out(&self) -> u32 {
+    pub fn left_out(&self) -> u64
+        ensures { result ≡ self.now.left_out }
+    {
         self.left_out
     }
 
     /// Where the bytes that were found had last been shown, if they were.
-    pub fn origin(&self) -> Option<Showing> {
+    pub fn origin(&self) -> Option<Showing>
+        ensures { result ≡ self.now.origin }
+    {
         self.origin
     }
 
-    /// Keeps an event.
-    fn keep(&mut self, step: u32, deed: PageDeed) -> Result<(), NoMemory> {
+    /// Leaves out the earliest event, if there is no room for one more.
+    fn make_room(&mut self)
+        ensures room { (all : List PageEvent) → KeepsLast all self.old → HasRoom all self.new }
+        ensures same { KeepsTarget self.old self.new }
+        ensures origin { self.new.origin ≡ self.old.origin }
+    {
         if self.events.len() >= MOST {
             self.events.remove(0);
             self.left_out = self.left_out.saturating_add(1);
         }
+    }
+
+    /// Keeps an event.
+    fn keep(&mut self, step: u32, deed: PageDeed) -> Result<(), NoMemory>
+        ensures last { (all : List PageEvent) → KeepsLast all self.old →
+            IfOk result (λ done. KeepsLast (all ++ spec.event step deed ∷ []) self.new) }
+        ensures same { KeepsTarget self.old self.new }
+        ensures origin { self.new.origin ≡ self.old.origin }
+    {
+        self.make_room();
         self.events.push(PageEvent { step, deed })?;
         Ok(())
     }
 
     /// The frame is one of those that the page was shown or presented in.
-    fn is_of_interest(&self, frame: u32) -> bool {
-        frame == self.target.frame || frame == self.shown_in.frame
+    fn is_of_interest(&self, frame: usize) -> bool
+        ensures { result ≡ spec.is_of_interest self.now.target frame }
+    {
+        frame == self.target.found.frame || frame == frame_shown(&self.target)
     }
 
     /// Nothing more was shown of the page in question.
-    fn is_last(&self, showing: &Showing) -> bool {
+    fn is_last(&self, showing: &Showing) -> bool
+        ensures { result ≡ spec.is_last self.now.target.showing showing.now }
+    {
         match self.target.showing {
             Some(last) => {
-                last.page == showing.page
+                same_page(last.page, showing.page)
                     && last.frame == showing.frame
                     && last.step == showing.step
             }
@@ -191,28 +301,70 @@ impl Deeds {
         }
     }
 
-    /// A page is shown.
-    pub fn note_showing(&mut self, showing: Showing) -> Result<(), NoMemory> {
+    /// Bytes are shown: those that were found later, or others.
+    fn note_origin(&mut self, showing: Showing)
+        ensures { self.new ≡ record self.old {
+          origin = spec.origin_after self.old.target self.old.origin (Some showing);
+        } }
+    {
+        if showing.digest == self.target.digest {
+            self.origin = Some(showing);
+        }
+    }
+
+    /// A page is shown. It is shown again later, or is another one.
+    fn note_shown(&mut self, showing: Showing) -> Result<(), NoMemory>
+        ensures last { (all : List PageEvent) → KeepsLast all self.old →
+            IfOk result (λ done. KeepsLast (all ++ spec.shown_events self.old.target showing) self.new) }
+        ensures same { KeepsTarget self.old self.new }
+        ensures origin { self.new.origin ≡ self.old.origin }
+    {
         let Showing {
             page,
             frame,
             step,
-            digest,
+            ..
         } = showing;
-        if digest == self.target.digest {
-            self.origin = Some(showing);
+        if same_page(page, self.target.found.page) || self.is_of_interest(frame as usize) {
+            self.keep(step, PageDeed::Shown { page, frame })
+        } else {
+            Ok(())
         }
+    }
+
+    /// A page is shown.
+    fn note_page(&mut self, showing: Showing) -> Result<(), NoMemory>
+        ensures last { (all : List PageEvent) → KeepsLast all self.old →
+            IfOk result (λ done. KeepsLast (all ++ spec.showing_events self.old.target (Some showing)) self.new) }
+        ensures same { KeepsTarget self.old self.new }
+        ensures origin { self.new.origin ≡ spec.origin_after self.old.target self.old.origin (Some showing) }
+    {
+        self.note_origin(showing);
         if self.is_last(&showing) {
-            return self.keep(step, PageDeed::LastShown(showing));
+            self.keep(showing.step, PageDeed::LastShown(showing))
+        } else {
+            self.note_shown(showing)
         }
-        if page == self.target.found.page || self.is_of_interest(frame) {
-            return self.keep(step, PageDeed::Shown { page, frame });
+    }
+
+    /// What an item shows of a page.
+    fn note_showing(&mut self, showing: Option<Showing>) -> Result<(), NoMemory>
+        ensures last { (all : List PageEvent) → KeepsLast all self.old →
+            IfOk result (λ done. KeepsLast (all ++ spec.showing_events self.old.target showing) self.new) }
+        ensures same { KeepsTarget self.old self.new }
+        ensures origin { self.new.origin ≡ spec.origin_after self.old.target self.old.origin showing }
+    {
+        match showing {
+            None => Ok(()),
+            Some(showing) => self.note_page(showing),
         }
-        Ok(())
     }
 
     /// Where the address leads.
-    fn leads(&self, watch: &Watch) -> Option<usize> {
+    fn leads(&self, watch: &Watch) -> Option<usize>
+        ensures { (b : Bundle) (items : List Item) → Watches b items watch.now →
+            result ≡ spec.leads_in self.now.target (kernel_alone b.kernel items).kernel.ram }
+    {
         watch.frame_for(
             self.target.tables,
             self.target.found.address,
@@ -220,74 +372,248 @@ impl Deeds {
         )
     }
 
-    /// What the open step of the kernel is about to find, if one is open.
-    pub fn before(&mut self, watch: &Watch) -> Option<StepAhead> {
-        let KernelPlace::Outside { hart } = watch.place() else {
-            return None;
-        };
-        let made = watch.hart_at(hart)?;
-        self.shown_in.look(watch);
-        if let Some(seen) = &mut self.presented_in {
-            seen.look(watch);
+    /// Sees the frames of interest before a step.
+    fn look(&mut self, watch: &Watch)
+        ensures frames { (b : Bundle) (items : List Item) → Watches b items watch.now →
+            SeesFrames (kernel_alone b.kernel items).kernel.ram self.new }
+        ensures same { KeepsDeeds self.old self.new }
+    {
+        let shown = frame_shown(&self.target);
+        let presented = self.target.found.frame;
+        self.shown_in.look(watch, shown);
+        if shown != presented {
+            self.presented_in.look(watch, presented);
         }
-        Some(StepAhead {
+    }
+
+    /// What this hart is about to find and to do.
+    fn step_ahead(&self, watch: &Watch, hart: usize, now: &Hart) -> StepAhead
+        ensures step { result.step ≡ (notes_of watch.now).step }
+        ensures hart { result.hart ≡ hart }
+        ensures call { (b : Bundle) (items : List Item) → Watches b items watch.now →
+            result.call ≡ leading.disk_call (kernel_alone b.kernel items).kernel.ram now.now }
+        ensures leads { (b : Bundle) (items : List Item) → Watches b items watch.now →
+            result.leads ≡ spec.leads_in self.now.target (kernel_alone b.kernel items).kernel.ram }
+    {
+        StepAhead {
             step: watch.step(),
             hart,
-            call: disk_call(watch.frames(), made),
+            call: disk_call(watch.frames(), now),
             leads: self.leads(watch),
-        })
+        }
+    }
+
+    /// What the hart of a number is about to find and to do, if it is there.
+    fn hart_ahead(&mut self, watch: &Watch, hart: usize) -> Option<StepAhead>
+        ensures ahead { (b : Bundle) (items : List Item) → Watches b items watch.now →
+            StandsAhead (spec.hart_events self.new.target (notes_of watch.now).step hart
+            (slice_get (kernel_alone b.kernel items).kernel.harts hart) (kernel_alone b.kernel items).kernel)
+            (kernel_alone b.kernel items).kernel self.new result }
+        ensures same { KeepsDeeds self.old self.new }
+    {
+        match watch.hart_at(hart) {
+            None => None,
+            Some(now) => {
+                self.look(watch);
+                Some(self.step_ahead(watch, hart, now))
+            }
+        }
+    }
+
+    /// What the open step of the kernel is about to find and to do, if one is open.
+    fn open_ahead(&mut self, watch: &Watch) -> Option<StepAhead>
+        ensures ahead { (b : Bundle) (items : List Item) → Watches b items watch.now →
+            StandsAhead (spec.made_events self.new.target (notes_of watch.now).step (kernel_alone b.kernel items).place
+            (kernel_alone b.kernel items).kernel) (kernel_alone b.kernel items).kernel self.new result }
+        ensures same { KeepsDeeds self.old self.new }
+    {
+        match watch.place() {
+            KernelPlace::Outside { hart } => self.hart_ahead(watch, hart),
+            KernelPlace::Between => None,
+            KernelPlace::Inside { .. } => None,
+            KernelPlace::Left => None,
+        }
+    }
+
+    /// What the step is about to find and to do that this item ends.
+    fn ahead(&mut self, watch: &Watch, item: &Item) -> Option<StepAhead>
+        ensures ahead { (b : Bundle) (items : List Item) → Watches b items watch.now →
+            StandsAhead (ended_events b self.new.target items item.now) (kernel_alone b.kernel items).kernel self.new
+            result }
+        ensures same { KeepsDeeds self.old self.new }
+    {
+        match item {
+            Item::Step { .. } => self.open_ahead(watch),
+            Item::Cipher { .. }
+            | Item::Put { .. }
+            | Item::Leave(_)
+            | Item::Close { .. }
+            | Item::End
+            | Item::Ok { .. }
+            | Item::Absent { .. }
+            | Item::Word { .. }
+            | Item::Timer { .. }
+            | Item::Resume { .. }
+            | Item::Stopped { .. }
+            | Item::Ended { .. } => None,
+        }
     }
 
     /// What a step changed of a frame.
     fn note_change(
         &mut self,
-        before: &StepAhead,
-        frame: u32,
-        change: FrameChange,
-    ) -> Result<(), NoMemory> {
-        let hart = before.hart;
-        let deed = match before.call {
-            Some(call) => PageDeed::Moved { hart, call },
-            None => PageDeed::Stored {
-                hart,
-                frame,
-                change,
-            },
-        };
-        self.keep(before.step, deed)
+        ahead: &StepAhead,
+        frame: usize,
+        change: Option<FrameChange>,
+    ) -> Result<(), NoMemory>
+        ensures last { (all : List PageEvent) → KeepsLast all self.old → IfOk result (λ done. KeepsLast
+            (all ++ spec.change_events ahead.now.step ahead.now.hart ahead.now.call frame change) self.new) }
+        ensures same { KeepsTarget self.old self.new }
+        ensures origin { self.new.origin ≡ self.old.origin }
+    {
+        match change {
+            None => Ok(()),
+            Some(change) => {
+                let deed = change_deed(ahead, frame, change);
+                self.keep(ahead.step, deed)
+            }
+        }
     }
 
-    /// A frame of interest that a step wrote to the disk. A host call that was done answers 0.
-    fn note_writing(&mut self, watch: &Watch, before: &StepAhead) -> Result<(), NoMemory> {
-        let hart = before.hart;
-        let (Some(call), Some(made)) = (before.call, watch.hart_at(hart)) else {
-            return Ok(());
-        };
+    /// A hart called for this frame to be written to the disk. A host call that was done answers 0.
+    fn note_written(
+        &mut self,
+        ahead: &StepAhead,
+        call: DiskCall,
+        made: &Hart,
+    ) -> Result<(), NoMemory>
+        ensures last { (all : List PageEvent) → KeepsLast all self.old → IfOk result (λ done. KeepsLast (all
+            ++ spec.writing_events self.old.target ahead.now.step ahead.now.hart (Some call) (Some made.now))
+            self.new) }
+        ensures same { KeepsTarget self.old self.new }
+        ensures origin { self.new.origin ≡ self.old.origin }
+    {
+        let hart = ahead.hart;
         if call.is_write && self.is_of_interest(call.frame) && made.regs.get(10) == 0 {
-            return self.keep(before.step, PageDeed::Moved { hart, call });
+            self.keep(ahead.step, PageDeed::Moved { hart, call })
+        } else {
+            Ok(())
         }
-        Ok(())
+    }
+
+    /// A frame of interest that a step wrote to the disk.
+    fn note_writing(&mut self, watch: &Watch, ahead: &StepAhead) -> Result<(), NoMemory>
+        ensures last { (b : Bundle) (items : List Item) (all : List PageEvent) → Watches b items watch.now →
+            KeepsLast all self.old → IfOk result (λ done. KeepsLast (all ++ spec.writing_events self.old.target
+            ahead.now.step ahead.now.hart ahead.now.call
+            (slice_get (kernel_alone b.kernel items).kernel.harts ahead.now.hart)) self.new) }
+        ensures same { KeepsTarget self.old self.new }
+        ensures origin { self.new.origin ≡ self.old.origin }
+    {
+        match ahead.call {
+            None => Ok(()),
+            Some(call) => match watch.hart_at(ahead.hart) {
+                None => Ok(()),
+                Some(made) => self.note_written(ahead, call, made),
+            },
+        }
+    }
+
+    /// What a step changed of the frame in which the page was last shown.
+    fn note_shown_in(&mut self, watch: &Watch, ahead: &StepAhead) -> Result<(), NoMemory>
+        ensures last { (b : Bundle) (items : List Item) (ram : List (List ℕ)) (all : List PageEvent) →
+            Watches b items watch.now → SeesFrames ram self.old → KeepsLast all self.old →
+            IfOk result (λ done. KeepsLast (all ++ spec.change_events ahead.now.step ahead.now.hart ahead.now.call
+            (spec.shown_in self.old.target) (spec.frame_change ram (kernel_alone b.kernel items).kernel.ram
+            (spec.shown_in self.old.target))) self.new) }
+        ensures same { KeepsTarget self.old self.new }
+        ensures origin { self.new.origin ≡ self.old.origin }
+    {
+        let frame = frame_shown(&self.target);
+        let change = self.shown_in.change(watch, frame);
+        self.note_change(ahead, frame, change)
+    }
+
+    /// What a step changed of the frame that was presented, if it is another one.
+    fn note_presented(&mut self, watch: &Watch, ahead: &StepAhead) -> Result<(), NoMemory>
+        ensures last { (b : Bundle) (items : List Item) (ram : List (List ℕ)) (all : List PageEvent) →
+            Watches b items watch.now → SeesFrames ram self.old → KeepsLast all self.old →
+            IfOk result (λ done. KeepsLast (all ++ spec.presented_events self.old.target ahead.now.step ahead.now.hart
+            ahead.now.call ram (kernel_alone b.kernel items).kernel.ram) self.new) }
+        ensures same { KeepsTarget self.old self.new }
+        ensures origin { self.new.origin ≡ self.old.origin }
+    {
+        let frame = self.target.found.frame;
+        if frame_shown(&self.target) == frame {
+            Ok(())
+        } else {
+            let change = self.presented_in.change(watch, frame);
+            self.note_change(ahead, frame, change)
+        }
+    }
+
+    /// Where the address leads after a step.
+    fn note_leads(&mut self, watch: &Watch, ahead: &StepAhead) -> Result<(), NoMemory>
+        ensures last { (b : Bundle) (items : List Item) (all : List PageEvent) → Watches b items watch.now →
+            KeepsLast all self.old → IfOk result (λ done. KeepsLast (all ++ spec.leading_events self.old.target
+            ahead.now.step ahead.now.leads (spec.leads_in self.old.target (kernel_alone b.kernel items).kernel.ram))
+            self.new) }
+        ensures same { KeepsTarget self.old self.new }
+        ensures origin { self.new.origin ≡ self.old.origin }
+    {
+        let (from, to) = (ahead.leads, self.leads(watch));
+        if same_frame(from, to) {
+            Ok(())
+        } else {
+            let address = self.target.found.address;
+            self.keep(ahead.step, PageDeed::Leads { address, from, to })
+        }
     }
 
     /// What the kernel's step did, once it is made.
-    pub fn after(&mut self, watch: &Watch, before: &StepAhead) -> Result<(), NoMemory> {
-        self.note_writing(watch, before)?;
-        if let Some(change) = self.shown_in.change(watch) {
-            self.note_change(before, self.shown_in.frame, change)?;
+    fn note_made(&mut self, watch: &Watch, ahead: &StepAhead) -> Result<(), NoMemory>
+        ensures last { (b : Bundle) (items : List Item) (was : KernelPart) (all : List PageEvent) →
+            Watches b items watch.now → SeesAhead was.ram self.old (Some ahead.now) → KeepsLast all self.old →
+            IfOk result (λ done. KeepsLast (all ++ ahead_events self.old.target (Some ahead.now) was
+            (kernel_alone b.kernel items).kernel) self.new) }
+        ensures target { self.new.target ≡ self.old.target }
+        ensures origin { self.new.origin ≡ self.old.origin }
+    {
+        self.note_writing(watch, ahead)?;
+        self.note_shown_in(watch, ahead)?;
+        self.note_presented(watch, ahead)?;
+        self.note_leads(watch, ahead)
+    }
+
+    /// What the kernel's step did, if one was ahead.
+    fn note_step(&mut self, watch: &Watch, ahead: Option<StepAhead>) -> Result<(), NoMemory>
+        ensures last { (b : Bundle) (items : List Item) (was : KernelPart) (all : List PageEvent) →
+            Watches b items watch.now → SeesAhead was.ram self.old ahead → KeepsLast all self.old →
+            IfOk result (λ done. KeepsLast (all ++ ahead_events self.old.target ahead was
+            (kernel_alone b.kernel items).kernel) self.new) }
+        ensures target { self.new.target ≡ self.old.target }
+        ensures origin { self.new.origin ≡ self.old.origin }
+    {
+        match ahead {
+            None => Ok(()),
+            Some(ahead) => self.note_made(watch, &ahead),
         }
-        let presented = match &self.presented_in {
-            Some(seen) => seen.change(watch),
-            None => None,
-        };
-        if let Some(change) = presented {
-            self.note_change(before, self.target.frame, change)?;
+    }
+
+    /// Takes the next item, and notes what it shows of a page and what the kernel's step did that it ends. Returns
+    /// that it fits.
+    pub fn take(&mut self, watch: &mut Watch, item: &Item) -> Result<bool, NoMemory>
+        ensures { (b : Bundle) (p : Presented) (items : List Item) → IsItem item.now → Watches b items watch.old →
+            Gathers b p items self.old → GathersNext b p items item.now watch.new self.new result }
+    {
+        let ahead = self.ahead(watch, item);
+        match watch.take(item) {
+            Ok(showing) => {
+                self.note_showing(showing)?;
+                self.note_step(watch, ahead)?;
+                Ok(true)
+            }
+            Err(_) => Ok(false),
         }
-        let from = before.leads;
-        let to = self.leads(watch);
-        if from != to {
-            let address = self.target.found.address;
-            self.keep(before.step, PageDeed::Leads { address, from, to })?;
-        }
-        Ok(())
     }
 }

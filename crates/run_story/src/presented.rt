@@ -1,10 +1,11 @@
 //! What was presented as a violation was met.
-ghost use Rattle.std.specs.Prelude.{◌≡◌, IfSome, List, ℕ};
+ghost use Rattle.std.specs.Prelude.{◌≡◌, List, ℕ};
 ghost use Rattle.cloak_model.specs.KernelAlone.{kernel_alone, kernel_hart};
 ghost use Rattle.cloak_model.specs.declared.image.Bundle.{Bundle};
 ghost use Rattle.cloak_model.specs.declared.item.Item.{Item};
 ghost use Rattle.replayed_run.specs.Alone.{standing_told, words_of};
 ghost use Rattle.replayed_run.specs.Watching.{Watches, notes_of};
+ghost use Rattle.run_story.specs.Presenting as model;
 ghost use Rattle.run_story.specs.Told as spec;
 ghost use Rattle.run_story.specs.Telling.{due_of};
 
@@ -15,15 +16,26 @@ use replayed_run::{
 };
 use sha2::{Digest, Sha256};
 
-/// A page that a frame was presented for.
+/// A program's question that was stopped.
+#[derive(Clone, Copy)]
+pub struct StoppedQuestion {
+    pub step: u32,
+    pub hart: usize,
+    pub ctx: u32,
+    /// How many items the record has before the answer.
+    pub before: u64,
+}
+
+/// A page that a frame was presented for, as a question for it was stopped.
 #[derive(Clone, Copy)]
 pub struct Presented {
     pub step: u32,
     pub hart: usize,
     pub ctx: u32,
+    /// How many items the record has before the answer.
+    pub before: u64,
     pub found: PresentedPage,
     pub tables: Tables,
-    pub frame: u32,
     /// The digest of what the frame has.
     pub digest: [u8; 32],
     /// What was last shown of the page. Of a copy made by a fork nothing was.
@@ -54,62 +66,100 @@ pub enum Refused {
 #[derive(Clone, Copy)]
 pub enum Target {
     Nothing,
-    /// A page, of which no more is told, for a question of this context on this hart.
-    Question {
-        hart: usize,
-        ctx: u32,
-        found: Option<PresentedPage>,
-    },
+    /// A page, of which no more is known, for a question of this context.
+    Question { ctx: u32 },
     Page(Presented),
     Context(AskedResume, Refused),
 }
 
-/// The page of a program's question that was stopped, and the frame that was presented for it. Nothing is told if that frame
-/// has what was last shown of the page.
-fn presented_page(watch: &Watch, found: PresentedPage, hart: usize, ctx: u32) -> Option<Presented>
-    ensures hart { IfSome result (λ p. p.hart ≡ hart) }
-    ensures ctx { IfSome result (λ p. p.ctx ≡ ctx) }
-    ensures found { IfSome result (λ p. p.found ≡ found) }
+/// Bytes of this digest are what was last shown of a page.
+fn is_last_shown(digest: &[u8; 32], showing: Option<Showing>) -> bool
+    ensures { result ≡ model.is_last_shown digest.now showing }
 {
-    let digest = Sha256::digest(watch.frames().get(found.frame)?.as_slice());
-    let showing = watch.pages().shown(found.page);
-    if let Some(shown) = showing {
-        if shown.digest == digest {
-            return None;
-        }
+    match showing {
+        None => false,
+        Some(showing) => showing.digest == *digest,
     }
-    Some(Presented {
-        step: watch.step(),
+}
+
+/// What is known of a page that was presented under these tables, in a frame of these bytes.
+fn presented_as(
+    question: StoppedQuestion,
+    found: PresentedPage,
+    showing: Option<Showing>,
+    tables: Tables,
+    bytes: &[u8; 4096],
+) -> Option<Presented>
+    ensures { result ≡ model.presented_as question found showing tables bytes.now }
+{
+    let digest = Sha256::digest(bytes.as_slice());
+    if is_last_shown(&digest, showing) {
+        return None;
+    }
+    let StoppedQuestion {
+        step,
         hart,
         ctx,
+        before,
+    } = question;
+    Some(Presented {
+        step,
+        hart,
+        ctx,
+        before,
         found,
-        tables: watch.tables()?,
-        frame: found.frame.min(u32::MAX as usize) as u32,
+        tables,
         digest,
         showing,
     })
 }
 
-/// The question of a context that was stopped, for which this was presented.
-fn page_target(watch: &Watch, found: Option<PresentedPage>, hart: usize, ctx: u32) -> Target
-    ensures { due_of result ≡ spec.Question hart ctx found }
+/// What is known of a page that was presented for a question. No more is, if its frame has what was last shown of the page.
+fn presented_for(
+    watch: &Watch,
+    question: StoppedQuestion,
+    found: Option<PresentedPage>,
+) -> Option<Presented>
+    ensures { (b : Bundle) (items : List Item) → Watches b items watch.now →
+        result ≡ model.presented_for b items question found }
 {
-    match found {
-        None => Target::Question { hart, ctx, found },
-        Some(page) => match presented_page(watch, page, hart, ctx) {
-            Some(presented) => Target::Page(presented),
-            None => Target::Question { hart, ctx, found },
-        },
+    let found = found?;
+    let tables = watch.tables()?;
+    let bytes = watch.frames().get(found.frame)?;
+    presented_as(
+        question,
+        found,
+        watch.pages().shown(found.page),
+        tables,
+        bytes,
+    )
+}
+
+/// A page that was presented for a question of a context, if more is known of it.
+fn page_target(ctx: u32, presented: Option<Presented>) -> Target
+    ensures { due_of result ≡ spec.page_due ctx presented }
+{
+    match presented {
+        None => Target::Question { ctx },
+        Some(presented) => Target::Page(presented),
     }
 }
 
-/// What was presented as a program's question was stopped.
-pub fn question_target(watch: &Watch) -> Target
+/// What was presented as a program's question was stopped, before whose answer the record has so many items.
+pub fn question_target(watch: &Watch, before: u64) -> Target
     ensures { (b : Bundle) (items : List Item) → Watches b items watch.now →
-        due_of result ≡ spec.question_due (kernel_alone b.kernel items).place (spec.presented_in b items) }
+        due_of result ≡ spec.question_in b items before }
 {
     match watch.place() {
-        KernelPlace::Inside { hart, ctx } => page_target(watch, watch.presented(), hart, ctx),
+        KernelPlace::Inside { hart, ctx } => {
+            let question = StoppedQuestion {
+                step: watch.step(),
+                hart,
+                ctx,
+                before,
+            };
+            page_target(ctx, presented_for(watch, question, watch.presented()))
+        }
         KernelPlace::Outside { .. } => Target::Nothing,
         KernelPlace::Between => Target::Nothing,
         KernelPlace::Left => Target::Nothing,
@@ -187,7 +237,7 @@ fn own_target(target: Target, domain: u32) -> Target
                 Target::Nothing
             }
         }
-        Target::Question { ctx, .. } => {
+        Target::Question { ctx } => {
             if ctx / 8 == domain {
                 target
             } else {

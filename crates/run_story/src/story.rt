@@ -1,12 +1,11 @@
 //! The story of a run, as far as its items were taken.
-ghost use Rattle.std.specs.Prelude.{◌≡◌, ◌++◌, [], ◌∷◌, List, ℕ, Some, None, IfOk, is_some, slice_index_or, slice_set, string_bytes};
+ghost use Rattle.std.specs.Prelude.{◌≡◌, ◌++◌, [], ◌∷◌, List, ℕ, Option, Some, None, IfOk, length, is_some, slice_index_or, slice_set, string_bytes};
 ghost use Rattle.std.specs.List.{count_by};
 ghost use Rattle.std.specs.Fmt.{DisplaysOnOk};
 ghost use Rattle.cloak_model.specs.Bundle.{IsInGrammar};
 ghost use Rattle.cloak_model.specs.Record.{IsItem};
 ghost use Rattle.cloak_model.specs.declared.image.Bundle.{Bundle};
 ghost use Rattle.cloak_model.specs.declared.item.Item.{Item};
-ghost use Rattle.cloak_model.specs.KernelAlone.{kernel_alone};
 ghost use Rattle.replayed_run.specs.Watching.{Watches, notes_of};
 ghost use Rattle.run_story.specs.Passages.{no_violation, passage_text, summary, violations_counted};
 ghost use Rattle.run_story.specs.Telling.{AddsOutcome, IsEndTold, KeepsRest, KeepsStory, NotesItem, StoryTakes, Tells, TellsOn, due_of, story_text};
@@ -62,7 +61,7 @@ impl Story {
     /// The story of the run of a bundle before its first item.
     pub fn open(alloc: Global, bundle: &Bundle) -> Result<Story, NoMemory>
         requires { IsInGrammar bundle.now }
-        ensures { IfOk result (Tells bundle.now []) }
+        ensures { IfOk result (λ story. (told : Option (List ℕ)) → Tells bundle.now told [] story) }
     {
         Ok(Story {
             watch: Watch::open(alloc, bundle)?,
@@ -193,8 +192,8 @@ impl Story {
         match self.target {
             Target::Nothing => Err(unfit(step)),
             Target::Context(_, _) => Ok(None),
-            Target::Page(presented) => Ok(Some(Presented { step, ..presented })),
-            Target::Question { hart, ctx, found } => self.tell_end(&Passage::Question(step, ctx)),
+            Target::Page(presented) => Ok(Some(presented)),
+            Target::Question { ctx } => self.tell_end(&Passage::Question(step, ctx)),
         }
     }
 
@@ -224,14 +223,14 @@ impl Story {
         }
     }
 
-    /// Notes an item that the watch took in this step.
-    fn note(&mut self, item: &Item, step: u32) -> Result<Option<Presented>, Untold>
+    /// Notes an item that the watch took in this step, after so many others.
+    fn note(&mut self, item: &Item, step: u32, before: u64) -> Result<Option<Presented>, Untold>
         ensures { (b : Bundle) (items : List Item) → Watches b items self.old.watch →
-            NotesItem b (kernel_alone b.kernel items).place (spec.presented_in b items) item.now step self.old self.new result }
+            NotesItem b (spec.question_in b items before) item.now step self.old self.new result }
     {
         match item {
             Item::Stopped { .. } => {
-                self.target = question_target(&self.watch);
+                self.target = question_target(&self.watch, before);
                 Ok(None)
             }
             Item::Ended { domain } => self.note_ended(step, u32::from(*domain)),
@@ -249,16 +248,16 @@ impl Story {
         }
     }
 
-    /// Takes the next item, and tells the violation that it ends with. A page that was presented is returned: it is told with
-    /// what was done to it before.
-    pub fn take(&mut self, item: &Item) -> Result<Option<Presented>, Untold>
-        ensures { (b : Bundle) (items : List Item) → IsItem item.now → Tells b items self.old →
-            StoryTakes b items item.now self.new result }
+    /// Takes the next item, before which there were so many, and tells the violation that it ends with. A page that was
+    /// presented is returned: it is told with what was done to it before.
+    pub fn take(&mut self, item: &Item, before: u64) -> Result<Option<Presented>, Untold>
+        ensures { (b : Bundle) (told : Option (List ℕ)) (items : List Item) → IsItem item.now → length items ≡ before →
+            Tells b told items self.old → StoryTakes b told items item.now self.new result }
     {
         let step = self.watch.step();
         self.note_ending(item);
         match self.watch.take(item) {
-            Ok(_) => self.note(item, step),
+            Ok(_) => self.note(item, step, before),
             Err(at) => Err(unfit(at.step)),
         }
     }

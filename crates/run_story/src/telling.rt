@@ -3,8 +3,10 @@
 ghost use Rattle.std.specs.Prelude.{◌≡◌, Some};
 ghost use Rattle.std.specs.Fmt.{DisplaysOnOk};
 ghost use Rattle.std.specs.Str.{IsUtf8};
+ghost use Rattle.hex.specs.Hex.{encode_lower};
 ghost use Rattle.cloak_model.specs.Report.{hexadecimal};
 ghost use Rattle.run_story.specs.Passages as spec;
+ghost use Rattle.run_story.specs.declared.deeds.PageDeed.TheVariants as deed;
 
 use crate::deeds::{Deeds, FrameChange, PageDeed, PageEvent};
 use crate::presented::{AskedResume, Presented, Refused};
@@ -40,6 +42,10 @@ struct PageName(PageId);
 #[derive(Clone, Copy)]
 struct DigestText([u8; 32]);
 
+/// A byte in two hexadecimal digits.
+#[derive(Clone, Copy)]
+struct ByteText(u8);
+
 /// The step of an event, or the opening.
 #[derive(Clone, Copy)]
 struct StepName(u32);
@@ -53,30 +59,69 @@ struct FrameName(Option<usize>);
 struct CallName(DiskCall);
 
 impl fmt::Display for PageName {
+    ghost output = { λ p. Some (spec.page_name p.0) };
+
     fn fmt<W: fmt::Write>(&self, f: &mut fmt::Formatter<W>) -> fmt::Result {
         write_page_name(self.0, f)
     }
 }
 
+/// The hexadecimal digits of a digest.
+fn digest_digits(digest: [u8; 32]) -> [u8; 64]
+    ensures { result ≡ encode_lower digest }
+{
+    let mut digits = [0; 64];
+    let Ok(()) = hex::encode_to_slice(digest.as_slice(), &mut digits) else {
+        unreachable!();
+    };
+    digits
+}
+
 impl fmt::Display for DigestText {
+    ghost output = { λ d. Some (encode_lower d.0) };
+
     fn fmt<W: fmt::Write>(&self, f: &mut fmt::Formatter<W>) -> fmt::Result {
-        for byte in self.0 {
-            write!(f, "{byte:02x}")?;
-        }
-        Ok(())
+        let digits = digest_digits(self.0);
+        f.write_str(shown_text(&digits))
+    }
+}
+
+/// The hexadecimal digits of a byte.
+fn byte_digits(byte: u8) -> [u8; 2]
+    ensures { result ≡ spec.byte_text byte }
+{
+    let mut digits = [0; 2];
+    let Ok(()) = hex::encode_to_slice([byte].as_slice(), &mut digits) else {
+        unreachable!();
+    };
+    digits
+}
+
+impl fmt::Display for ByteText {
+    ghost output = { λ b. Some (spec.byte_text b.0) };
+
+    fn fmt<W: fmt::Write>(&self, f: &mut fmt::Formatter<W>) -> fmt::Result {
+        let digits = byte_digits(self.0);
+        f.write_str(shown_text(&digits))
     }
 }
 
 impl fmt::Display for StepName {
+    ghost output = { λ s. Some (spec.step_name s.0) };
+
     fn fmt<W: fmt::Write>(&self, f: &mut fmt::Formatter<W>) -> fmt::Result {
-        match self.0 {
-            0 => f.write_str("opening"),
-            step => write!(f, "step {step}"),
+        let step = self.0;
+        if step == 0 {
+            f.write_str("opening")
+        } else {
+            write!(f, "step {step}")
         }
     }
 }
 
 impl fmt::Display for FrameName {
+    ghost output = { λ n. Some (spec.frame_name n.0) };
+
     fn fmt<W: fmt::Write>(&self, f: &mut fmt::Formatter<W>) -> fmt::Result {
         match self.0 {
             Some(frame) => write!(f, "frame {frame}"),
@@ -86,6 +131,8 @@ impl fmt::Display for FrameName {
 }
 
 impl fmt::Display for CallName {
+    ghost output = { λ c. Some (spec.call_name c.0) };
+
     fn fmt<W: fmt::Write>(&self, f: &mut fmt::Formatter<W>) -> fmt::Result {
         let DiskCall { block, frame, .. } = self.0;
         if self.0.is_write {
@@ -96,57 +143,113 @@ impl fmt::Display for CallName {
     }
 }
 
+/// The first byte that a store changed.
+fn write_first_changed<W: fmt::Write>(change: FrameChange, f: &mut fmt::Formatter<W>) -> fmt::Result
+    ensures { DisplaysOnOk W.write_str_gives f.old result (Some (spec.first_changed change)) f.new }
+{
+    let place = change.place;
+    let (was, now) = (ByteText(change.was), ByteText(change.now));
+    write!(f, "byte {place} was {was} and became {now}")
+}
+
 impl fmt::Display for FrameChange {
+    ghost output = { λ c. Some (spec.change_text c) };
+
     fn fmt<W: fmt::Write>(&self, f: &mut fmt::Formatter<W>) -> fmt::Result {
-        let FrameChange {
-            place,
-            was,
-            now,
-            count,
-        } = *self;
-        write!(f, "byte {place} was {was:02x} and became {now:02x}")?;
+        let count = self.count;
         if count == 1 {
-            return Ok(());
+            write_first_changed(*self, f)
+        } else {
+            write_first_changed(*self, f)?;
+            write!(f, ", and so on, {count} bytes in all")
         }
-        write!(f, ", and so on, {count} bytes in all")
     }
 }
 
+/// A page that was shown last.
+fn write_last_shown<W: fmt::Write>(showing: Showing, f: &mut fmt::Formatter<W>) -> fmt::Result
+    ensures { DisplaysOnOk W.write_str_gives f.old result (Some (spec.deed_text (deed.LastShown showing))) f.new }
+{
+    let Showing {
+        page,
+        frame,
+        digest,
+        ..
+    } = showing;
+    let (page, digest) = (PageName(page), DigestText(digest));
+    write!(f, "{page} was last shown, in frame {frame}, ")?;
+    write!(f, "as ciphertext with the digest {digest}")
+}
+
+/// A page that was shown.
+fn write_shown<W: fmt::Write>(page: PageId, frame: u32, f: &mut fmt::Formatter<W>) -> fmt::Result
+    ensures { DisplaysOnOk W.write_str_gives f.old result (Some (spec.deed_text (deed.Shown page frame))) f.new }
+{
+    write_page_name(page, f)?;
+    write!(f, " was shown, in frame {frame}")
+}
+
+/// A host call on the disk.
+fn write_moved<W: fmt::Write>(hart: usize, call: DiskCall, f: &mut fmt::Formatter<W>) -> fmt::Result
+    ensures { DisplaysOnOk W.write_str_gives f.old result (Some (spec.deed_text (deed.Moved hart call))) f.new }
+{
+    let call = CallName(call);
+    write!(f, "the kernel, on hart {hart}, {call}")
+}
+
+/// A store to a frame.
+fn write_stored<W: fmt::Write>(
+    hart: usize,
+    frame: usize,
+    change: FrameChange,
+    f: &mut fmt::Formatter<W>,
+) -> fmt::Result
+    ensures { DisplaysOnOk W.write_str_gives f.old result
+        (Some (spec.deed_text (deed.Stored hart frame change))) f.new }
+{
+    write!(
+        f,
+        "the kernel, on hart {hart}, stored to frame {frame}: {change}"
+    )
+}
+
+/// An address that leads elsewhere.
+fn write_leads<W: fmt::Write>(
+    address: u32,
+    from: Option<usize>,
+    to: Option<usize>,
+    f: &mut fmt::Formatter<W>,
+) -> fmt::Result
+    ensures { DisplaysOnOk W.write_str_gives f.old result
+        (Some (spec.deed_text (deed.Leads address from to))) f.new }
+{
+    let (from, to) = (FrameName(from), FrameName(to));
+    f.write_str("the kernel changed its page table: ")?;
+    write_word(address, f)?;
+    write!(f, " led to {from}, and now leads to {to}")
+}
+
 impl fmt::Display for PageDeed {
+    ghost output = { λ d. Some (spec.deed_text d) };
+
     fn fmt<W: fmt::Write>(&self, f: &mut fmt::Formatter<W>) -> fmt::Result {
         match *self {
-            PageDeed::LastShown(showing) => {
-                let digest = showing.digest;
-                let (page, digest) = (PageName(showing.page), DigestText(digest));
-                write!(f, "{page} was last shown, in frame {}, ", showing.frame)?;
-                write!(f, "as ciphertext with the digest {digest}")
-            }
-            PageDeed::Shown { page, frame } => {
-                let page = PageName(page);
-                write!(f, "{page} was shown, in frame {frame}")
-            }
-            PageDeed::Moved { hart, call } => {
-                let call = CallName(call);
-                write!(f, "the kernel, on hart {hart}, {call}")
-            }
+            PageDeed::LastShown(showing) => write_last_shown(showing, f),
+            PageDeed::Shown { page, frame } => write_shown(page, frame, f),
+            PageDeed::Moved { hart, call } => write_moved(hart, call, f),
             PageDeed::Stored {
                 hart,
                 frame,
                 change,
-            } => write!(
-                f,
-                "the kernel, on hart {hart}, stored to frame {frame}: {change}"
-            ),
-            PageDeed::Leads { address, from, to } => {
-                let (from, to) = (FrameName(from), FrameName(to));
-                f.write_str("the kernel changed its page table: ")?;
-                write!(f, "{address:08x} led to {from}, and now leads to {to}")
-            }
+            } => write_stored(hart, frame, change, f),
+            PageDeed::Leads { address, from, to } => write_leads(address, from, to, f),
         }
     }
 }
 
 impl fmt::Display for PageEvent {
+    ghost output = { λ e. Some (spec.event_text e) };
+
     fn fmt<W: fmt::Write>(&self, f: &mut fmt::Formatter<W>) -> fmt::Result {
         let step = StepName(self.step);
         let deed = self.deed;
@@ -155,24 +258,67 @@ impl fmt::Display for PageEvent {
 }
 
 /// The page of which the bytes of a frame are not what was last shown.
-fn write_whose<W: fmt::Write>(presented: &Presented, f: &mut fmt::Formatter<W>) -> fmt::Result {
+fn write_whose<W: fmt::Write>(showing: Option<Showing>, f: &mut fmt::Formatter<W>) -> fmt::Result
+    ensures { DisplaysOnOk W.write_str_gives f.old result (Some (spec.whose_text showing)) f.new }
+{
     f.write_str(", and what that frame has is not what was last shown of ")?;
-    f.write_str(match presented.showing {
-        Some(_) => "the page.\n",
-        None => "the page, or of the page from which a fork copied it, up to that fork.\n",
-    })
+    match showing {
+        Some(_) => f.write_str("the page.\n"),
+        None => f.write_str(
+            "the page, or of the page from which a fork copied it, up to that fork.\n",
+        ),
+    }
+}
+
+/// How many earlier events are left out.
+fn write_left_out<W: fmt::Write>(left_out: u64, f: &mut fmt::Formatter<W>) -> fmt::Result
+    ensures { DisplaysOnOk W.write_str_gives f.old result (Some (spec.left_out_text left_out)) f.new }
+{
+    if left_out == 0 {
+        Ok(())
+    } else {
+        write!(f, "  (earlier events that are left out: {left_out})\n")
+    }
 }
 
 /// What was done before.
-fn write_events<W: fmt::Write>(deeds: &Deeds, f: &mut fmt::Formatter<W>) -> fmt::Result {
-    let left_out = deeds.left_out();
-    if left_out > 0 {
-        write!(f, "  (earlier events that are left out: {left_out})\n")?;
-    }
-    for event in deeds.events() {
+fn write_events<W: fmt::Write>(
+    left_out: u64,
+    events: &[PageEvent],
+    f: &mut fmt::Formatter<W>,
+) -> fmt::Result
+    ensures { DisplaysOnOk W.write_str_gives f.old result (Some (spec.events_text left_out events.now)) f.new }
+{
+    write_left_out(left_out, f)?;
+    for event in events {
         write!(f, "{event}")?;
     }
     Ok(())
+}
+
+/// The step in which bytes had last been shown, or the opening.
+fn write_origin_place<W: fmt::Write>(step: u32, f: &mut fmt::Formatter<W>) -> fmt::Result
+    ensures { DisplaysOnOk W.write_str_gives f.old result (Some (spec.origin_place step)) f.new }
+{
+    if step == 0 {
+        f.write_str(" at the opening\n")
+    } else {
+        write!(f, " at step {step}\n")
+    }
+}
+
+/// Where bytes had last been shown.
+fn write_origin<W: fmt::Write>(origin: Option<Showing>, f: &mut fmt::Formatter<W>) -> fmt::Result
+    ensures { DisplaysOnOk W.write_str_gives f.old result (Some (spec.origin_text origin)) f.new }
+{
+    match origin {
+        Some(Showing { page, step, .. }) => {
+            f.write_str("shown of ")?;
+            write_page_name(page, f)?;
+            write_origin_place(step, f)
+        }
+        None => f.write_str("not shown in this run before\n"),
+    }
 }
 
 /// What the program found in the frame, and where those bytes come from.
@@ -180,29 +326,27 @@ fn write_found<W: fmt::Write>(
     presented: &Presented,
     origin: Option<Showing>,
     f: &mut fmt::Formatter<W>,
-) -> fmt::Result {
-    let Presented { step, frame, .. } = *presented;
-    let digest = presented.digest;
-    let digest = DigestText(digest);
+) -> fmt::Result
+    ensures { DisplaysOnOk W.write_str_gives f.old result (Some (spec.found_text presented.now origin)) f.new }
+{
+    let step = presented.step;
+    let frame = presented.found.frame;
+    let digest = DigestText(presented.digest);
     write!(
         f,
         "  step {step}: the program asked for the page, and found in frame {frame} "
     )?;
     write!(f, "bytes with the digest {digest}, which were ")?;
-    let Some(Showing { page, step, .. }) = origin else {
-        return f.write_str("not shown in this run before\n");
-    };
-    let page = PageName(page);
-    match step {
-        0 => write!(f, "shown of {page} at the opening\n"),
-        _ => write!(f, "shown of {page} at step {step}\n"),
-    }
+    write_origin(origin, f)
 }
 
 impl fmt::Display for PageStory<'_> {
+    ghost output = { λ s. Some (spec.lines_of s.presented.now
+        s.deeds.now.left_out s.deeds.now.events.items s.deeds.now.origin) };
+
     fn fmt<W: fmt::Write>(&self, f: &mut fmt::Formatter<W>) -> fmt::Result {
-        write_whose(self.presented, f)?;
-        write_events(self.deeds, f)?;
+        write_whose(self.presented.showing, f)?;
+        write_events(self.deeds.left_out(), self.deeds.events(), f)?;
         write_found(self.presented, self.deeds.origin(), f)?;
         f.write_str(
             "The rule: a frame that the kernel presents for a cloaked page has exactly the bytes that were last shown of that page.\n",
@@ -436,7 +580,7 @@ fn write_page<W: fmt::Write>(
     f: &mut fmt::Formatter<W>,
 ) -> fmt::Result
     ensures { DisplaysOnOk W.write_str_gives f.old result
-        (Some (spec.page_text presented.now.step presented.now.hart presented.now.ctx presented.now.found more.now)) f.new }
+        (Some (spec.page_text presented.now more.now)) f.new }
 {
     let Presented {
         step,

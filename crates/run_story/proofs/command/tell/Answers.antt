@@ -1,19 +1,20 @@
-use Rattle.std.proofs.Common.{◌∙◌, [], ◌∷◌, ◌++◌, refl, ap, sym, subst, arith}
+use Rattle.std.proofs.Common.{◌∙◌, [], ◌∷◌, ◌++◌, refl, ap, sym, subst, arith, length-append, Ok, Err}
 use Rattle.cloak_model.specs.declared.item.Item.{Item}
 use Rattle.cloak_model.specs.Record.{IsItem}
 use Rattle.record_reader.specs.Kept.{kept_item}
 use Rattle.record_text.specs.Reading.{StandsAt}
 use Rattle.record_text.proofs.Shown.{at_front}
 use Rattle.run_story.proofs.Ends.{ends_after}
-use Rattle.run_story.proofs.SoFar.{item_untold, stands_on}
+use Rattle.run_story.proofs.SoFar.{begins_with, item_untold, stands_on, tells_item}
 use Rattle.run_story.proofs.command.tell.Goals as goal
 
 pub loop-tag-init : goal.loop-tag-init
 loop-tag-init g c = record {
   so_far = record {
     items = [];
+    count = refl;
     stands = at_front _ c.open-reader.result c.open-reader.ensures.front;
-    tells = c.in-Ok.ensures;
+    tells = c.in-Ok.ensures _;
   };
   named = c.open-reader.ensures.name;
   files = λ name. refl;
@@ -21,6 +22,7 @@ loop-tag-init g c = record {
   writing = refl;
   settled = c.requires.settled;
   low = let start = c.open-reader.ensures.start in omega (arith, start);
+  few = let start = c.open-reader.ensures.start in omega (arith, start);
 }
 
 pub loop-tag-preserved : goal.loop-tag-preserved
@@ -34,15 +36,31 @@ loop-tag-preserved g c =
     (was.so_far.items ++ i ∷ [])) (sym c.item-item.ensures)
     (stands_on _ _ c.loop-tag.reader c.next_item.new.reader (kept_item c.in-Ok-next_item.tag c.next_item.new.kept)
     was.so_far.items same found.next was.so_far.stands) in
-    let tells = told.tells was.so_far.items (subst IsItem (sym c.item-item.ensures) found.item) was.so_far.tells in
+    let tells = tells_item c.args.bundle.now (g.S.Shelf.held c.args.shelf.now c.args.name.now)
+    (g.S.Shelf.held c.next_item.new.shelf c.args.name.now) was.so_far.items c.item-item.result.now
+    (g.S.Shelf.reading_faults c.next_item.new.shelf) (g.S.Shelf.reading_faults c.tell_item.new.shelf) c.loop-tag.story
+    c.tell_item.new.story (Ok tt)
+    (found.files c.args.name.now ∙ was.files c.args.name.now)
+    (told.tells was.so_far.items (subst IsItem (sym c.item-item.ensures) found.item) was.so_far.count)
+    (begins_with _ c.next_item.new.reader (was.so_far.items ++ c.item-item.result.now ∷ []) stands) was.so_far.tells in
+    let size = length-append was.so_far.items (c.item-item.result.now ∷ []) in
+    let count = was.so_far.count in
+    let few = was.few in
+    let moves = found.moves in
     record {
-      so_far = record { items = was.so_far.items ++ c.item-item.result.now ∷ []; stands = stands; tells = tells.0 };
+      so_far = record {
+        items = was.so_far.items ++ c.item-item.result.now ∷ [];
+        count = omega (arith, size, count);
+        stands = stands;
+        tells = tells.0;
+      };
       named = ap (λ n. n.now) found.same ∙ was.named;
       files = λ name. told.files name ∙ (found.files name ∙ was.files name);
       reading = tells.1 ∙ (found.counts ∙ was.reading);
       writing = told.writing ∙ (found.writing ∙ was.writing);
       settled = told.settled;
       low = found.within;
+      few = omega (arith, few, moves);
     }
 
 pub returns-in-Err-clause-tells : goal.returns-in-Err-clause-tells
@@ -67,4 +85,10 @@ returns-in-Err-tell_item-clause-tells g c =
     was.so_far.items same found.next was.so_far.stands) in
     item_untold c.args.bundle.now _ c.next_item.new.reader was.so_far.items c.item-item.result.now _ _ _ c.tell_item.new.story
     c.in-Err-tell_item.untold stands (found.counts ∙ was.reading)
-    (told.tells was.so_far.items (subst IsItem (sym c.item-item.ensures) found.item) was.so_far.tells)
+    (tells_item c.args.bundle.now (g.S.Shelf.held c.args.shelf.now c.args.name.now)
+    (g.S.Shelf.held c.next_item.new.shelf c.args.name.now) was.so_far.items c.item-item.result.now
+    (g.S.Shelf.reading_faults c.next_item.new.shelf) (g.S.Shelf.reading_faults c.tell_item.new.shelf) c.loop-tag.story
+    c.tell_item.new.story (Err c.in-Err-tell_item.untold)
+    (found.files c.args.name.now ∙ was.files c.args.name.now)
+    (told.tells was.so_far.items (subst IsItem (sym c.item-item.ensures) found.item) was.so_far.count)
+    (begins_with _ c.next_item.new.reader (was.so_far.items ++ c.item-item.result.now ∷ []) stands) was.so_far.tells)

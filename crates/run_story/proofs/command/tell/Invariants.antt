@@ -1,4 +1,4 @@
-use Rattle.std.proofs.Common.{◌≡◌, ◌<◌, ◌^◌, ◌-◌}
+use Rattle.std.proofs.Common.{◌≡◌, ◌<◌, ◌≤◌, ◌^◌, ◌-◌}
 use Rattle.io_traits.specs.Told.{SameFiles}
 use Rattle.record_reader.specs.Reading.{reader_offset}
 use Rattle.run_story.proofs.SoFar.{ToldSoFar}
@@ -7,13 +7,14 @@ use Rattle.run_story.proofs.command.tell.Given as goal
 -- the items so far were read and told
 abbrev pub invariant-loop-tag : goal.invariant-loop-tag
 invariant-loop-tag g l = record {
-  so_far : ToldSoFar l.bundle (g.S.Shelf.held l.fn.shelf l.name) l.reader l.story;
+  so_far : ToldSoFar l.bundle (g.S.Shelf.held l.fn.shelf l.name) l.reader l.taken l.story;
   named : l.reader.name.now ≡ l.name;
   files : SameFiles (g.S.Shelf.held l.fn.shelf) (g.S.Shelf.held l.shelf);
   reading : g.S.Shelf.reading_faults l.shelf ≡ g.S.Shelf.reading_faults l.fn.shelf;
   writing : g.S.Shelf.writing_faults l.shelf ≡ g.S.Shelf.writing_faults l.fn.shelf;
   settled : g.S.Shelf.is_settled l.shelf;
   low : reader_offset l.reader < 2 ^ 64;
+  few : l.taken ≤ reader_offset l.reader;
 }
 
 abbrev pub decreases-loop-tag : goal.decreases-loop-tag

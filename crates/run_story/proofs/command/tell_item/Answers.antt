@@ -3,6 +3,7 @@ use Rattle.run_story.proofs.Ends.{lacks_next}
 use Rattle.run_story.proofs.command.tell_item.Goals as goal
 
 pub returns-in-Err-clause-tells : goal.returns-in-Err-clause-tells
-returns-in-Err-clause-tells g c = λ items is tells.
-    lacks_next c.args.bundle.now items c.args.item.now _ _ c.take.new.self c.in-Err.untold refl
-    (c.in-Err.ensures c.args.bundle.now items is tells)
+returns-in-Err-clause-tells g c = λ items is count begins tells.
+    let told = g.S.Shelf.held c.args.shelf.now c.args.name.now in
+    lacks_next c.args.bundle.now told items c.args.item.now _ _ c.take.new.self c.in-Err.untold refl
+    (c.in-Err.ensures c.args.bundle.now told items is count tells)

@@ -10,7 +10,7 @@ returns-in-Unfit c = λ b told items before now tells ends. absurd (rw c.in-Unfi
 
 pub returns-in-Fault : goal.returns-in-Fault
 returns-in-Fault c = λ b told items before now tells ends.
-    told_fault b told items c.args.story before now c.in-Fault.fault tells (rw c.in-Fault.is at ends)
+    told_fault b told items c.args.story before now c.in-Fault.fault tells.knows (rw c.in-Fault.is at ends)
 
 pub returns-in-Unread : goal.returns-in-Unread
 returns-in-Unread c = λ b told items before now tells ends.

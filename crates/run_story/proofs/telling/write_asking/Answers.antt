@@ -1,4 +1,4 @@
-use Rattle.std.proofs.Common.{◌++◌, ℕ, List, ap, refl, sym, codes, decimal}
+use Rattle.std.proofs.Common.{◌++◌, ℕ, List, [], ◌∷◌, ap, refl, codes, decimal}
 use Rattle.std.proofs.lemmas.Grind.{put_two}
 use Rattle.run_story.proofs.Joined.{joined}
 use Rattle.run_story.proofs.telling.write_asking.Goals as goal
@@ -9,5 +9,5 @@ returns g c = λ plain ok.
     let second = c.write-2.ensures.writes first.plain ok in
     put_two g.W.Write.write_str_gives _ _ _ _ _ _ first second
     (ap (λ (t : List ℕ). t ++ (codes "asked to resume context " ++ decimal c.args.ctx ++ codes ".\n"))
-    (sym (joined (codes "A violation at step ") (decimal c.args.step) (codes ": the kernel, on hart ")
-    (decimal c.args.hart) (codes ", "))))
+    (joined (codes "A violation at step ") (decimal c.args.step ∷ codes ": the kernel, on hart "
+    ∷ decimal c.args.hart ∷ codes ", " ∷ [])))
