@@ -1,5 +1,5 @@
 //! Which page each frame holds, and what was last shown of each page.
-ghost use Rattle.std.specs.Prelude.{◌≡◌, ◌<◌, ◌≤◌, IfOk, None, Some, length, map, replicate, slice_index_or, slice_set};
+ghost use Rattle.std.specs.Prelude.{◌≡◌, ◌<◌, ◌≤◌, IfOk, None, Some, length, map, replicate, slice_index_or, slice_set, if◌then◌else◌};
 ghost use Rattle.replayed_run.specs.PagesTold as spec;
 ghost use Rattle.replayed_run.specs.PagesTold.{pages_of};
 
@@ -73,19 +73,13 @@ fn set_last(last: &mut [Option<Showing>], place: usize, now: Option<Showing>)
     }
 }
 
-/// What was last shown of a page is of no more use if it is of this program.
-fn forgotten(domain: u32, was: Option<Showing>) -> Option<Showing>
-    ensures { result ≡ spec.forgotten domain was }
+/// What was last shown of a page is of this program.
+fn is_of(domain: u32, was: &Option<Showing>) -> bool
+    ensures { spec.forgotten domain was.now ≡ if result then None else was.now }
 {
     match was {
-        None => None,
-        Some(showing) => {
-            if showing.page.domain == domain {
-                None
-            } else {
-                Some(showing)
-            }
-        }
+        None => false,
+        Some(showing) => showing.page.domain == domain,
     }
 }
 
@@ -94,7 +88,9 @@ fn forget_at(last: &mut [Option<Showing>], place: usize, domain: u32)
     requires { place < length last.old }
     ensures { last.new ≡ slice_set last.old place (spec.forgotten domain (slice_index_or last.old place None)) }
 {
-    last[place] = forgotten(domain, last[place]);
+    if is_of(domain, &last[place]) {
+        last[place] = None;
+    }
 }
 
 /// What was last shown of the pages of a program is of no more use.
