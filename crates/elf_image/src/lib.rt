@@ -11,8 +11,6 @@ mod fields;
 mod header;
 mod image;
 mod part;
-#[cfg(test)]
-mod tests;
 
 pub use fault::{ElfCause, ElfFault};
 pub use image::{ElfImage, read_elf};

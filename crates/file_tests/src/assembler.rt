@@ -296,7 +296,7 @@ static TOO_FAR: [(&str, u32, &str, u32); 2] = [
 
 #[test]
 fn reaches_no_further(rt: HostRuntime) -> Result<(), Fail> {
-    for (first, count, last, line) in TOO_FAR {
+    for &(first, count, last, line) in &TOO_FAR {
         let text = long(rt.alloc(), first, count, last)?;
         let fault = words_of(rt.alloc(), text.as_str()).err();
         same(&rt, &fault, &Some(AsmFault::OutOfReach(line)), first);

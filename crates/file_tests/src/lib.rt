@@ -1,5 +1,5 @@
-//! Tests of the outside (files, output, random bytes), and of the files and texts that are read (bundles, records, store
-//! files, assembler text).
+//! Tests of the outside (files, output, random bytes), and of the files and texts that are read (bundles, ELF files, records,
+//! store files, assembler text).
 #![tactic(auto)]
 
 #[cfg(test)]
@@ -8,6 +8,8 @@ mod assembler;
 mod bundles;
 #[cfg(test)]
 mod checks;
+#[cfg(test)]
+mod elf;
 #[cfg(test)]
 mod file_shelf;
 #[cfg(test)]
@@ -22,3 +24,5 @@ mod std_sink;
 mod stores;
 #[cfg(test)]
 mod stream;
+#[cfg(test)]
+mod unfailing;

@@ -17,8 +17,3 @@ mod shadows;
 pub use entry::is_table;
 pub use shadow_fold::{Entry, Regime, ShadowCounts};
 pub use shadows::Shadows;
-
-#[cfg(test)]
-mod plain;
-#[cfg(test)]
-mod tests;

@@ -10,6 +10,3 @@ mod sum;
 
 pub use shelf::NeverShelf;
 pub use sink::NeverSink;
-
-#[cfg(test)]
-mod tests;

@@ -1,4 +1,5 @@
-//! Tests of the ciphers, the page states, the table of files, the pager, and the side of a step over it.
+//! Tests of the ciphers, the page states, the table of files, the pager, the side of a step over it, and the table of kept
+//! translations.
 #![tactic(auto)]
 
 #[cfg(test)]
@@ -11,6 +12,10 @@ mod cipher;
 mod files;
 #[cfg(test)]
 mod pager;
+#[cfg(test)]
+mod plain_shadows;
+#[cfg(test)]
+mod shadows;
 #[cfg(test)]
 mod side;
 #[cfg(test)]

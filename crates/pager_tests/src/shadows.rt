@@ -1,12 +1,9 @@
-ghost use Rattle.std.specs.Prelude.{◌≡◌, ◌<◌, false, None, IfSome};
-ghost use Rattle.cloak_base.specs.declared.names.Kind.TheVariants.{Load};
-ghost use Rattle.cloak_base.specs.declared.names.Mode.TheVariants.{S};
-ghost use Rattle.shadow_fold.specs.Entries.{IsWithin};
-ghost use Rattle.shadow_fold.specs.declared.entry.Regime.TheVariants.{Outside};
+//! The table of kept translations, beside a plain list of the same entries.
 
-use super::*;
-use crate::plain::PlainShadows;
+use crate::checks::{holds, same};
+use crate::plain_shadows::PlainShadows;
 use cloak_base::{Frame, Kind, Mode, SpaceId};
+use multi_shadow::{Entry, Regime, ShadowCounts, Shadows};
 use std::test::Fail;
 
 const BARE: Regime = Regime::Outside {
@@ -16,17 +13,7 @@ const BARE: Regime = Regime::Outside {
     mxr: false,
 };
 
-fn load_of(page: u32) -> Entry
-    ensures { result ≡ record {
-      regime = Outside 0 S false false;
-      page = page;
-      kind = Load;
-      frame = record { 0 = 3 };
-      pt1 = None;
-      pt0 = None;
-      cloaked = None;
-    } }
-{
+fn load_of(page: u32) -> Entry {
     Entry {
         regime: BARE,
         page,
@@ -42,21 +29,22 @@ fn load_of(page: u32) -> Entry
 fn ends_all_for_the_1025th(rt: HostRuntime) -> Result<(), Fail> {
     let mut shadows = Shadows::open(rt.alloc(), 64)?;
     for page in 0..1024 {
-        shadows.insert(load_of(page));
+        shadows.learn(load_of(page));
     }
-    assert_eq!(rt; shadows.find(&BARE, 5, Kind::Load), Some(load_of(5)));
-    shadows.insert(load_of(1024));
-    assert_eq!(rt; shadows.find(&BARE, 5, Kind::Load), None);
+    let found = shadows.find(&BARE, 5, Kind::Load);
+    same(&rt, &found, &Some(load_of(5)), "one of 1024");
+    shadows.learn(load_of(1024));
+    let found = shadows.find(&BARE, 5, Kind::Load);
+    same(&rt, &found, &None, "after the 1025th");
     shadows.kill_target(Frame(3));
-    assert_eq!(rt; shadows.find(&BARE, 1024, Kind::Load), None);
-    assert_eq!(rt;
-        shadows.counts(),
-        ShadowCounts {
-            accesses: 3,
-            misses: 2,
-            flushes: 1
-        }
-    );
+    let found = shadows.find(&BARE, 1024, Kind::Load);
+    same(&rt, &found, &None, "after its end");
+    let counts = ShadowCounts {
+        accesses: 3,
+        misses: 2,
+        flushes: 1,
+    };
+    same(&rt, &shadows.counts(), &counts, "counts");
     Ok(())
 }
 
@@ -100,9 +88,7 @@ fn kind_of(word: u32) -> Kind {
     }
 }
 
-fn frame_of(word: u32) -> Option<Frame>
-    ensures { IfSome result (λ f. f.0 < 64) }
-{
+fn frame_of(word: u32) -> Option<Frame> {
     if word % 4 == 0 {
         None
     } else {
@@ -111,9 +97,7 @@ fn frame_of(word: u32) -> Option<Frame>
 }
 
 /// Some entry of 64 frames.
-fn entry_of(word: u32) -> Entry
-    ensures { IsWithin 64 result }
-{
+fn entry_of(word: u32) -> Entry {
     Entry {
         regime: regime_of(word / 1024),
         page: word / 4096 % 256,
@@ -126,21 +110,16 @@ fn entry_of(word: u32) -> Entry
 }
 
 /// Looks for the entry's page, and makes the entry live if it is not known.
-fn look(shadows: &mut Shadows, e: Entry) -> Option<Entry>
-    requires { IsWithin shadows.old.frames e }
-    ensures { shadows.new.frames ≡ shadows.old.frames }
-{
+fn look(shadows: &mut Shadows, e: Entry) -> Option<Entry> {
     let found = shadows.find(&e.regime, e.page, e.kind);
     if found.is_none() {
-        shadows.insert(e);
+        shadows.learn(e);
     }
     found
 }
 
 /// Ends some entries, now and then.
-fn end_some(shadows: &mut Shadows, plain: &mut PlainShadows, i: u32, word: u32)
-    ensures { shadows.new.frames ≡ shadows.old.frames }
-{
+fn end_some(shadows: &mut Shadows, plain: &mut PlainShadows, i: u32, word: u32) {
     let f = Frame(word / 512 % 70);
     let s = SpaceId {
         domain: 2,
@@ -173,11 +152,12 @@ fn finds_what_a_plain_list_finds(rt: HostRuntime) -> Result<(), Fail> {
         if expected.is_none() {
             plain.insert(e);
         }
-        assert_eq!(rt; look(&mut shadows, e), expected);
+        same(&rt, &look(&mut shadows, e), &expected, i);
         end_some(&mut shadows, &mut plain, i, word);
     }
-    assert_eq!(rt; shadows.counts(), plain.counts);
-    assert!(rt; plain.counts.flushes > 3);
-    assert!(rt; plain.counts.misses < plain.counts.accesses);
+    let counts = plain.counts;
+    same(&rt, &shadows.counts(), &counts, "counts");
+    holds(&rt, counts.flushes > 3, "flushes");
+    holds(&rt, counts.misses < counts.accesses, "some are found");
     Ok(())
 }

@@ -1,5 +1,8 @@
-use super::*;
+//! Files and an output on which no call fails.
+
+use crate::checks::same;
 use io_traits::{Shelf, put_all};
+use never_fails::{NeverShelf, NeverSink};
 use std::test::Fail;
 
 /// The digest of `abc` (FIPS 180-4, the example of SHA-256).
@@ -14,15 +17,15 @@ fn counts_what_is_written(rt: HostRuntime) -> Result<(), Fail> {
     let mut shelf = NeverShelf::open(rt.alloc());
     shelf.add("file", b"bytes")?;
     let mut into = [7; 2];
-    assert_eq!(rt; shelf.size("file"), Ok(5));
-    assert_eq!(rt; shelf.read_at("file", 4, &mut into), Ok(1));
-    assert_eq!(rt; into, [b's', 7]);
+    same(&rt, &shelf.size("file"), &Ok(5), "size");
+    let read = shelf.read_at("file", 4, &mut into);
+    same(&rt, &(read, into), &(Ok(1), [b's', 7]), "the last byte");
     shelf.append("file", b"ab")?;
     shelf.append("other", b"c")?;
-    assert_eq!(rt; shelf.size("file"), Ok(0));
-    assert_eq!(rt; shelf.sum(), (3, ABC));
+    same(&rt, &shelf.size("file"), &Ok(0), "size after it");
+    same(&rt, &shelf.sum(), &(3, ABC), "what was written");
     let mut sink = NeverSink::open();
     put_all(&mut sink, b"abc")?;
-    assert_eq!(rt; sink.sum(), (3, ABC));
+    same(&rt, &sink.sum(), &(3, ABC), "what was shown");
     Ok(())
 }

@@ -1,4 +1,7 @@
-use super::*;
+//! ELF files: one made by hand from the fields of the standards, and its changes.
+
+use crate::checks::same;
+use elf_image::{ElfCause, ElfFault, read_elf};
 use std::test::Fail;
 
 /// A file made by hand from the fields of the standards.
@@ -56,15 +59,34 @@ static CHANGES: [(usize, u8, ElfCause, u64); 22] = [
 #[test]
 fn reads_a_file_made_by_hand(rt: HostRuntime) -> Result<(), Fail> {
     let image = read_elf(&FILE)?;
-    assert_eq!(rt; image.entry, 0x8000_0004);
     let parts = image.parts.as_slice();
-    assert_eq!(rt; parts.len(), 2);
-    let code = parts[0];
-    assert_eq!(rt; (code.address, code.size), (0x8000_0000, 8));
-    assert_eq!(rt; code.bytes, [0x13, 0, 0, 0, 0x6f, 0, 0, 0].as_slice());
-    let data = parts[1];
-    assert_eq!(rt; (data.address, data.size), (0x8000_0008, 12));
-    assert_eq!(rt; data.bytes, [7, 1, 2, 3].as_slice());
+    same(
+        &rt,
+        &(image.entry, parts.len()),
+        &(0x8000_0004, 2),
+        "entry, and how many parts",
+    );
+    let code = parts.first().ok_or("there is a first part")?;
+    same(
+        &rt,
+        &(code.address, code.size),
+        &(0x8000_0000, 8),
+        "first part",
+    );
+    same(
+        &rt,
+        &code.bytes,
+        &[0x13, 0, 0, 0, 0x6f, 0, 0, 0].as_slice(),
+        "its bytes",
+    );
+    let data = parts.get(1).ok_or("there is a second part")?;
+    same(
+        &rt,
+        &(data.address, data.size),
+        &(0x8000_0008, 12),
+        "second part",
+    );
+    same(&rt, &data.bytes, &[7, 1, 2, 3].as_slice(), "its bytes");
     Ok(())
 }
 
@@ -75,10 +97,7 @@ fn refuses_each_changed_byte(rt: HostRuntime) {
         if place < file.len() {
             file[place] = byte;
         }
-        assert_eq!(rt;
-            read_elf(&file).err(),
-            Some(ElfFault { cause, at }),
-            "byte {place}"
-        );
+        let fault = ElfFault { cause, at };
+        same(&rt, &read_elf(&file).err(), &Some(fault), place);
     }
 }
