@@ -1,68 +1,18 @@
 -- An item completes at most one load of a program that runs alone. So a program that took fewer than 2^64 items has
 -- fewer loads than that, as its report needs.
-use Rattle.std.proofs.Common.{◌≤◌, ◌+◌, ℕ, Bool, true, false, cond, List, [], ◌∷◌, ◌++◌, length, Option, Some, None, arith, length-append}
+use Rattle.std.proofs.Common.{◌≤◌, ◌+◌, ℕ, Bool, true, false, cond, List, [], ◌∷◌, length, arith}
 use Rattle.std.specs.Prelude.{is_some}
 use Rattle.cloak_model.specs.declared.answer.Answer.{Answer}
-use Rattle.cloak_model.specs.declared.context.Phase.{Phase}
-use Rattle.cloak_model.specs.declared.context.Phase.TheVariants.{Plain, CopyIn, Waiting, CopyOut}
-use Rattle.cloak_model.specs.declared.inside.Copied.{Copied}
-use Rattle.cloak_model.specs.declared.inside.Copied.TheVariants as copied
-use Rattle.cloak_model.specs.declared.inside.Ran.{Ran}
-use Rattle.cloak_model.specs.declared.inside.Ran.TheVariants as ran
 use Rattle.cloak_model.specs.declared.item.Item.{Item}
 use Rattle.cloak_model.specs.declared.item.Item.TheVariants as item
-use Rattle.cloak_model.specs.World.{World, Alone}
-use Rattle.cloak_model.specs.Contexts.{Context}
-use Rattle.cloak_model.specs.declared.context.WordPlace.{WordPlace}
+use Rattle.cloak_model.specs.World.{Alone}
 use Rattle.cloak_model.specs.Parts.{DomainPart}
 use Rattle.cloak_model.specs.DomainState.{Domain}
-use Rattle.cloak_model.specs.DomainStep as step
-use Rattle.cloak_model.specs.DomainStep.{DomainStepped, Resumes, domain_step}
+use Rattle.cloak_model.specs.DomainStep.{Resumes, domain_step}
 use Rattle.cloak_model.specs.Ending.{ended_domain}
 use Rattle.cloak_model.specs.DomainAlone as model
 use Rattle.cloak_model.specs.DomainAlone.{Tried, Over, Wants, Wrong, tried, try_with, handed_of, is_none_left, is_granted, answered_by, made_by, take_answer, take_timer, take_resume, take_ended, domain_gone, resumed_by, domain_step_ended, domain_step_begun, take_domain_step, domain_takes, take_domain_item, domain_taken}
-
-abbrev LoadsOnce : Domain → DomainStepped → Type 0
-LoadsOnce d made = length made.domain.loads ≤ length d.loads + 1
-
-no_load : (n : ℕ) → n ≤ n + 1
-no_load n = omega arith
-
-one_load : (d : Domain) (address value : ℕ) → length (d.loads ++ (address, value) ∷ []) ≤ length d.loads + 1
-one_load d address value = let e = length-append d.loads ((address, value) ∷ []) in omega (arith, e)
-
-loads_instruction : (slot : ℕ) (d : Domain) (c : Context) (r : Ran) (w : World) → LoadsOnce d (step.instruction_ended slot d c r w).answer
-unfolding step.instruction_ended
-loads_instruction slot d c (ran.Loaded address value) w = one_load d address value
-loads_instruction slot d c _ w = no_load (length d.loads)
-
-loads_copy : (slot : ℕ) (d : Domain) (c : Context) (r : Copied) → LoadsOnce d (step.copy_ended slot d c r)
-unfolding step.copy_ended
-loads_copy slot d c (copied.Loaded address byte) = one_load d address byte
-loads_copy slot d c _ = no_load (length d.loads)
-
--- a write after a step
-loads_written : (wrote : Option WordPlace) (d : Domain) (s : DomainStepped) → LoadsOnce d s → LoadsOnce d (step.after_write wrote s)
-loads_written None d s once = once
-loads_written (Some place) d s once = once
-
-loads_phase : (phase : Phase) (slot : ℕ) (c : Context) (d : Domain) (w : World) → LoadsOnce d (step.phase_step phase slot c d w).answer
-unfolding step.phase_step
-loads_phase Plain slot c d w = loads_written _ d _ (loads_instruction slot d _ _ _)
-loads_phase (CopyIn done) slot c d w = loads_copy slot d _ _
-loads_phase Waiting slot c d w = no_load (length d.loads)
-loads_phase (CopyOut done total) slot c d w = loads_written _ d _ (loads_copy slot d _ _)
-
-loads_if : (c : Option Context) (slot : ℕ) (d : Domain) (w : World) → LoadsOnce d (step.step_if c slot d w).answer
-unfolding step.step_if
-loads_if None slot d w = no_load (length d.loads)
-loads_if (Some c) slot d w = loads_phase c.phase slot c d w
-
-loads_step : (slot : ℕ) (d : Domain) (w : World) → LoadsOnce d (domain_step slot d w).answer
-unfolding domain_step
-loads_step slot d w = loads_if _ slot d w
-
--- The fold.
+use Rattle.script_fold.proofs.OneLoad.{no_load, loads_step}
 
 abbrev loads_of : model.DomainAlone → ℕ
 loads_of s = length s.part.domain.loads

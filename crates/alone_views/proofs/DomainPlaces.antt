@@ -1,6 +1,5 @@
 -- The pages of a program as it starts, by their places.
-use Rattle.std.proofs.Common.{◌≡◌, ◌∙◌, ◌<◌, ◌≤◌, ◌+◌, ◌*◌, ◌&&◌, ℕ, zero, suc, Bool, false, cond, eqb, ltb, List, [], ◌∷◌, ◌++◌, length, slice_index_or, refl, ap, sym, arith, le-ltb, ne_eqb, below_more}
-use Rattle.std.proofs.lemmas.List.{get_or_append_left, get_or_push, length_push}
+use Rattle.std.proofs.Common.{◌≡◌, ◌∙◌, ◌<◌, ◌≤◌, ◌+◌, ◌*◌, ◌&&◌, ℕ, zero, suc, Bool, false, cond, eqb, ltb, List, [], slice_index_or, refl, ap, sym, arith, le-ltb, ne_eqb}
 use Rattle.cloak_base.specs.Pages.{zero_page}
 use Rattle.cloak_model.specs.declared.image.Program.{Program}
 use Rattle.cloak_model.specs.Opening.{program_page}

@@ -11,6 +11,7 @@ use Rattle.cloak_model.specs.declared.inside.Copied.TheVariants as copied
 use Rattle.cloak_model.specs.declared.inside.Ran.{Ran}
 use Rattle.cloak_model.specs.declared.inside.Ran.TheVariants as ran
 use Rattle.cloak_model.specs.World.{World}
+use Rattle.cloak_model.specs.Asking.{Told}
 use Rattle.cloak_model.specs.Contexts.{Context, Resumed, resume_at, resume_if, unless_reserved}
 use Rattle.cloak_model.specs.declared.context.WordPlace.{WordPlace}
 use Rattle.cloak_model.specs.Fork as forks
@@ -20,7 +21,9 @@ use Rattle.cloak_model.specs.Hypercalls.{Hypercall, with_slot}
 use Rattle.hypercall_kinds.specs.Kinds.{CallKind, Starts, Stops, Forks, after}
 use Rattle.hypercall_kinds.proofs.ByKinds.{by_kinds}
 use Rattle.cloak_model.specs.DomainStep as step
-use Rattle.cloak_model.specs.DomainStep.{DomainStepped, domain_step, interrupt, resume_slot}
+use Rattle.cloak_model.specs.DomainStep.{domain_script, DomainStepped, domain_step, interrupt, resume_slot}
+use Rattle.cloak_model.specs.Script.{played}
+use Rattle.cloak_model.proofs.Playing.{by_plain, by_copy_in, by_copy_out, by_ecall}
 
 abbrev pub SameSlots : Control → Control → Type 0
 SameSlots d now = length now.contexts ≡ length d.contexts
@@ -37,39 +40,50 @@ module _ (call : Hypercall) (slot : ℕ) (c : Context) (d : Control) (w : World)
       length-set (forks.forked c free new d.resources d.contexts).contexts slot _ ∙ length-set d.contexts free _
   slots_kind _ = length-set d.contexts slot _
 
-  slots_hypercall : SameSlots d (calling.hypercall call slot c d w).answer.control
+  slots_hypercall : SameSlots d (played (calling.hypercall call slot c d) w).answer.control
   slots_hypercall = by_kinds (λ t. SameSlots d t.answer.control) call slot c d w slots_kind
 
-slots_ended : (slot : ℕ) (d : Domain) (c : Context) (e : Ran) (w : World) → SameSlots d.control (step.instruction_ended slot d c e w).answer.domain.control
+-- the same of a step
+abbrev StepSame : Domain → Told DomainStepped → Type 0
+StepSame d t = SameSlots d.control t.answer.domain.control
+
+slots_ended : (slot : ℕ) (d : Domain) (c : Context) (e : Ran) (w : World) →
+    StepSame d (played (step.instruction_ended slot d c e) w)
 unfolding step.instruction_ended
-slots_ended slot d c ran.Ecall w = slots_hypercall _ slot c d.control w
+slots_ended slot d c ran.Ecall w = by_ecall (StepSame d) slot d c w (slots_hypercall _ slot c d.control w)
 slots_ended slot d c ran.Stopped w = refl
 slots_ended slot d c _ w = set_slot slot _ d.control
 
-slots_copy : (slot : ℕ) (d : Domain) (c : Context) (e : Copied) → SameSlots d.control (step.copy_ended slot d c e).domain.control
+slots_copy : (slot : ℕ) (d : Domain) (c : Context) (e : Copied) →
+    SameSlots d.control (step.copy_ended slot d c e).domain.control
 unfolding step.copy_ended
 slots_copy slot d c copied.Stopped = refl
 slots_copy slot d c _ = set_slot slot _ d.control
 
 -- a write after a step
-slots_written : (wrote : Option WordPlace) (d : Control) (s : DomainStepped) → SameSlots d s.domain.control → SameSlots d (step.after_write wrote s).domain.control
+slots_written : (wrote : Option WordPlace) (d : Control) (s : DomainStepped) → SameSlots d s.domain.control →
+    SameSlots d (step.after_write wrote s).domain.control
 slots_written None d s same = same
 slots_written (Some place) d s same = length-map s.domain.control.contexts (unless_reserved place) ∙ same
 
-slots_phase : (phase : Phase) (slot : ℕ) (c : Context) (d : Domain) (w : World) → SameSlots d.control (step.phase_step phase slot c d w).answer.domain.control
+slots_phase : (phase : Phase) (slot : ℕ) (c : Context) (d : Domain) (w : World) →
+    StepSame d (played (step.phase_step phase slot c d) w)
 unfolding step.phase_step
-slots_phase Plain slot c d w = slots_written _ d.control _ (slots_ended slot d _ _ _)
-slots_phase (CopyIn done) slot c d w = slots_copy slot d _ _
+slots_phase Plain slot c d w =
+    by_plain (StepSame d) slot c d w (slots_written _ d.control _ (slots_ended slot d _ _ _))
+slots_phase (CopyIn done) slot c d w = by_copy_in (StepSame d) done slot c d w (slots_copy slot d _ _)
 slots_phase Waiting slot c d w = set_slot slot _ d.control
-slots_phase (CopyOut done total) slot c d w = slots_written _ d.control _ (slots_copy slot d _ _)
+slots_phase (CopyOut done total) slot c d w =
+    by_copy_out (StepSame d) done total slot c d w (slots_written _ d.control _ (slots_copy slot d _ _))
 
-slots_step_if : (c : Option Context) (slot : ℕ) (d : Domain) (w : World) → SameSlots d.control (step.step_if c slot d w).answer.domain.control
+slots_step_if : (c : Option Context) (slot : ℕ) (d : Domain) (w : World) →
+    StepSame d (played (step.step_if c slot d) w)
 unfolding step.step_if
 slots_step_if None slot d w = refl
 slots_step_if (Some c) slot d w = slots_phase c.phase slot c d w
 
 pub slots_step : (slot : ℕ) (d : Domain) (w : World) → SameSlots d.control (domain_step slot d w).answer.domain.control
-unfolding domain_step
+unfolding domain_step domain_script
 slots_step slot d w = slots_step_if _ slot d w
 
 slots_interrupt_if : (c : Option Context) (slot : ℕ) (d : Control) → SameSlots d (step.interrupt_if c slot d).control
@@ -81,25 +95,30 @@ pub slots_interrupt : (slot : ℕ) (d : Control) → SameSlots d (interrupt slot
 unfolding interrupt
 slots_interrupt slot d = slots_interrupt_if _ slot d
 
-either_contexts : (b : Bool) (n : ℕ) (x y : Resumed) → length x.contexts ≡ n → length y.contexts ≡ n → length (cond b x y).contexts ≡ n
+either_contexts : (b : Bool) (n : ℕ) (x y : Resumed) → length x.contexts ≡ n → length y.contexts ≡ n →
+    length (cond b x y).contexts ≡ n
 either_contexts true n x y p q = p
 either_contexts false n x y p q = q
 
-slots_resume_if : (slot hart : ℕ) (c : Option Context) (contexts : List (Option Context)) → length (resume_if slot hart c contexts).contexts ≡ length contexts
+slots_resume_if : (slot hart : ℕ) (c : Option Context) (contexts : List (Option Context)) →
+    length (resume_if slot hart c contexts).contexts ≡ length contexts
 unfolding resume_if
 slots_resume_if slot hart None contexts = refl
 slots_resume_if slot hart (Some c) contexts = either_contexts (is_some c.on) _ _ _ refl (length-set contexts slot _)
 
-slots_resume_at : (slot hart : ℕ) (contexts : List (Option Context)) → length (resume_at slot hart contexts).contexts ≡ length contexts
+slots_resume_at : (slot hart : ℕ) (contexts : List (Option Context)) →
+    length (resume_at slot hart contexts).contexts ≡ length contexts
 unfolding resume_at
 slots_resume_at slot hart contexts = slots_resume_if slot hart _ contexts
 
-slots_answer_taken : (slot reply : ℕ) (c : Option Context) (d : Control) → SameSlots d (step.answer_taken slot reply c d)
+slots_answer_taken : (slot reply : ℕ) (c : Option Context) (d : Control) →
+    SameSlots d (step.answer_taken slot reply c d)
 unfolding step.answer_taken
 slots_answer_taken slot reply None d = refl
 slots_answer_taken slot reply (Some c) d = set_slot slot _ d
 
-slots_resume_told : (slot reply : ℕ) (answer : Result (Unit {0}) ResumeFault) (d : Control) → SameSlots d (step.resume_told slot reply answer d).control
+slots_resume_told : (slot reply : ℕ) (answer : Result (Unit {0}) ResumeFault) (d : Control) →
+    SameSlots d (step.resume_told slot reply answer d).control
 unfolding step.resume_told
 slots_resume_told slot reply (Err f) d = refl
 slots_resume_told slot reply (Ok done) d = slots_answer_taken slot reply _ d

@@ -9,9 +9,10 @@ use Rattle.cloak_model.specs.AskPages.{HasPages}
 use Rattle.cloak_model.specs.Contexts.{Context, context_at}
 use Rattle.cloak_model.specs.Resources.{Resources}
 use Rattle.cloak_model.specs.DomainState as program
-use Rattle.cloak_model.specs.DomainStep.{DomainStepped, domain_step, step_if}
+use Rattle.cloak_model.specs.DomainStep.{domain_script, DomainStepped, domain_step, step_if}
 use Rattle.cloak_model.specs.DomainAlone as model
 use Rattle.cloak_model.specs.DomainAlone.{Tried, Over, Wants, Wrong, is_none_left, tried, try_with, handed_of}
+use Rattle.cloak_model.specs.Script.{played}
 use Rattle.hypercalls.specs.declared.domain.Domain.{Domain}
 use Rattle.hypercalls.specs.Standing.{StandsFor, HasPagesOf, control_of}
 use Rattle.alone_views.specs.declared.domain.DomainAlone.{DomainAlone}
@@ -54,9 +55,9 @@ free_slot domain d slot r b stands is test off =
 -- it makes no step
 pub no_step : (machine : DomainAlone) (slot : ℕ) (d : program.Domain) (h : Handed) → context_at d.control.contexts slot ≡ None → StandsFor machine.domain d → StandsForHanded machine.side h →
     StepsAlone machine (domain_step slot d (Alone h))
-unfolding domain_step step_if
+unfolding domain_step domain_script step_if
 no_step machine slot d h free stands side =
-    subst (λ (o : Option Context). StepsAlone machine (step_if o slot d (Alone h))) (sym free) (record { domain = stands; side = side })
+    subst (λ (o : Option Context). StepsAlone machine (played (step_if o slot d) (Alone h))) (sym free) (record { domain = stands; side = side })
 
 -- How the step ended.
 

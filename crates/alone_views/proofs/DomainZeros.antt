@@ -8,14 +8,15 @@ use Rattle.cloak_base.specs.Pages.{zero_page, is_of}
 use Rattle.cloak_model.specs.AskPages.{ask_forget}
 use Rattle.cloak_model.specs.DomainAlone.{handed_of}
 use Rattle.cloak_model.specs.Ending.{ask_end, settled_for}
-use Rattle.cloak_model.specs.Fork.{ask_forgets}
+use Rattle.cloak_model.specs.Fork.{forget_each}
 use Rattle.cloak_model.specs.Opening.{numbers_below}
 use Rattle.cloak_model.specs.World.{Alone, Handed}
+use Rattle.cloak_model.specs.Script.{played}
 use Rattle.alone_views.specs.DomainPages.{ended_plain}
 
 -- a page after resources were forgotten
 abbrev page_after : ℕ → List ℕ → Handed → ℕ → ℕ → List ℕ
-page_after d numbers h resource page = (handed_of (ask_forgets d numbers (Alone h)).world).plain resource page
+page_after d numbers h resource page = (handed_of (played (forget_each d numbers) (Alone h)).world).plain resource page
 
 -- the pages after one resource was forgotten
 abbrev without : ℕ → ℕ → Handed → Handed
@@ -27,7 +28,7 @@ either_page false bytes is = is
 
 -- zeros stay zeros
 stay_zeros : (d : ℕ) (numbers : List ℕ) (h : Handed) (resource page : ℕ) → h.plain resource page ≡ zero_page → page_after d numbers h resource page ≡ zero_page
-unfolding ask_forgets ask_forget
+unfolding forget_each ask_forget
 stay_zeros d [] h resource page is = is
 stay_zeros d (n ∷ numbers) h resource page is =
     stay_zeros d numbers (without d n h) resource page
@@ -43,7 +44,7 @@ either_true false = refl
 
 -- the pages of a resource that is among these become zeros
 become_zeros : (d : ℕ) (numbers : List ℕ) (h : Handed) (resource page : ℕ) → list_any (λ (n : ℕ). nat_eq resource n) numbers ≡ true → page_after d numbers h resource page ≡ zero_page
-unfolding ask_forgets ask_forget is_of
+unfolding forget_each ask_forget is_of
 become_zeros d [] h resource page among = cc
 become_zeros d (n ∷ numbers) h resource page among = elim (cases_eq resource n) [
   | inl same ↦ stay_zeros d numbers (without d n h) resource page (rw (eq-eqb d d refl, eq-eqb resource n same) refl)

@@ -1,5 +1,5 @@
 -- The opening of a kernel that runs alone, and its report.
-use Rattle.std.proofs.Common.{◌≡◌, ◌<◌, ℕ, zero, suc, false, List, [], ◌∷◌, length, All, Option, None, Result, Ok, Err, refl, sym, arith, length-append, replicate, ◌≤◌, subst}
+use Rattle.std.proofs.Common.{◌≡◌, ◌<◌, ℕ, zero, suc, false, List, [], ◌∷◌, length, All, Option, None, Result, Ok, Err, refl, sym, arith, length-append, replicate, ◌≤◌}
 use Rattle.cloak_base.specs.declared.causes.Failed.{Failed}
 use Rattle.cloak_model.specs.Hart.{Hart, started}
 use Rattle.cloak_model.specs.KernelAlone as model

@@ -1,12 +1,12 @@
 -- What the memory of a kernel that runs alone answers: where an access leads, and what atomic instructions make of it.
-use Rattle.std.proofs.Common.{◌≡◌, ◌∙◌, ℕ, Bool, true, false, cond, List, [], ◌∷◌, length, Option, Some, None, Result, Ok, Err, refl, sym, ap, subst}
+use Rattle.std.proofs.Common.{◌≡◌, ◌∙◌, ℕ, Bool, true, false, cond, List, [], ◌∷◌, length, Option, None, Result, Ok, Err, sym, ap, subst}
 use Rattle.cloak_model.specs.declared.access.Access.{Access}
 use Rattle.cloak_model.specs.Events.{Look}
-use Rattle.cloak_model.specs.Memory.{Seen, filled, mark_of, stored, value_at, with_mark}
+use Rattle.cloak_model.specs.Memory.{Seen, filled, mark_of, stored, with_mark}
 use Rattle.cloak_model.specs.World.{World, Flat, is_clashed, ram_of, noted}
 use Rattle.cloak_model.specs.Walk.{Walk}
 use Rattle.cloak_model.specs.Asking.{Asking, Told, Follows, FollowsFrom, answered, then_ask}
-use Rattle.cloak_model.specs.Ask.{ask_walk, ask_inside, ask_translate, ask_led, ask_value, ask_unmark, ask_marked, is_reserved, stored_if, conditional_at}
+use Rattle.cloak_model.specs.Ask.{ask_walk, ask_in_ram, ask_translate, ask_led, ask_value, ask_unmark, ask_marked, is_reserved, stored_if, conditional_at}
 use Rattle.cloak_model.proofs.Later.{later_inside, later_led, unclashed_after_flat}
 use Rattle.cloak_model.proofs.Following.{then_follows}
 use Rattle.alone_views.specs.declared.kernel_ram.FlatRam.{FlatRam}
@@ -17,23 +17,23 @@ same_length old new same = sym (ap (λ (w : World). length (ram_of w)) same)
 
 -- what follows a walk and then the test of the address follows the translation
 pub follows_translate : (old new : FlatRam) (satp : ℕ) (a : Access) (walk : Walk) (given : Result ℕ ℕ) →
-    Follows IsWorld old new walk (ask_walk satp a) → given ≡ (ask_inside a walk (Flat (seen_by new))).answer →
+    Follows IsWorld old new walk (ask_walk satp a) → given ≡ (ask_in_ram a walk (Flat (seen_by new))).answer →
     Follows IsWorld old new given (ask_translate satp a)
-unfolding ask_translate ask_inside
+unfolding ask_translate ask_in_ram
 follows_translate old new satp a walk given follows answer =
-    then_follows IsWorld old new new walk given (ask_walk satp a) (ask_inside a) (λ x w. later_inside a x w) follows
+    then_follows IsWorld old new new walk given (ask_walk satp a) (ask_in_ram a) (λ x w. later_inside a x w) follows
     (tested walk answer)
   where
     unmoved : (w : World) (r : Result ℕ ℕ) (walk : Walk) → w ≡ Flat (seen_by new) →
-        r ≡ (ask_inside a walk (Flat (seen_by new))).answer → FollowsFrom (IsWorld new) new r (ask_inside a walk w)
+        r ≡ (ask_in_ram a walk (Flat (seen_by new))).answer → FollowsFrom (IsWorld new) new r (ask_in_ram a walk w)
     unmoved w r (Err cause) stands is = record { answer = is; stands = stands }
     unmoved w r (Ok walked) stands is = record {
-      answer = is ∙ ap (λ (v : World). (ask_inside a (Ok walked) v).answer) (sym stands);
+      answer = is ∙ ap (λ (v : World). (ask_in_ram a (Ok walked) v).answer) (sym stands);
       stands = stands;
     }
 
-    tested : (walk : Walk) → given ≡ (ask_inside a walk (Flat (seen_by new))).answer →
-        Follows IsWorld new new given (ask_inside a walk)
+    tested : (walk : Walk) → given ≡ (ask_in_ram a walk (Flat (seen_by new))).answer →
+        Follows IsWorld new new given (ask_in_ram a walk)
     tested walk is first w stands unclashed = unmoved w given walk stands is
 
 -- frames without cloaked pages note nothing

@@ -14,7 +14,7 @@ use Rattle.step_parts.proofs.Same.{same_step}
 use Rattle.step_parts.proofs.StepLater.{later_step_in_parts}
 use Rattle.cloak_model.proofs.Later.{IsLater}
 use Rattle.alone_views.specs.KernelChanges.{ChangesTo}
-use Rattle.alone_views.specs.KernelEnding.{EndsAs, ending_in, is_end, plain_ending}
+use Rattle.alone_views.specs.KernelEnding.{EndsAs, ending_in, plain_ending}
 use Rattle.alone_views.specs.KernelPlaces.{stood_place}
 use Rattle.alone_views.specs.KernelStanding.{StandsForKernel, state_with}
 use Rattle.alone_views.specs.declared.kernel.KernelAlone.{KernelAlone}

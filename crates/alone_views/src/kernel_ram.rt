@@ -47,7 +47,7 @@ impl FlatRam {
     }
 
     /// The address in RAM where an access leads, by the page tables. Err is the cause of its fault.
-    #[tactic(auto, using(cloak_model::proofs::Later::laters), unfolding(cloak_model::specs::Ask::ask_translate, cloak_model::specs::Ask::ask_inside))]
+    #[tactic(auto, using(cloak_model::proofs::Later::laters), unfolding(cloak_model::specs::Ask::ask_translate, cloak_model::specs::Ask::ask_in_ram))]
     fn led(&mut self, satp: u32, access: Access) -> Result<u32, u32>
         ensures follows { Follows IsWorld self.old self.new result (ask.ask_translate satp access) }
         ensures inside { IfOk result (λ pa. IsTrue (is_in_frames (length self.old.frames.items) pa)) }

@@ -1,5 +1,5 @@
 -- A step of a program leaves all calm, or it is stopped at a page for which it asks.
-use Rattle.std.proofs.Common.{◌≡◌, ◌⊎◌, ◌%◌, ℕ, Bool, true, false, cond, nat_le, List, Option, Some, None, Result, Ok, Err, refl, ap, inl, inr}
+use Rattle.std.proofs.Common.{◌≡◌, ◌⊎◌, ◌%◌, ℕ, Bool, true, false, cond, nat_le, Option, Some, None, refl, ap, sym, subst, inl, inr}
 use Rattle.std.specs.Prelude.{◌==◌}
 use Rattle.std.proofs.lemmas.Bool.{leb-false, eqb-true}
 use Rattle.cloak_base.specs.declared.names.Kind.{Kind}
@@ -25,380 +25,303 @@ use Rattle.cloak_model.specs.declared.inside.Ran.TheVariants as ran
 use Rattle.cloak_model.specs.declared.inside.Went.TheVariants as went
 use Rattle.cloak_model.specs.declared.outcome.Effect.{Effect}
 use Rattle.cloak_model.specs.declared.outcome.Effect.TheVariants as does
-use Rattle.cloak_model.specs.declared.resource.MapFault.{MapFault}
 use Rattle.cloak_model.specs.Asking.{Told, answered}
 use Rattle.cloak_model.specs.AskPages.{ask_reach, ask_read, ask_get}
+use Rattle.cloak_model.specs.Calls as calls
 use Rattle.cloak_model.specs.Calls.{Copy, buffer, area, call_length, byte_address, is_cloaked, copy_in_step, copy_out_step}
-use Rattle.cloak_model.proofs.CallParts.{in_put, in_reached, in_placed, in_step, out_reached, out_got, out_placed, out_step}
-use Rattle.cloak_model.specs.Contexts.{Context}
+use Rattle.cloak_model.proofs.CallParts.{in_placed, in_step, out_placed, out_step}
+use Rattle.cloak_model.specs.Contexts.{Context, word_of_page, is_reserved}
 use Rattle.cloak_model.specs.DomainState.{Control, Domain}
 use Rattle.cloak_model.specs.DomainStep.{DomainStepped, instruction_ended, copy_ended, after_write, phase_step}
 use Rattle.cloak_model.specs.Effect.{effect}
-use Rattle.cloak_model.specs.Fork.{fork, end_context}
-use Rattle.cloak_model.proofs.ForkParts.{fork_cleared, fork_if, end_cleared, end_if}
-use Rattle.cloak_model.specs.Hypercalls.{Hypercall, ForkSpace, Exit, fork_call, exit_call, hypercall, hypercall_of}
-use Rattle.cloak_model.specs.InsideStep.{AfterInstruction, load_inside, store_inside, atomic_granted, atomic_placed, traps, atomic_inside, system_inside, done_inside, decoded_inside, fetch, instruction_inside}
-use Rattle.cloak_model.proofs.InsideParts.{loaded_inside, load_reached, load_got, store_reached, store_put, conditional_inside, atomic_reached, executed_inside, fetched_inside}
+use Rattle.cloak_model.specs.Hypercalls.{Hypercall, Stepped, hypercall, hypercall_of}
+use Rattle.cloak_model.proofs.Playing.{by_plain, by_copy_in, by_copy_out, by_ecall}
+use Rattle.hypercall_kinds.specs.Kinds.{CallKind, Stops, Forks, EndsSpace, after}
+use Rattle.hypercall_kinds.proofs.ByKinds.{by_kinds}
+use Rattle.cloak_model.specs.InsideStep.{AfterInstruction, if_reached, if_got, load_inside, store_inside, atomic_granted, atomic_placed, atomic_inside, system_inside, done_inside, decoded_inside, fetch, instruction_inside}
 use Rattle.cloak_model.specs.Joint.{pages_for}
-use Rattle.cloak_model.specs.KernelStep.{atomic_kind, misaligned}
+use Rattle.cloak_model.specs.KernelStep.{atomic_kind}
 use Rattle.cloak_model.specs.Memory.{value_in}
-use Rattle.cloak_model.specs.Resources.{Resources, page_at}
-use Rattle.cloak_model.specs.World.{World, Cloak, Cloaked, regime_of, plain_of}
+use Rattle.cloak_model.specs.World.{World, MidStep, Cloaked, regime_of, plain_of}
 use Rattle.domain_isolation.proofs.Answers.{question_answered}
-use Rattle.script_fold.proofs.Scripts.{Question, Reach, Get}
+use Rattle.cloak_model.specs.Script.{Question, Reach, Get, Put, Clear, Script, Gives, Asks, Reads, Changes, asked, changed, played}
+use Rattle.script_fold.proofs.Scripts.{EndClaims, IsStop, EndsSo}
+use Rattle.script_fold.proofs.InstructionScripts.{of_instruction, instruction_scripted}
+use Rattle.script_fold.proofs.CopyScripts.{of_copy, copy_in_scripted, copy_out_scripted}
 use Rattle.cause_law.specs.Presented.{Executes, AsksAt, Fetches, LoadsAt, StoresAt, AtomicAt, CopiesFrom, CopiesTo}
-use Rattle.cause_law.proofs.Asked.{Calm, Met, Calms, Calms-refl, Calms-trans, CalmOrMet, asked_meets, calms_asks_get, calms_asks_put, calms_asks_clear, calms_writes, calms_copies, calms_forgets, is_cloaked_calm}
+use Rattle.cause_law.proofs.Asked.{Calm, Met, Calms, Calms-refl, Calms-trans, CalmOrMet, asked_meets, calms_asks_get, calms_asks_put, calms_asks_clear, calms_changed, calms_copies, calms_forgets, is_cloaked_calm}
 
--- A context's step found a page for which it asks in another frame.
+-- A context's step asks for a page.
+pub record AskedIn (d : Domain) (c : Context) (begun : World) (q : PageId) (va : ℕ) (kind : Kind) (w : World) :
+    Type 0 where
+  pub lies : pages_for d (Some c) va ≡ Some q
+  pub regime : regime_of w ≡ regime_of begun
+  pub asks : AsksAt d c begun va kind w
+
+-- It found a page for which it asks in another frame.
 pub record MetIn (d : Domain) (c : Context) (begun v : World) : Type 0 where
   pub page : PageId
   pub va : ℕ
   pub kind : Kind
-  pub lies : pages_for d (Some c) va ≡ Some page
-  pub at : Cloak
-  pub regime : at.regime ≡ regime_of begun
-  pub asks : AsksAt d c begun va kind (Cloaked at)
+  pub at : MidStep
+  pub asked : AskedIn d c begun page va kind (Cloaked at)
   pub met : Met page va kind at v
 
 -- It leaves all calm, or was stopped so.
 abbrev pub EndsCalmOrMet : {A : Type 0} → (A → Type 0) → Domain → Context → World → Told A → Type 0
 EndsCalmOrMet stopped d c begun t = Calm t.world ⊎ (stopped t.answer × MetIn d c begun t.world)
 
-abbrev IsStoppedRun : AfterInstruction → Type 0
-IsStoppedRun made = made.ending ≡ ran.Stopped
-
-abbrev IsStoppedCopy : Copy → Type 0
-IsStoppedCopy made = made.ending ≡ copied.Stopped
-
 abbrev pub IsStoppedStep : DomainStepped → Type 0
 IsStoppedStep made = made.went ≡ went.Stopped
 
--- how a question ended that a step asked, by its answer and the memory after it
-abbrev Goes : Domain → Context → World → Answer → World → Type 0
-Goes d c begun a w = Calm w ⊎ ((a ≡ told.Stopped) × MetIn d c begun w)
-
-met_in : (d : Domain) (c : Context) (begun : World) (q : PageId) (va : ℕ) (kind : Kind) (k : Cloak) →
-    pages_for d (Some c) va ≡ Some q → k.regime ≡ regime_of begun → AsksAt d c begun va kind (Cloaked k) →
-    (t : Told Answer) → CalmOrMet q va kind k t → Goes d c begun t.answer t.world
-met_in d c begun q va kind k lies regime asks t (inl calm) = inl calm
-met_in d c begun q va kind k lies regime asks t (inr met) = inr (
-  met.0,
-  record { page = q; va = va; kind = kind; lies = lies; at = k; regime = regime; asks = asks; met = met.1 },
-)
-
-asks_goes : (d : Domain) (c : Context) (begun w : World) (q : PageId) (va : ℕ) (kind : Kind) →
-    pages_for d (Some c) va ≡ Some q → regime_of w ≡ regime_of begun → AsksAt d c begun va kind w → Calm w →
-    let t = ask_reach q va kind w in Goes d c begun t.answer t.world
-asks_goes d c begun (Cloaked k) q va kind lies regime asks calm =
-    met_in d c begun q va kind k lies regime asks _ (asked_meets q va kind k calm)
-asks_goes d c begun _ q va kind lies regime asks calm = absurd calm
-
 reach_regime : (q : PageId) (va : ℕ) (kind : Kind) (w : World) → Calm w → regime_of (ask_reach q va kind w).world ≡ regime_of w
 reach_regime q va kind w calm =
-    let question : Question q.domain = Reach q refl va kind in
-    (question_answered question w (is_cloaked_calm w calm)).replied.regime
+    (question_answered q.domain (Reach q va kind) w (is_cloaked_calm w calm)).replied.regime
 
 get_regime : (va width : ℕ) (w : World) → Calm w → regime_of (ask_get va width w).world ≡ regime_of w
 get_regime va width w calm =
-    let question : Question 0 = Get va width in
-    (question_answered question w (is_cloaked_calm w calm)).replied.regime
+    (question_answered 0 (Get va width) w (is_cloaked_calm w calm)).replied.regime
 
--- Loads and stores.
+module _ (d : Domain) (c : Context) (begun : World) where
+  abbrev IsAsked : Question → World → Type 0
+  IsAsked (Reach q va kind) w = AskedIn d c begun q va kind w
+  IsAsked _ w = Unit {0}
 
-load_goes : (d : Domain) (c : Context) (begun : World) (q : PageId) (rd va width : ℕ) (is_signed : Bool) (a : Answer)
-    (w : World) → Goes d c begun a w →
-    EndsCalmOrMet IsStoppedRun d c begun (load_reached c q rd va width is_signed a w)
-unfolding ask_read
-load_goes d c begun q rd va width is_signed a w (inl calm) = inl (calm_by a)
-  where
-    calm_by : (a : Answer) → Calm (load_reached c q rd va width is_signed a w).world
-    calm_by told.Ok = calm
-    calm_by (told.Absent cause) = calm
-    calm_by (told.Word value) = calm
-    calm_by told.Stopped = calm
-load_goes d c begun q rd va width is_signed told.Stopped w (inr met) = inr (refl, met.1)
-load_goes d c begun q rd va width is_signed told.Ok w (inr met) = let is = met.0 in absurd cc
-load_goes d c begun q rd va width is_signed (told.Absent cause) w (inr met) = let is = met.0 in absurd cc
-load_goes d c begun q rd va width is_signed (told.Word value) w (inr met) = let is = met.0 in absurd cc
+  -- each page that a script reaches in a world is one for which the step asks
+  abbrev Reaches : {A : Type 0} → Script A → World → Type 0
+  Reaches (Gives a) w = Unit {0}
+  Reaches (Asks question more) w =
+      IsAsked question w × Reaches (more (asked question w).answer) (asked question w).world
+  Reaches (Reads q at width more) w = Reaches (more (ask_read q at width w).answer) (ask_read q at width w).world
+  Reaches (Changes change more) w = Reaches more (changed change w).world
 
-store_goes : (d : Domain) (c : Context) (begun : World) (q : PageId) (va width value : ℕ) (a : Answer) (w : World) →
-    Goes d c begun a w → EndsCalmOrMet IsStoppedRun d c begun (store_reached c q va width value a w)
-store_goes d c begun q va width value a w (inl calm) = inl (calm_by a)
-  where
-    calm_by : (a : Answer) → Calm (store_reached c q va width value a w).world
-    calm_by told.Ok = (calms_writes q (va % 4096) width value w).by calm
-    calm_by (told.Absent cause) = calm
-    calm_by (told.Word other) = calm
-    calm_by told.Stopped = calm
-store_goes d c begun q va width value told.Stopped w (inr met) = inr (refl, met.1)
-store_goes d c begun q va width value told.Ok w (inr met) = let is = met.0 in absurd cc
-store_goes d c begun q va width value (told.Absent cause) w (inr met) = let is = met.0 in absurd cc
-store_goes d c begun q va width value (told.Word other) w (inr met) = let is = met.0 in absurd cc
+  -- Such a script leaves all calm, or was stopped so.
 
-calms_load_got : (c : Context) (rd va width : ℕ) (is_signed : Bool) (a : Answer) (w : World) →
-    Calms w (load_got c rd va width is_signed a w).world
-calms_load_got c rd va width is_signed told.Ok w = Calms-refl w
-calms_load_got c rd va width is_signed _ w = Calms-refl w
+  stop_meets : {A : Type 0} (e : EndClaims A) (s : Script A) (w : World) → IsStop e s → MetIn d c begun w →
+      EndsCalmOrMet e.stopped d c begun (played s w)
+  unfolding IsStop
+  stop_meets e (Gives a) w is met = inr (is, met)
+  stop_meets e _ w is met = absurd is
 
-calms_store_put : (c : Context) (va : ℕ) (a : Answer) (w : World) → Calms w (store_put c va a w).world
-calms_store_put c va told.Ok w = Calms-refl w
-calms_store_put c va _ w = Calms-refl w
+  reach_meets : {A : Type 0} (e : EndClaims A) (more : Answer → Script A) (q : PageId) (va : ℕ) (kind : Kind)
+      (k : MidStep) (t : Told Answer) → AskedIn d c begun q va kind (Cloaked k) → IsStop e (more told.Stopped) →
+      CalmOrMet q va kind k t →
+      (Calm t.world → EndsCalmOrMet e.stopped d c begun (played (more t.answer) t.world)) →
+      EndsCalmOrMet e.stopped d c begun (played (more t.answer) t.world)
+  reach_meets e more q va kind k t asked stops (inl calm) next = next calm
+  reach_meets e more q va kind k t asked stops (inr met) next =
+      stop_meets e (more t.answer) t.world (subst (λ (a : Answer). IsStop e (more a)) (sym met.0) stops)
+      (record { page = q; va = va; kind = kind; at = k; asked = asked; met = met.1 })
 
-load_meets : (d : Domain) (c : Context) (begun : World) (rd va width : ℕ) (is_signed : Bool) (o : Option PageId)
-    (w : World) → pages_for d (Some c) va ≡ o → regime_of w ≡ regime_of begun → AsksAt d c begun va Load w → Calm w →
-    EndsCalmOrMet IsStoppedRun d c begun (load_inside c rd va width is_signed o w)
-unfolding load_inside
-load_meets d c begun rd va width is_signed None w lies regime asks calm =
-    inl ((Calms-trans _ _ _ (calms_asks_get va width w) (calms_load_got c rd va width is_signed _ _)).by calm)
-load_meets d c begun rd va width is_signed (Some q) w lies regime asks calm =
-    load_goes d c begun q rd va width is_signed _ _ (asks_goes d c begun w q va Load lies regime asks calm)
+  script_meets : {A : Type 0} (e : EndClaims A) (s : Script A) (w : World) → EndsSo e s → Reaches s w → Calm w →
+      EndsCalmOrMet e.stopped d c begun (played s w)
+  unfolding EndsSo ask_read
+  script_meets e (Gives a) w ends asks calm = inl calm
+  script_meets e (Asks (Reach q va kind) more) (Cloaked k) ends asks calm =
+      let t = ask_reach q va kind (Cloaked k) in
+      reach_meets e more q va kind k t asks.0 ends.1 (asked_meets q va kind k calm)
+      (λ still. script_meets e (more t.answer) t.world (ends.0 t.answer) asks.1 still)
+  script_meets e (Asks (Reach q va kind) more) _ ends asks calm = absurd calm
+  script_meets e (Asks (Get va width) more) w ends asks calm =
+      script_meets e (more _) _ (ends.0 _) asks.1 ((calms_asks_get va width w).by calm)
+  script_meets e (Asks (Put va width value) more) w ends asks calm =
+      script_meets e (more _) _ (ends.0 _) asks.1 ((calms_asks_put va width value w).by calm)
+  script_meets e (Asks (Clear domain marked) more) w ends asks calm =
+      script_meets e (more _) _ (ends.0 _) asks.1 ((calms_asks_clear domain marked w).by calm)
+  script_meets e (Reads q at width more) w ends asks calm = script_meets e (more _) w (ends _) asks calm
+  script_meets e (Changes change more) w ends asks calm =
+      script_meets e more _ ends asks ((calms_changed change w).by calm)
 
-store_meets : (d : Domain) (c : Context) (begun : World) (va width value : ℕ) (o : Option PageId) (w : World) →
-    pages_for d (Some c) va ≡ o → regime_of w ≡ regime_of begun → AsksAt d c begun va Store w → Calm w →
-    EndsCalmOrMet IsStoppedRun d c begun (store_inside c va width value o w)
-unfolding store_inside
-store_meets d c begun va width value None w lies regime asks calm =
-    inl ((Calms-trans _ _ _ (calms_asks_put va width value w) (calms_store_put c va _ _)).by calm)
-store_meets d c begun va width value (Some q) w lies regime asks calm =
-    store_goes d c begun q va width value _ _ (asks_goes d c begun w q va Store lies regime asks calm)
+  -- Instructions.
 
--- Instructions.
+  -- a question, and what follows its answer
+  reached_asks : (question : Question) (made : Context) (va : ℕ) (next : Script AfterInstruction) (w : World) →
+      IsAsked question w → ((asked question w).answer ≡ told.Ok → Reaches next (asked question w).world) →
+      Reaches (Asks question (λ answer. if_reached made va answer next)) w
+  reached_asks question made va next w asks more = (asks, by (asked question w).answer refl)
+    where
+      by : (a : Answer) → (asked question w).answer ≡ a → Reaches (if_reached made va a next) (asked question w).world
+      by told.Ok is = more is
+      by _ is = tt
 
-calms_system : (c : Context) (i : Instr) (w : World) → Calms w (system_inside c i w).world
-unfolding system_inside
-calms_system c Ecall w = Calms-refl w
-calms_system c Ebreak w = Calms-refl w
-calms_system c i w = Calms-refl w
+  got_asks : (c : Context) (va : ℕ) (a : Answer) (next : ℕ → Script AfterInstruction) (w : World) →
+      ((value : ℕ) → Reaches (next value) w) → Reaches (if_got c va a next) w
+  got_asks c va (told.Word value) next w more = more value
+  got_asks c va _ next w more = tt
 
-done_meets : (d : Domain) (c : Context) (begun : World) (word : ℕ) (i : Instr) (e : Effect) (w : World) →
-    Executes d c begun word w → instruction word ≡ Some i → effect i c.regs c.pc ≡ e → regime_of w ≡ regime_of begun →
-    Calm w →
-    EndsCalmOrMet IsStoppedRun d c begun (done_inside d.control.number d.control.resources c i e w)
-unfolding done_inside
-done_meets d c begun word i (does.Load rd va width is_signed) w runs found is regime calm =
-    load_meets d c begun rd va width is_signed _ w refl regime (LoadsAt word i runs found rd width is_signed is refl) calm
-done_meets d c begun word i (does.Store va width value) w runs found is regime calm =
-    store_meets d c begun va width value _ w refl regime (StoresAt word i runs found width value is refl) calm
-done_meets d c begun word i does.System w runs found is regime calm = inl ((calms_system c i w).by calm)
-done_meets d c begun word i _ w runs found is regime calm = inl calm
+  either_asks : (test : Bool) (s t : Script AfterInstruction) (w : World) → (test ≡ true → Reaches s w) → Reaches t w →
+      Reaches (cond test s t) w
+  either_asks true s t w first second = first refl
+  either_asks false s t w first second = second
 
--- Atomic instructions.
+  load_asks : (rd va width : ℕ) (is_signed : Bool) (o : Option PageId) (w : World) → pages_for d (Some c) va ≡ o →
+      regime_of w ≡ regime_of begun → AsksAt d c begun va Load w → Reaches (load_inside c rd va width is_signed o) w
+  unfolding load_inside
+  load_asks rd va width is_signed None w lies regime asks =
+      (tt, got_asks c va (ask_get va width w).answer _ _ (λ value. tt))
+  load_asks rd va width is_signed (Some q) w lies regime asks =
+      reached_asks (Reach q va Load) c va _ w (record { lies = lies; regime = regime; asks = asks }) (λ ok. tt)
 
-calms_conditional : (reserved : Bool) (c : Context) (rd : ℕ) (q : PageId) (va operand : ℕ) (w : World) →
-    Calms w (conditional_inside reserved c rd q va operand w).world
-calms_conditional true c rd q va operand w = calms_writes q (va % 4096) 4 operand w
-calms_conditional false c rd q va operand w = Calms-refl w
+  store_asks : (va width value : ℕ) (o : Option PageId) (w : World) → pages_for d (Some c) va ≡ o →
+      regime_of w ≡ regime_of begun → AsksAt d c begun va Store w → Reaches (store_inside c va width value o) w
+  unfolding store_inside
+  store_asks va width value None w lies regime asks = reached_asks (Put va width value) c va _ w tt (λ ok. tt)
+  store_asks va width value (Some q) w lies regime asks =
+      reached_asks (Reach q va Store) c va _ w (record { lies = lies; regime = regime; asks = asks }) (λ ok. tt)
 
-calms_granted : (c : Context) (rd : ℕ) (op : AtomicOp) (q : PageId) (va operand : ℕ) (w : World) →
-    Calms w (atomic_granted c rd op q va operand w).world
-unfolding atomic_granted ask_read
-calms_granted c rd Lr q va operand w = Calms-refl w
-calms_granted c rd Sc q va operand w = calms_conditional _ c rd q va operand w
-calms_granted c rd op q va operand w = calms_writes q (va % 4096) 4 _ w
+  system_asks : (i : Instr) (w : World) → Reaches (system_inside c i) w
+  unfolding system_inside
+  system_asks Ecall w = tt
+  system_asks Ebreak w = tt
+  system_asks i w = tt
 
-atomic_goes : (d : Domain) (c : Context) (begun : World) (rd : ℕ) (op : AtomicOp) (q : PageId) (va operand : ℕ)
-    (a : Answer) (w : World) → Goes d c begun a w →
-    EndsCalmOrMet IsStoppedRun d c begun (atomic_reached c rd op q va operand a w)
-atomic_goes d c begun rd op q va operand a w (inl calm) = inl (calm_by a)
-  where
-    calm_by : (a : Answer) → Calm (atomic_reached c rd op q va operand a w).world
-    calm_by told.Ok = (calms_granted c rd op q va operand w).by calm
-    calm_by (told.Absent cause) = calm
-    calm_by (told.Word value) = calm
-    calm_by told.Stopped = calm
-atomic_goes d c begun rd op q va operand told.Stopped w (inr met) = inr (refl, met.1)
-atomic_goes d c begun rd op q va operand told.Ok w (inr met) = let is = met.0 in absurd cc
-atomic_goes d c begun rd op q va operand (told.Absent cause) w (inr met) = let is = met.0 in absurd cc
-atomic_goes d c begun rd op q va operand (told.Word value) w (inr met) = let is = met.0 in absurd cc
+  done_asks : (word : ℕ) (i : Instr) (e : Effect) (w : World) → Executes d c begun word w →
+      instruction word ≡ Some i → effect i c.regs c.pc ≡ e → regime_of w ≡ regime_of begun →
+      Reaches (done_inside d.control.number d.control.resources c i e) w
+  unfolding done_inside
+  done_asks word i (does.Load rd va width is_signed) w runs found is regime =
+      load_asks rd va width is_signed _ w refl regime (LoadsAt word i runs found rd width is_signed is refl)
+  done_asks word i (does.Store va width value) w runs found is regime =
+      store_asks va width value _ w refl regime (StoresAt word i runs found width value is refl)
+  done_asks word i does.System w runs found is regime = system_asks i w
+  done_asks word i _ w runs found is regime = tt
 
-placed_meets : (d : Domain) (c : Context) (begun : World) (rd : ℕ) (op : AtomicOp) (va operand : ℕ)
-    (o : Option PageId) (w : World) → pages_for d (Some c) va ≡ o → regime_of w ≡ regime_of begun →
-    AsksAt d c begun va (atomic_kind op) w → Calm w →
-    EndsCalmOrMet IsStoppedRun d c begun (atomic_placed c rd op va operand o w)
-unfolding atomic_placed
-placed_meets d c begun rd op va operand None w lies regime asks calm = inl calm
-placed_meets d c begun rd op va operand (Some q) w lies regime asks calm =
-    atomic_goes d c begun rd op q va operand _ _ (asks_goes d c begun w q va (atomic_kind op) lies regime asks calm)
+  granted_asks : (rd : ℕ) (op : AtomicOp) (q : PageId) (va operand : ℕ) (w : World) →
+      Reaches (atomic_granted c rd op q va operand) w
+  unfolding atomic_granted
+  granted_asks rd Lr q va operand w = tt
+  granted_asks rd Sc q va operand w = either_asks (is_reserved (word_of_page q va) c.mark) _ _ w (λ is. tt) tt
+  granted_asks rd op q va operand w = tt
 
-aligned_meets : (aligned : Bool) (d : Domain) (c : Context) (begun : World) (word : ℕ) (a : Atomic) (w : World) →
-    let va = register c.regs a.rs1 in
-    (va % 4 == 0) ≡ aligned → Executes d c begun word w → atomic_instruction word ≡ Some a →
-    regime_of w ≡ regime_of begun → Calm w →
-    EndsCalmOrMet IsStoppedRun d c begun (cond aligned
-    (atomic_placed c a.rd a.op va (register c.regs a.rs2) (page_at d.control.number d.control.resources c.space va) w)
-    (traps c (misaligned a.op) va w))
-aligned_meets true d c begun word a w is runs found regime calm =
-    let va = register c.regs a.rs1 in
-    placed_meets d c begun a.rd a.op va (register c.regs a.rs2) _ w refl regime
-    (AtomicAt word a runs found refl (eqb-true (va % 4) 0 is) refl) calm
-aligned_meets false d c begun word a w is runs found regime calm = inl calm
+  placed_asks : (rd : ℕ) (op : AtomicOp) (va operand : ℕ) (o : Option PageId) (w : World) →
+      pages_for d (Some c) va ≡ o → regime_of w ≡ regime_of begun → AsksAt d c begun va (atomic_kind op) w →
+      Reaches (atomic_placed c rd op va operand o) w
+  unfolding atomic_placed
+  placed_asks rd op va operand None w lies regime asks = tt
+  placed_asks rd op va operand (Some q) w lies regime asks =
+      reached_asks (Reach q va (atomic_kind op)) c va _ w (record { lies = lies; regime = regime; asks = asks })
+      (λ ok. granted_asks rd op q va operand _)
 
-atomic_meets : (d : Domain) (c : Context) (begun : World) (word : ℕ) (o : Option Atomic) (w : World) →
-    Executes d c begun word w → atomic_instruction word ≡ o → regime_of w ≡ regime_of begun → Calm w →
-    EndsCalmOrMet IsStoppedRun d c begun (atomic_inside d.control.number d.control.resources c o w)
-unfolding atomic_inside
-atomic_meets d c begun word None w runs found regime calm = inl calm
-atomic_meets d c begun word (Some a) w runs found regime calm =
-    aligned_meets _ d c begun word a w refl runs found regime calm
+  atomic_asks : (word : ℕ) (o : Option Atomic) (w : World) → Executes d c begun word w →
+      atomic_instruction word ≡ o → regime_of w ≡ regime_of begun →
+      Reaches (atomic_inside d.control.number d.control.resources c o) w
+  unfolding atomic_inside
+  atomic_asks word None w runs is regime = tt
+  atomic_asks word (Some a) w runs is regime =
+      let va = register c.regs a.rs1 in
+      either_asks (va % 4 == 0) _ _ w (λ aligned. placed_asks a.rd a.op va (register c.regs a.rs2) _ w refl regime
+      (AtomicAt word a runs is refl (eqb-true (va % 4) 0 aligned) refl)) tt
 
-decoded_meets : (d : Domain) (c : Context) (begun : World) (word : ℕ) (o : Option Instr) (w : World) →
-    Executes d c begun word w → instruction word ≡ o → regime_of w ≡ regime_of begun → Calm w →
-    EndsCalmOrMet IsStoppedRun d c begun (decoded_inside d.control.number d.control.resources c word o w)
-unfolding decoded_inside
-decoded_meets d c begun word None w runs found regime calm =
-    atomic_meets d c begun word (atomic_instruction word) w runs refl regime calm
-decoded_meets d c begun word (Some i) w runs found regime calm =
-    done_meets d c begun word i _ w runs found refl regime calm
+  decoded_asks : (word : ℕ) (o : Option Instr) (w : World) → Executes d c begun word w → instruction word ≡ o →
+      regime_of w ≡ regime_of begun → Reaches (decoded_inside d.control.number d.control.resources c word o) w
+  unfolding decoded_inside
+  decoded_asks word None w runs found regime = atomic_asks word _ w runs refl regime
+  decoded_asks word (Some i) w runs found regime = done_asks word i _ w runs found refl regime
 
-fetched_goes : (d : Domain) (c : Context) (begun : World) (q : PageId) (a : Answer) (w : World) → c.phase ≡ Plain →
-    pages_for d (Some c) c.pc ≡ Some q → ask_reach q c.pc Fetch begun ≡ record { answer = a; world = w } →
-    regime_of w ≡ regime_of begun → Goes d c begun a w →
-    EndsCalmOrMet IsStoppedRun d c begun (fetched_inside d.control.number d.control.resources c q a w)
-unfolding ask_read
-fetched_goes d c begun q told.Ok w plain lies granted regime (inl calm) =
-    decoded_meets d c begun (value_in (plain_of w q) (c.pc % 4096) 4) _ w
-    (record { plain = plain; page = q; lies = lies; granted = granted; has = refl }) refl regime calm
-fetched_goes d c begun q (told.Absent cause) w plain lies granted regime (inl calm) = inl calm
-fetched_goes d c begun q (told.Word value) w plain lies granted regime (inl calm) = inl calm
-fetched_goes d c begun q told.Stopped w plain lies granted regime (inl calm) = inl calm
-fetched_goes d c begun q told.Stopped w plain lies granted regime (inr met) = inr (refl, met.1)
-fetched_goes d c begun q told.Ok w plain lies granted regime (inr met) = let is = met.0 in absurd cc
-fetched_goes d c begun q (told.Absent cause) w plain lies granted regime (inr met) = let is = met.0 in absurd cc
-fetched_goes d c begun q (told.Word value) w plain lies granted regime (inr met) = let is = met.0 in absurd cc
+  fetch_asks : (o : Option PageId) → c.phase ≡ Plain → pages_for d (Some c) c.pc ≡ o → Calm begun →
+      Reaches (fetch d.control.number d.control.resources c o) begun
+  unfolding fetch ask_read
+  fetch_asks None plain lies calm = tt
+  fetch_asks (Some q) plain lies calm =
+      let v = (ask_reach q c.pc Fetch begun).world in
+      reached_asks (Reach q c.pc Fetch) c c.pc _ begun
+      (record { lies = lies; regime = refl; asks = Fetches plain refl refl refl })
+      (λ ok. decoded_asks (value_in (plain_of v q) (c.pc % 4096) 4) _ v (record {
+        plain = plain;
+        page = q;
+        lies = lies;
+        granted = ap (λ (a : Answer). let t : Told Answer = record { answer = a; world = v } in t) ok;
+        has = refl;
+      }) refl (reach_regime q c.pc Fetch begun calm))
 
-fetch_meets : (d : Domain) (c : Context) (begun : World) (o : Option PageId) → c.phase ≡ Plain →
-    pages_for d (Some c) c.pc ≡ o → Calm begun →
-    EndsCalmOrMet IsStoppedRun d c begun (fetch d.control.number d.control.resources c o begun)
-unfolding fetch
-fetch_meets d c begun None plain lies calm = inl calm
-fetch_meets d c begun (Some q) plain lies calm =
-    fetched_goes d c begun q _ _ plain lies refl (reach_regime q c.pc Fetch begun calm)
-    (asks_goes d c begun begun q c.pc Fetch lies refl (Fetches plain refl refl refl) calm)
+  -- Copies.
+
+  copy_asks : (question : Question) (va : ℕ) (next : Script Copy) (w : World) → IsAsked question w →
+      Reaches next (asked question w).world →
+      Reaches (Asks question (λ answer. calls.if_reached c va answer next)) w
+  copy_asks question va next w asks more = (asks, by (asked question w).answer)
+    where
+      by : (a : Answer) → Reaches (calls.if_reached c va a next) (asked question w).world
+      by told.Ok = more
+      by _ = tt
+
+  byte_asks : (va : ℕ) (a : Answer) (next : ℕ → Script Copy) (v : World) →
+      ((byte : ℕ) → a ≡ told.Word byte → Reaches (next byte) v) → Reaches (calls.if_got c va a next) v
+  byte_asks va (told.Word byte) next v more = more byte refl
+  byte_asks va _ next v more = tt
+
+  in_asks : (done : ℕ) (o : Option PageId) (cloaked : Bool) → c.phase ≡ CopyIn done →
+      nat_le (call_length c) done ≡ false → pages_for d (Some c) (byte_address (buffer c) done) ≡ o →
+      is_cloaked d.control.resources c (byte_address (area c) done) ≡ cloaked →
+      Reaches (in_placed c done o cloaked) begun
+  in_asks done None cloaked phase more lies is = tt
+  in_asks done (Some q) true phase more lies is = tt
+  in_asks done (Some q) false phase more lies is =
+      let from : ℕ = byte_address (buffer c) done in
+      copy_asks (Reach q from Load) from _ begun (record {
+        lies = lies;
+        regime = refl;
+        asks = CopiesFrom done phase (leb-false (call_length c) done more) refl is refl refl;
+      }) (copy_asks (Put (byte_address (area c) done) 1 _) (byte_address (area c) done) _ _ tt tt)
+
+  in_step_asks : (done : ℕ) (all : Bool) → c.phase ≡ CopyIn done → nat_le (call_length c) done ≡ all →
+      Reaches (in_step all d.control.number d.control.resources c done) begun
+  in_step_asks done true phase more = tt
+  in_step_asks done false phase more = in_asks done _ _ phase more refl refl
+
+  out_asks : (done total : ℕ) (o : Option PageId) (cloaked : Bool) → c.phase ≡ CopyOut done total →
+      nat_le total done ≡ false → pages_for d (Some c) (byte_address (buffer c) done) ≡ o →
+      is_cloaked d.control.resources c (byte_address (area c) done) ≡ cloaked → Calm begun →
+      Reaches (out_placed c done total o cloaked) begun
+  out_asks done total None cloaked phase more lies is calm = tt
+  out_asks done total (Some q) true phase more lies is calm = tt
+  out_asks done total (Some q) false phase more lies is calm =
+      let from : ℕ = byte_address (area c) done in
+      let v = (ask_get from 1 begun).world in (
+        tt,
+        byte_asks from (ask_get from 1 begun).answer _ v (λ byte got.
+            copy_asks (Reach q (byte_address (buffer c) done) Store) (byte_address (buffer c) done) _ v (record {
+              lies = lies;
+              regime = get_regime from 1 begun calm;
+              asks = CopiesTo done total byte phase (leb-false total done more) refl is
+                  (ap (λ (a : Answer). let t : Told Answer = record { answer = a; world = v } in t) got) refl;
+            }) tt),
+      )
+
+  out_step_asks : (done total : ℕ) (all : Bool) → c.phase ≡ CopyOut done total → nat_le total done ≡ all → Calm begun →
+      Reaches (out_step all d.control.number d.control.resources c done total) begun
+  out_step_asks done total true phase more calm = tt
+  out_step_asks done total false phase more calm = out_asks done total _ _ phase more refl refl calm
 
 -- Hypercalls.
 
-calms_fork_cleared : (domain : ℕ) (c : Context) (slot new : ℕ) (r : Resources) (contexts : List (Option Context))
-    (a : Answer) (w : World) → Calms w (fork_cleared domain c slot new r contexts a w).world
-calms_fork_cleared domain c slot new r contexts told.Ok w = calms_copies domain _ w
-calms_fork_cleared domain c slot new r contexts _ w = Calms-refl w
-
-calms_fork : (fits : Result (Unit {0}) MapFault) (domain : ℕ) (c : Context) (r : Resources)
-    (contexts : List (Option Context)) (w : World) → Calms w (fork_if fits domain c r contexts w).world
-calms_fork (Err fault) domain c r contexts w = Calms-refl w
-calms_fork (Ok fits) domain c r contexts w =
-    Calms-trans _ _ _ (calms_asks_clear domain _ w) (calms_fork_cleared domain c _ _ r contexts _ _)
-
-calms_end_cleared : (domain slot space : ℕ) (r : Resources) (contexts : List (Option Context)) (a : Answer) (w : World) →
-    Calms w (end_cleared domain slot space r contexts a w).world
-calms_end_cleared domain slot space r contexts told.Ok w = calms_forgets domain _ w
-calms_end_cleared domain slot space r contexts _ w = Calms-refl w
-
-calms_end : (others : Bool) (domain slot space : ℕ) (r : Resources) (contexts : List (Option Context)) (w : World) →
-    Calms w (end_if others domain slot space r contexts w).world
-calms_end true domain slot space r contexts w = Calms-refl w
-calms_end false domain slot space r contexts w =
-    Calms-trans _ _ _ (calms_asks_clear domain _ w) (calms_end_cleared domain slot space r contexts _ _)
-
-calms_hypercall : (call : Hypercall) (slot : ℕ) (c : Context) (d : Control) (w : World) →
-    Calms w (hypercall call slot c d w).world
-unfolding hypercall fork_call fork exit_call end_context
-calms_hypercall ForkSpace slot c d w = calms_fork _ d.number c d.resources d.contexts w
-calms_hypercall Exit slot c d w = calms_end _ d.number slot c.space d.resources d.contexts w
-calms_hypercall _ slot c d w = Calms-refl w
+calms_hypercall : (h : Hypercall) (slot : ℕ) (c : Context) (d : Control) (w : World) →
+    Calms w (played (hypercall h slot c d) w).world
+calms_hypercall h slot c d w = by_kinds (λ (t : Told Stepped). Calms w t.world) h slot c d w each
+  where
+    each : (k : CallKind h slot c d w) → Calms w (after h slot c d w k).world
+    each (Stops other) = calms_asks_clear d.number _ w
+    each (Forks free new is room slots spaces ok) =
+        Calms-trans _ _ _ (calms_asks_clear d.number _ w) (calms_copies d.number _ _)
+    each (EndsSpace is none ok) = Calms-trans _ _ _ (calms_asks_clear d.number _ w) (calms_forgets d.number _ _)
+    each _ = Calms-refl w
 
 ran_meets : (slot : ℕ) (d : Domain) (c made : Context) (begun : World) (e : Ran) (w : World) →
     Calm w ⊎ ((e ≡ ran.Stopped) × MetIn d c begun w) →
-    EndsCalmOrMet IsStoppedStep d c begun (instruction_ended slot d made e w)
+    EndsCalmOrMet IsStoppedStep d c begun (played (instruction_ended slot d made e) w)
 unfolding instruction_ended
 ran_meets slot d c made begun ran.Stay w (inl calm) = inl calm
 ran_meets slot d c made begun (ran.Loaded address value) w (inl calm) = inl calm
 ran_meets slot d c made begun (ran.Trap cause address) w (inl calm) = inl calm
 ran_meets slot d c made begun ran.Ecall w (inl calm) =
-    inl ((calms_hypercall (hypercall_of made) slot made d.control w).by calm)
+    by_ecall (EndsCalmOrMet IsStoppedStep d c begun) slot d made w
+    (inl ((calms_hypercall (hypercall_of made) slot made d.control w).by calm))
 ran_meets slot d c made begun ran.Stopped w (inl calm) = inl calm
 ran_meets slot d c made begun ran.Stopped w (inr met) = inr (refl, met.1)
 ran_meets slot d c made begun ran.Stay w (inr met) = let is = met.0 in absurd cc
 ran_meets slot d c made begun (ran.Loaded address value) w (inr met) = let is = met.0 in absurd cc
 ran_meets slot d c made begun (ran.Trap cause address) w (inr met) = let is = met.0 in absurd cc
 ran_meets slot d c made begun ran.Ecall w (inr met) = let is = met.0 in absurd cc
-
--- Copies.
-
-calms_in_put : (c : Context) (done byte : ℕ) (a : Answer) (w : World) → Calms w (in_put c done byte a w).world
-calms_in_put c done byte told.Ok w = Calms-refl w
-calms_in_put c done byte _ w = Calms-refl w
-
-in_goes : (d : Domain) (c : Context) (begun : World) (q : PageId) (done : ℕ) (a : Answer) (w : World) →
-    Goes d c begun a w → EndsCalmOrMet IsStoppedCopy d c begun (in_reached c q done a w)
-unfolding ask_read
-in_goes d c begun q done told.Ok w (inl calm) =
-    inl ((Calms-trans _ _ _ (calms_asks_put (byte_address (area c) done) 1 _ w) (calms_in_put c done _ _ _)).by calm)
-in_goes d c begun q done (told.Absent cause) w (inl calm) = inl calm
-in_goes d c begun q done (told.Word value) w (inl calm) = inl calm
-in_goes d c begun q done told.Stopped w (inl calm) = inl calm
-in_goes d c begun q done told.Stopped w (inr met) = inr (refl, met.1)
-in_goes d c begun q done told.Ok w (inr met) = let is = met.0 in absurd cc
-in_goes d c begun q done (told.Absent cause) w (inr met) = let is = met.0 in absurd cc
-in_goes d c begun q done (told.Word value) w (inr met) = let is = met.0 in absurd cc
-
-in_meets : (d : Domain) (c : Context) (begun : World) (done : ℕ) (o : Option PageId) (cloaked : Bool) →
-    c.phase ≡ CopyIn done → nat_le (call_length c) done ≡ false →
-    pages_for d (Some c) (byte_address (buffer c) done) ≡ o →
-    is_cloaked d.control.resources c (byte_address (area c) done) ≡ cloaked → Calm begun →
-    EndsCalmOrMet IsStoppedCopy d c begun (in_placed c done o cloaked begun)
-in_meets d c begun done None cloaked phase more lies is calm = inl calm
-in_meets d c begun done (Some q) true phase more lies is calm = inl calm
-in_meets d c begun done (Some q) false phase more lies is calm =
-    in_goes d c begun q done _ _ (asks_goes d c begun begun q (byte_address (buffer c) done) Load lies refl
-    (CopiesFrom done phase (leb-false (call_length c) done more) refl is refl refl) calm)
-
-in_step_meets : (d : Domain) (c : Context) (begun : World) (done : ℕ) (all : Bool) → c.phase ≡ CopyIn done →
-    nat_le (call_length c) done ≡ all → Calm begun →
-    EndsCalmOrMet IsStoppedCopy d c begun (in_step all d.control.number d.control.resources c done begun)
-in_step_meets d c begun done true phase more calm = inl calm
-in_step_meets d c begun done false phase more calm = in_meets d c begun done _ _ phase more refl refl calm
-
-out_goes : (d : Domain) (c : Context) (begun : World) (q : PageId) (done total byte : ℕ) (a : Answer) (w : World) →
-    Goes d c begun a w → EndsCalmOrMet IsStoppedCopy d c begun (out_reached c q done total byte a w)
-out_goes d c begun q done total byte told.Ok w (inl calm) =
-    inl ((calms_writes q (byte_address (buffer c) done % 4096) 1 byte w).by calm)
-out_goes d c begun q done total byte (told.Absent cause) w (inl calm) = inl calm
-out_goes d c begun q done total byte (told.Word value) w (inl calm) = inl calm
-out_goes d c begun q done total byte told.Stopped w (inl calm) = inl calm
-out_goes d c begun q done total byte told.Stopped w (inr met) = inr (refl, met.1)
-out_goes d c begun q done total byte told.Ok w (inr met) = let is = met.0 in absurd cc
-out_goes d c begun q done total byte (told.Absent cause) w (inr met) = let is = met.0 in absurd cc
-out_goes d c begun q done total byte (told.Word value) w (inr met) = let is = met.0 in absurd cc
-
-got_goes : (d : Domain) (c : Context) (begun : World) (q : PageId) (done total : ℕ) (a : Answer) (w : World) →
-    c.phase ≡ CopyOut done total → nat_le total done ≡ false →
-    pages_for d (Some c) (byte_address (buffer c) done) ≡ Some q →
-    is_cloaked d.control.resources c (byte_address (area c) done) ≡ false →
-    ask_get (byte_address (area c) done) 1 begun ≡ record { answer = a; world = w } →
-    regime_of w ≡ regime_of begun → Calm w →
-    EndsCalmOrMet IsStoppedCopy d c begun (out_got c q done total a w)
-got_goes d c begun q done total (told.Word byte) w phase more lies is got regime calm =
-    out_goes d c begun q done total byte _ _ (asks_goes d c begun w q (byte_address (buffer c) done) Store lies regime
-    (CopiesTo done total byte phase (leb-false total done more) refl is got refl) calm)
-got_goes d c begun q done total _ w phase more lies is got regime calm = inl calm
-
-out_meets : (d : Domain) (c : Context) (begun : World) (done total : ℕ) (o : Option PageId) (cloaked : Bool) →
-    c.phase ≡ CopyOut done total → nat_le total done ≡ false →
-    pages_for d (Some c) (byte_address (buffer c) done) ≡ o →
-    is_cloaked d.control.resources c (byte_address (area c) done) ≡ cloaked → Calm begun →
-    EndsCalmOrMet IsStoppedCopy d c begun (out_placed c done total o cloaked begun)
-out_meets d c begun done total None cloaked phase more lies is calm = inl calm
-out_meets d c begun done total (Some q) true phase more lies is calm = inl calm
-out_meets d c begun done total (Some q) false phase more lies is calm =
-    let from : ℕ = byte_address (area c) done in
-    got_goes d c begun q done total _ _ phase more lies is refl (get_regime from 1 begun calm)
-    ((calms_asks_get from 1 begun).by calm)
-
-out_step_meets : (d : Domain) (c : Context) (begun : World) (done total : ℕ) (all : Bool) →
-    c.phase ≡ CopyOut done total → nat_le total done ≡ all → Calm begun →
-    EndsCalmOrMet IsStoppedCopy d c begun (out_step all d.control.number d.control.resources c done total begun)
-out_step_meets d c begun done total true phase more calm = inl calm
-out_step_meets d c begun done total false phase more calm = out_meets d c begun done total _ _ phase more refl refl calm
 
 copied_meets : (slot : ℕ) (d : Domain) (c made : Context) (begun : World) (e : Copied) (w : World) →
     Calm w ⊎ ((e ≡ copied.Stopped) × MetIn d c begun w) →
@@ -422,13 +345,23 @@ written_meets wrote d c begun s w (inl calm) = inl calm
 written_meets wrote d c begun s w (inr met) = inr (written_stops wrote s met.0, met.1)
 
 pub phase_meets : (p : Phase) (slot : ℕ) (d : Domain) (c : Context) (begun : World) → c.phase ≡ p → Calm begun →
-    EndsCalmOrMet IsStoppedStep d c begun (phase_step p slot c d begun)
+    EndsCalmOrMet IsStoppedStep d c begun (played (phase_step p slot c d) begun)
 unfolding phase_step instruction_inside copy_in_step copy_out_step
 phase_meets Plain slot d c begun is calm =
-    written_meets _ d c begun _ _ (ran_meets slot d c _ begun _ _ (fetch_meets d c begun _ is refl calm))
+    by_plain (EndsCalmOrMet IsStoppedStep d c begun) slot c d begun
+    (written_meets _ d c begun _ _ (ran_meets slot d c _ begun _ _
+    (script_meets d c begun (of_instruction c) (instruction_inside d.control.number d.control.resources c) begun
+    (instruction_scripted d.control.number d.control.resources c).ends (fetch_asks d c begun _ is refl calm) calm)))
 phase_meets (CopyIn done) slot d c begun is calm =
-    copied_meets slot d c _ begun _ _ (in_step_meets d c begun done _ is refl calm)
+    by_copy_in (EndsCalmOrMet IsStoppedStep d c begun) done slot c d begun
+    (copied_meets slot d c _ begun _ _
+    (script_meets d c begun (of_copy c) (copy_in_step d.control.number d.control.resources c done) begun
+    (copy_in_scripted d.control.number d.control.resources c done).ends (in_step_asks d c begun done _ is refl) calm))
 phase_meets Waiting slot d c begun is calm = inl calm
 phase_meets (CopyOut done total) slot d c begun is calm =
-    written_meets _ d c begun _ _
-    (copied_meets slot d c _ begun _ _ (out_step_meets d c begun done total _ is refl calm))
+    by_copy_out (EndsCalmOrMet IsStoppedStep d c begun) done total slot c d begun
+    (written_meets _ d c begun _ _
+    (copied_meets slot d c _ begun _ _
+    (script_meets d c begun (of_copy c) (copy_out_step d.control.number d.control.resources c done total) begun
+    (copy_out_scripted d.control.number d.control.resources c done total).ends
+    (out_step_asks d c begun done total _ is refl calm) calm)))

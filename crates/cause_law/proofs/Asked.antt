@@ -1,6 +1,6 @@
 -- What each question of a program leaves: a memory that is kept and has met nothing wrong, or it is stopped, when the
 -- program's page is found in a frame that differs from what was last shown of it.
-use Rattle.std.proofs.Common.{◌≡◌, ◌∙◌, ◌⊎◌, ℕ, ◌+◌, Bool, true, false, cond, List, [], ◌∷◌, ◌++◌, Some, None, Result, Ok, Err, refl, sym, ap, inl, inr}
+use Rattle.std.proofs.Common.{◌≡◌, ◌∙◌, ◌⊎◌, ℕ, Bool, true, false, cond, List, [], ◌∷◌, ◌++◌, Some, None, Result, Ok, Err, refl, sym, ap, inl, inr}
 use Rattle.std.proofs.lemmas.List.{length-set}
 use Rattle.cloak_base.specs.declared.causes.Violation.TheVariants as violation
 use Rattle.cloak_base.specs.declared.names.Kind.{Kind}
@@ -10,15 +10,16 @@ use Rattle.cloak_model.specs.declared.answer.Answer.{Answer}
 use Rattle.cloak_model.specs.declared.answer.Answer.TheVariants as told
 use Rattle.cloak_model.specs.AskPages.{replies, if_drawn, is_store, offer_events, ask_inside_address, offered_by, ask_offer, reached, reach_by_table, put_at, ask_reach, ask_write, ask_get, ask_put, ask_clear, ask_copy, ask_forget}
 use Rattle.cloak_model.specs.Asking.{Told}
-use Rattle.cloak_model.specs.Cloaking.{Offer, Ready, Mismatch, Missed, offer}
+use Rattle.cloak_model.specs.Cloaking.{OfferEnd, Ready, Mismatch, Missed, offer}
 use Rattle.cloak_model.specs.Ending.{ask_end}
 use Rattle.cloak_model.specs.Events.{Event}
-use Rattle.cloak_model.specs.Fork.{ask_copies, ask_forgets}
+use Rattle.cloak_model.specs.Fork.{copy_each, forget_each}
 use Rattle.cloak_base.specs.Constants.{frame_of}
 use Rattle.cloak_model.specs.Memory.{Seen}
 use Rattle.cloak_model.specs.PageMoves.{copy_pages, drop_pages}
 use Rattle.cloak_model.specs.Walk.{walk}
-use Rattle.cloak_model.specs.World.{World, Cloak, Flat, Cloaked, Alone, Handed, noted, settled, cipher_items, is_missed}
+use Rattle.cloak_model.specs.World.{World, MidStep, Flat, Cloaked, Alone, Handed, noted, settled, cipher_items, is_missed}
+use Rattle.cloak_model.specs.Script.{Change, Write, Copy, Forget, changed, played}
 use Rattle.script_fold.proofs.Endings.{keeps_forgets, keeps_end}
 use Rattle.script_fold.proofs.Questions.{Replies, opens_by, keeps_inside_address, keeps_get, keeps_stored, keeps_clear}
 use Rattle.domain_isolation.proofs.Steady.{is_cloaked}
@@ -28,12 +29,12 @@ use Rattle.cause_law.proofs.Kept.{IsKept, kept_settled, offer_offers}
 use Rattle.cause_law.proofs.Leading.{OfMemory, access_of, LeadsStill, address_leads}
 
 -- Nothing wrong was met.
-pub record IsCalm (c : Cloak) : Type 0 where
+pub record IsCalm (c : MidStep) : Type 0 where
   pub kept : IsKept c.memory
   pub none : c.violation ≡ None
 
 -- A program asked for its page q at an address in memory `asked`, and it was found in another frame.
-pub record HasMet (q : PageId) (va : ℕ) (kind : Kind) (asked c : Cloak) : Type 0 where
+pub record HasMet (q : PageId) (va : ℕ) (kind : Kind) (asked c : MidStep) : Type 0 where
   pub kept : IsKept c.memory
   pub frame : ℕ
   pub violation : c.violation ≡ Some (violation.Page q (record { 0 = frame }))
@@ -47,7 +48,7 @@ abbrev pub Calm : World → Type 0
 Calm (Cloaked c) = IsCalm c
 Calm _ = ⊥
 
-abbrev pub Met : PageId → ℕ → Kind → Cloak → World → Type 0
+abbrev pub Met : PageId → ℕ → Kind → MidStep → World → Type 0
 Met q va kind asked (Cloaked c) = HasMet q va kind asked c
 Met q va kind asked _ = ⊥
 
@@ -114,10 +115,10 @@ calms_put_at pa width value (Alone h) = no_alone h _
 -- A page is reached.
 
 -- a question for page q leaves all calm, or it is stopped, as the page was found in another frame
-abbrev pub CalmOrMet : PageId → ℕ → Kind → Cloak → Told Answer → Type 0
+abbrev pub CalmOrMet : PageId → ℕ → Kind → MidStep → Told Answer → Type 0
 CalmOrMet q va kind asked t = Calm t.world ⊎ ((t.answer ≡ told.Stopped) × Met q va kind asked t.world)
 
-offered_meets : (q : PageId) (va pa : ℕ) (kind : Kind) (k c : Cloak) (a : Offer) →
+offered_meets : (q : PageId) (va pa : ℕ) (kind : Kind) (k c : MidStep) (a : OfferEnd) →
     ask_inside_address va kind (Cloaked k) ≡ record { answer = Ok pa; world = Cloaked c } →
     LeadsStill k.regime kind va pa c.memory → c.memory.ledger.missed ≡ false → IsCalm c →
     let o = offer q (frame_of pa) (is_store kind) c.memory in
@@ -160,7 +161,7 @@ offered_meets q va pa kind k c Mismatch is leads drawn calm answers =
       },
     )
 
-reached_meets : (q : PageId) (va : ℕ) (kind : Kind) (k : Cloak) (to : Result ℕ ℕ) (w : World) →
+reached_meets : (q : PageId) (va : ℕ) (kind : Kind) (k : MidStep) (to : Result ℕ ℕ) (w : World) →
     ask_inside_address va kind (Cloaked k) ≡ record { answer = to; world = w } →
     ((pa : ℕ) → to ≡ Ok pa → OfMemory (LeadsStill k.regime kind va pa) w) → is_missed w ≡ false → Calm w →
     CalmOrMet q va kind k (reached q va kind to w)
@@ -171,14 +172,14 @@ reached_meets q va kind k (Ok pa) (Cloaked c) is leads drawn calm =
     offered_meets q va pa kind k c _ is (leads pa refl) drawn calm refl
 reached_meets q va kind k (Ok pa) (Alone h) is leads drawn calm = absurd calm
 
-drawn_meets : (q : PageId) (va : ℕ) (kind : Kind) (k : Cloak) (to : Result ℕ ℕ) (w : World) (missed : Bool) →
+drawn_meets : (q : PageId) (va : ℕ) (kind : Kind) (k : MidStep) (to : Result ℕ ℕ) (w : World) (missed : Bool) →
     ask_inside_address va kind (Cloaked k) ≡ record { answer = to; world = w } →
     ((pa : ℕ) → to ≡ Ok pa → OfMemory (LeadsStill k.regime kind va pa) w) → is_missed w ≡ missed → Calm w →
     CalmOrMet q va kind k (cond missed (replies told.Stopped w) (reached q va kind to w))
 drawn_meets q va kind k to w true is leads drawn calm = inl ((calms_replies _ w).by calm)
 drawn_meets q va kind k to w false is leads drawn calm = reached_meets q va kind k to w is leads drawn calm
 
-reach_meets : (q : PageId) (va : ℕ) (kind : Kind) (k : Cloak) → IsCalm k →
+reach_meets : (q : PageId) (va : ℕ) (kind : Kind) (k : MidStep) → IsCalm k →
     CalmOrMet q va kind k (reach_by_table q va kind (Cloaked k))
 unfolding reach_by_table if_drawn
 reach_meets q va kind k calm =
@@ -186,7 +187,7 @@ reach_meets q va kind k calm =
     drawn_meets q va kind k to.answer to.world _ refl (λ pa is. address_leads va kind k pa calm.kept is) refl
     ((keeps_inside_address Calms calm_replies.opens va kind (Cloaked k)).by calm)
 
-pub asked_meets : (q : PageId) (va : ℕ) (kind : Kind) (k : Cloak) → IsCalm k →
+pub asked_meets : (q : PageId) (va : ℕ) (kind : Kind) (k : MidStep) → IsCalm k →
     CalmOrMet q va kind k (ask_reach q va kind (Cloaked k))
 unfolding ask_reach
 asked_meets q va kind k calm = reach_meets q va kind k calm
@@ -203,7 +204,7 @@ calms_asks_put va width value w =
 pub calms_asks_clear : (d : ℕ) (marked : List Bool) (w : World) → Calms w (ask_clear d marked w).world
 calms_asks_clear d marked w = keeps_clear Calms calm_replies d marked w
 
-pub calms_writes : (q : PageId) (at width value : ℕ) (w : World) → Calms w (ask_write q at width value w).world
+calms_writes : (q : PageId) (at width value : ℕ) (w : World) → Calms w (ask_write q at width value w).world
 unfolding ask_write
 calms_writes q at width value (Flat seen) = no_flat seen _
 calms_writes q at width value (Cloaked c) = record {
@@ -236,12 +237,17 @@ calms_forget d resource (Cloaked c) = record {
 }
 calms_forget d resource (Alone h) = no_alone h _
 
-pub calms_copies : (d : ℕ) (list : List (ℕ × ℕ)) (w : World) → Calms w (ask_copies d list w).world
-unfolding ask_copies
+pub calms_changed : (change : Change) (w : World) → Calms w (changed change w).world
+calms_changed (Write q at width value) w = calms_writes q at width value w
+calms_changed (Copy domain from to) w = calms_copy domain from to w
+calms_changed (Forget domain resource) w = calms_forget domain resource w
+
+pub calms_copies : (d : ℕ) (list : List (ℕ × ℕ)) (w : World) → Calms w (played (copy_each d list) w).world
+unfolding copy_each
 calms_copies d [] w = Calms-refl w
 calms_copies d (copy ∷ rest) w = Calms-trans _ _ _ (calms_copy d copy.0 copy.1 w) (calms_copies d rest _)
 
-pub calms_forgets : (d : ℕ) (list : List ℕ) (w : World) → Calms w (ask_forgets d list w).world
+pub calms_forgets : (d : ℕ) (list : List ℕ) (w : World) → Calms w (played (forget_each d list) w).world
 calms_forgets d list w = keeps_forgets Calms Calms-refl Calms-trans calms_forget d list w
 
 -- The end of a domain meets nothing either.

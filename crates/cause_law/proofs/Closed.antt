@@ -12,10 +12,10 @@ use Rattle.cloak_model.specs.Ahead.{is_owed}
 use Rattle.cloak_model.specs.Beginning.{Beginning, opening_from}
 use Rattle.cloak_model.specs.Cloaking.{CloakedMemory, owed_in, settle}
 use Rattle.cloak_model.specs.Joint.{Turn, cloak_outside, hart_in}
-use Rattle.cloak_model.specs.Opening.{Opened, numbers_below}
+use Rattle.cloak_model.specs.Opening.{RunEdge, numbers_below}
 use Rattle.cloak_model.specs.Parts.{Joint}
 use Rattle.cloak_model.specs.Run.{Run, joint_after, closing, settled_below, turns_from, first_moment, run_of}
-use Rattle.cloak_model.specs.World.{Cloak, cipher_items}
+use Rattle.cloak_model.specs.World.{MidStep, cipher_items}
 use Rattle.kernel_isolation.proofs.Settlings.{HasPlaces}
 use Rattle.kernel_isolation.proofs.Isolated.{until_read, of_opened}
 use Rattle.cause_law.specs.Closing.{memory_at_end, closed_memory, owed_frames, ClosingOwesNothing, ClosingShowsOwed, ClosingSparesOthers}
@@ -26,7 +26,7 @@ abbrev shows : List (List ℕ) → ℕ → Item
 shows ram f = item.Cipher f (slice_index_or ram f [])
 
 -- What the frames below n are after their settling, and what was written.
-record Below (n : ℕ) (c c' : Cloak) : Type 0 where
+record Below (n : ℕ) (c c' : MidStep) : Type 0 where
   pub places : HasPlaces c'.memory
   pub count : length c'.memory.ram ≡ length c.memory.ram
   pub clean : (f : ℕ) → f < n → owed_in c'.memory f ≡ None
@@ -47,7 +47,7 @@ append_assoc : (a b c : List Item) → (a ++ b) ++ c ≡ a ++ (b ++ c)
 append_assoc [] b c = refl
 append_assoc (x ∷ a) b c = ap (λ (l : List Item). x ∷ l) (append_assoc a b c)
 
-below : (n : ℕ) (c : Cloak) → HasPlaces c.memory → Below n c (settled_below n c)
+below : (n : ℕ) (c : MidStep) → HasPlaces c.memory → Below n c (settled_below n c)
 unfolding settled_below
 below zero c places = record {
   places = places;
@@ -59,7 +59,7 @@ below zero c places = record {
 }
 below (suc n) c places =
     let b = below n c places in
-    let c' : Cloak = settled_below n c in
+    let c' : MidStep = settled_below n c in
     let s = settles n c'.memory b.places in
     let m : CloakedMemory = (settle n c'.memory).memory in
     let was : owed_in c'.memory n ≡ owed_in c.memory n = b.owed n (omega arith) in
@@ -99,7 +99,7 @@ below (suc n) c places =
     }
 
 -- A machine, closed.
-record ClosesSo (j : Joint) (o : Opened) : Type 0 where
+record ClosesSo (j : Joint) (o : RunEdge) : Type 0 where
   pub clean : (f : ℕ) → owed_in o.joint.memory f ≡ None
   pub written : o.items ≡ map (shows o.joint.memory.ram) (owed_frames j.memory)
   pub spared : (f : ℕ) → is_owed j.memory f ≡ false →
@@ -108,10 +108,10 @@ record ClosesSo (j : Joint) (o : Opened) : Type 0 where
 closes_so : (j : Joint) → HasPlaces j.memory → ClosesSo j (closing j)
 unfolding closing
 closes_so j places =
-    let c : Cloak = cloak_outside j.memory (hart_in j 0) in
+    let c : MidStep = cloak_outside j.memory (hart_in j 0) in
     let n = length j.memory.ram in
     let b = below n c places in
-    let c' : Cloak = settled_below n c in
+    let c' : MidStep = settled_below n c in
     record {
       clean = λ f. elim (cases_lt f n) [
         | inl low ↦ b.clean f low
@@ -124,7 +124,7 @@ closes_so j places =
 
 -- The run.
 
-opened_closes : (b : Bundle) (from : Beginning) (budget : ℕ) (o : Opened) → opening_from b from ≡ Ok o →
+opened_closes : (b : Bundle) (from : Beginning) (budget : ℕ) (o : RunEdge) → opening_from b from ≡ Ok o →
     let r = run_of b budget o in ClosesSo (joint_after r.opened.joint r.turns) r.closed
 unfolding run_of
 opened_closes b from budget o opens =

@@ -6,8 +6,8 @@ use Rattle.cloak_base.specs.declared.names.Mode.TheVariants.{U}
 use Rattle.cloak_model.specs.declared.access.Access.{Access}
 use Rattle.cloak_model.specs.declared.access.Walked.{Walked}
 use Rattle.cloak_model.specs.declared.regime.InsideRegime.{InsideRegime}
-use Rattle.cloak_model.specs.Ask.{shown_word, ask_word, ask_walk, ask_inside, ask_translate, ask_led}
-use Rattle.cloak_model.proofs.WalkParts.{ask_second, ask_after, ask_first}
+use Rattle.cloak_model.specs.Ask.{shown_word, ask_word, ask_walk, ask_in_ram, ask_translate, ask_led}
+use Rattle.cloak_model.proofs.WalkParts.{ask_after, ask_first}
 use Rattle.cloak_model.specs.AskPages.{ask_inside_address}
 use Rattle.cloak_model.specs.Asking.{Told}
 use Rattle.cloak_model.specs.Cloaking.{CloakedMemory, owed_in, settle}
@@ -15,7 +15,7 @@ use Rattle.cloak_model.specs.Events.{Look}
 use Rattle.cloak_base.specs.Constants.{frame_of, place_of, is_in_frames}
 use Rattle.cloak_model.specs.Memory.{is_in_ram, value_in, value_at}
 use Rattle.cloak_model.specs.Walk.{Walk, FirstWord, Ends, GoesOn, has_paging, without_paging, first_entry, first_word, second_word, word_in_ram, walk_after, walk}
-use Rattle.cloak_model.specs.World.{World, Cloak, Flat, Cloaked, Alone, settled}
+use Rattle.cloak_model.specs.World.{World, MidStep, Flat, Cloaked, Alone, settled}
 use Rattle.cause_law.proofs.Kept.{IsKept, Extends, Extends-refl, Extends-trans, extends_settled, kept_settled}
 use Rattle.cause_law.proofs.Settled.{settles}
 
@@ -45,12 +45,12 @@ sees_still : (m m' : CloakedMemory) (pa : ℕ) (word : Option ℕ) → Sees m pa
 sees_still m m' pa word sees more = word_by (is_in_ram m.ram pa) m m' pa more refl sees.clean ∙ sees.same
 
 -- what asking for a word leaves
-record Shows (c : Cloak) (pa : ℕ) (word : Option ℕ) (m : CloakedMemory) : Type 0 where
+record Shows (c : MidStep) (pa : ℕ) (word : Option ℕ) (m : CloakedMemory) : Type 0 where
   pub kept : IsKept m
   pub more : Extends c.memory m
   pub sees : Sees m pa word
 
-shown_by : (b : Bool) (pa : ℕ) (c : Cloak) → IsKept c.memory → is_in_ram c.memory.ram pa ≡ b →
+shown_by : (b : Bool) (pa : ℕ) (c : MidStep) → IsKept c.memory → is_in_ram c.memory.ram pa ≡ b →
     let t : Told (Option ℕ) = cond b (shown_word pa (settled (frame_of pa) (Cloaked c)))
     (record { answer = None; world = Cloaked c }) in
     OfMemory (Shows c pa t.answer) t.world
@@ -75,7 +75,7 @@ shown_by false pa c kept is = record {
   };
 }
 
-shows_word : (pa : ℕ) (c : Cloak) → IsKept c.memory →
+shows_word : (pa : ℕ) (c : MidStep) → IsKept c.memory →
     let t = ask_word pa (Cloaked c) in OfMemory (Shows c pa t.answer) t.world
 unfolding ask_word
 shows_word pa c kept = shown_by (is_in_ram c.memory.ram pa) pa c kept refl
@@ -93,7 +93,7 @@ paged satp a ram word has is =
     (first_word a (first_entry satp a.va) (word_in_ram ram (first_entry satp a.va)))) (without_paging a)) has
     ∙ ap (λ (o : Option ℕ). walk_after ram a (first_entry satp a.va) (first_word a (first_entry satp a.va) o)) is
 
-second_walks : (satp : ℕ) (a : Access) (at0 : ℕ) (word : Option ℕ) (c : Cloak) (second : Option ℕ) (v : World) →
+second_walks : (satp : ℕ) (a : Access) (at0 : ℕ) (word : Option ℕ) (c : MidStep) (second : Option ℕ) (v : World) →
     has_paging satp ≡ true → Sees c.memory (first_entry satp a.va) word →
     first_word a (first_entry satp a.va) word ≡ GoesOn at0 → OfMemory (Shows c at0 second) v →
     OfMemory (Walks satp a (second_word a (first_entry satp a.va) at0 second)) v
@@ -106,7 +106,7 @@ second_walks satp a at0 word c second (Cloaked d) has sees is shows =
     ∙ ap (second_word a at1 at0) (sees_still d.memory m' at0 second shows.sees more))
 second_walks satp a at0 word c second _ has sees is shows = absurd shows
 
-after_walks : (satp : ℕ) (a : Access) (word : Option ℕ) (first : FirstWord) (c : Cloak) → IsKept c.memory →
+after_walks : (satp : ℕ) (a : Access) (word : Option ℕ) (first : FirstWord) (c : MidStep) → IsKept c.memory →
     has_paging satp ≡ true → Sees c.memory (first_entry satp a.va) word →
     first_word a (first_entry satp a.va) word ≡ first →
     let t = ask_after a (first_entry satp a.va) first (Cloaked c) in OfMemory (Walks satp a t.answer) t.world
@@ -118,14 +118,14 @@ after_walks satp a word (GoesOn at0) c kept has sees is =
     let t = ask_word at0 (Cloaked c) in
     second_walks satp a at0 word c t.answer t.world has sees is (shows_word at0 c kept)
 
-first_walks : (satp : ℕ) (a : Access) (c : Cloak) (word : Option ℕ) (v : World) → has_paging satp ≡ true →
+first_walks : (satp : ℕ) (a : Access) (c : MidStep) (word : Option ℕ) (v : World) → has_paging satp ≡ true →
     OfMemory (Shows c (first_entry satp a.va) word) v →
     let t = ask_after a (first_entry satp a.va) (first_word a (first_entry satp a.va) word) v in
     OfMemory (Walks satp a t.answer) t.world
 first_walks satp a c word (Cloaked d) has shows = after_walks satp a word _ d shows.kept has shows.sees refl
 first_walks satp a c word _ has shows = absurd shows
 
-walks_by : (b : Bool) (satp : ℕ) (a : Access) (c : Cloak) → IsKept c.memory → has_paging satp ≡ b →
+walks_by : (b : Bool) (satp : ℕ) (a : Access) (c : MidStep) → IsKept c.memory → has_paging satp ≡ b →
     let t = cond b (ask_first a (first_entry satp a.va) (Cloaked c))
     (let u : Told Walk = record { answer = without_paging a; world = Cloaked c } in u) in
     OfMemory (Walks satp a t.answer) t.world
@@ -137,7 +137,7 @@ walks_by false satp a c kept is =
     λ m' more. ap (λ (b : Bool). cond b (walk_after m'.ram a (first_entry satp a.va)
     (first_word a (first_entry satp a.va) (word_in_ram m'.ram (first_entry satp a.va)))) (without_paging a)) is
 
-walks : (satp : ℕ) (a : Access) (c : Cloak) → IsKept c.memory →
+walks : (satp : ℕ) (a : Access) (c : MidStep) → IsKept c.memory →
     let t = ask_walk satp a (Cloaked c) in OfMemory (Walks satp a t.answer) t.world
 unfolding ask_walk
 walks satp a c kept = walks_by (has_paging satp) satp a c kept refl
@@ -159,22 +159,22 @@ inside_by true to pa fault is = cc
 inside_by false to pa fault is = absurd cc
 
 inside_leads : (v : InsideRegime) (kind : Kind) (va pa : ℕ) (w : Walk) (u : World) →
-    (ask_inside (access_of v kind va) w u).answer ≡ Ok pa →
+    (ask_in_ram (access_of v kind va) w u).answer ≡ Ok pa →
     OfMemory (Walks v.satp (access_of v kind va) w) u →
-    OfMemory (LeadsStill v kind va pa) (ask_inside (access_of v kind va) w u).world
-unfolding ask_inside
+    OfMemory (LeadsStill v kind va pa) (ask_in_ram (access_of v kind va) w u).world
+unfolding ask_in_ram
 inside_leads v kind va pa w (Flat seen) is walks = absurd walks
 inside_leads v kind va pa w (Alone h) is walks = absurd walks
 inside_leads v kind va pa (Err cause) (Cloaked c) is walks = absurd cc
 inside_leads v kind va pa (Ok walked) (Cloaked c) is walks =
     record { walked = walked; at = inside_by _ walked.pa pa _ is; leads = walks }
 
-pub address_leads : (va : ℕ) (kind : Kind) (c : Cloak) (pa : ℕ) → IsKept c.memory →
+pub address_leads : (va : ℕ) (kind : Kind) (c : MidStep) (pa : ℕ) → IsKept c.memory →
     let t = ask_inside_address va kind (Cloaked c) in
     t.answer ≡ Ok pa → OfMemory (LeadsStill c.regime kind va pa) t.world
 unfolding ask_inside_address ask_led ask_translate
 address_leads va kind c pa kept is =
     let a = access_of c.regime kind va in
-    let c' : Cloak = record c { events = c.events ++ Look c.regime.satp a ∷ [] } in
+    let c' : MidStep = record c { events = c.events ++ Look c.regime.satp a ∷ [] } in
     let t = ask_walk c.regime.satp a (Cloaked c') in
     inside_leads c.regime kind va pa t.answer t.world is (walks c.regime.satp a c' kept)

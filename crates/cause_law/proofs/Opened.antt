@@ -13,7 +13,7 @@ use Rattle.cloak_model.specs.Beginning.{Beginning, opening_from}
 use Rattle.cloak_model.specs.Cloaking.{CloakedMemory, owed_in}
 use Rattle.cloak_model.specs.Contexts.{Context, context_at}
 use Rattle.cloak_model.specs.Ledger.{Keys, vector_of}
-use Rattle.cloak_model.specs.Opening.{Opened, started_ledger, started_memory, started_joint, place_pages, place_programs}
+use Rattle.cloak_model.specs.Opening.{RunEdge, started_ledger, started_memory, started_joint, place_pages, place_programs}
 use Rattle.cloak_model.specs.PageMoves.{place_with, place}
 use Rattle.cloak_model.specs.Parts.{Joint}
 use Rattle.kernel_isolation.proofs.FilesAdded.{KeepsMachine, added_keep, was_there, files_of, opens_over}
@@ -66,10 +66,10 @@ unfolding started_memory started_ledger
 started_owes k keys stream f = none_owed k.frames f None
 
 -- no frame of a machine is owed a page
-abbrev OwesNothing : Opened → Type 0
+abbrev OwesNothing : RunEdge → Type 0
 OwesNothing o = (f : ℕ) → owed_in o.joint.memory f ≡ None
 
-opened_owes : (b : Bundle) (from : Beginning) (o : Opened) → opening_from b from ≡ Ok o → OwesNothing o
+opened_owes : (b : Bundle) (from : Beginning) (o : RunEdge) → opening_from b from ≡ Ok o → OwesNothing o
 unfolding started_joint
 opened_owes b from o opens f =
     let over = opens_over b from o opens in
@@ -107,13 +107,13 @@ kept_start j j' keeps start = (
   ),
 )
 
-pub opened_start : (b : Bundle) (from : Beginning) (o : Opened) → opening_from b from ≡ Ok o → AtStart o.joint
+pub opened_start : (b : Bundle) (from : Beginning) (o : RunEdge) → opening_from b from ≡ Ok o → AtStart o.joint
 opened_start b from o opens =
     let over = opens_over b from o opens in
     kept_start (started_joint b over.memory) o.joint
     (added_keep (files_of from) (started_joint b over.memory) o.joint over.added) (bare_start b over.memory)
 
-pub opened_sound : (b : Bundle) (from : Beginning) (o : Opened) → opening_from b from ≡ Ok o → IsSound o.joint
+pub opened_sound : (b : Bundle) (from : Beginning) (o : RunEdge) → opening_from b from ≡ Ok o → IsSound o.joint
 opened_sound b from o opens =
     let start = opened_start b from o opens in
     record {

@@ -22,7 +22,7 @@ use Rattle.cloak_model.specs.declared.outcome.Kernel.TheVariants as kernel
 use Rattle.cloak_model.specs.Contexts.{Context, Admitted, context_at, slot_of, domain_of, resume_if, resume_at}
 use Rattle.cloak_model.specs.DomainAlone.{runs_on}
 use Rattle.cloak_model.specs.DomainState.{Control, Domain, started_control, started_domain}
-use Rattle.cloak_model.specs.DomainStep.{DomainStepped, instruction_ended, copy_ended, after_write, phase_step, step_if, domain_step, interrupt_if, interrupt, answer_taken, resume_told, resume_slot}
+use Rattle.cloak_model.specs.DomainStep.{domain_script, DomainStepped, instruction_ended, copy_ended, after_write, phase_step, step_if, domain_step, interrupt_if, interrupt, answer_taken, resume_told, resume_slot}
 use Rattle.cloak_model.specs.Ending.{ended_domain}
 use Rattle.cloak_model.specs.Hart.{Hart}
 use Rattle.cloak_model.specs.Joint.{outside_ended, after_outside, outside_step, domain_ended, after_domain_step, interrupt_ended, after_interrupt, by_interrupt, by_running, inside_step, turn_of}
@@ -31,7 +31,10 @@ use Rattle.cloak_model.specs.Opening.{started_domains}
 use Rattle.cloak_model.specs.Parts.{Joint}
 use Rattle.cloak_model.specs.Resuming.{resume}
 use Rattle.cloak_model.proofs.ResumeParts.{by_root, by_context, by_domain}
+use Rattle.cloak_model.specs.Asking.{Told}
 use Rattle.cloak_model.specs.World.{World}
+use Rattle.cloak_model.specs.Script.{played}
+use Rattle.cloak_model.proofs.Playing.{by_plain, by_copy_in, by_copy_out, by_ecall}
 use Rattle.hypercall_kinds.proofs.ByKinds.{hypercall_ended}
 use Rattle.domain_isolation.proofs.InOrder.{decided, get_set_other}
 
@@ -125,9 +128,11 @@ has_not_ended d slot c is there = by d.ended refl
 -- A domain's own step does not end it.
 
 over_instruction : (slot : ℕ) (d : Domain) (c : Context) (e : Ran) (w : World) →
-    (instruction_ended slot d c e w).answer.domain.control.ended ≡ d.control.ended
+    (played (instruction_ended slot d c e) w).answer.domain.control.ended ≡ d.control.ended
 unfolding instruction_ended
-over_instruction slot d c ran.Ecall w = hypercall_ended _ slot c d.control w
+over_instruction slot d c ran.Ecall w =
+    by_ecall (λ (t : Told DomainStepped). t.answer.domain.control.ended ≡ d.control.ended) slot d c w
+    (hypercall_ended _ slot c d.control w)
 over_instruction slot d c _ w = refl
 
 over_copy : (slot : ℕ) (d : Domain) (c : Context) (e : Copied) →
@@ -142,21 +147,27 @@ over_written None s = refl
 over_written (Some place) s = refl
 
 over_phase : (phase : Phase) (slot : ℕ) (c : Context) (d : Domain) (w : World) →
-    (phase_step phase slot c d w).answer.domain.control.ended ≡ d.control.ended
+    (played (phase_step phase slot c d) w).answer.domain.control.ended ≡ d.control.ended
 unfolding phase_step
-over_phase Plain slot c d w = over_written _ _ ∙ over_instruction slot d _ _ _
-over_phase (CopyIn done) slot c d w = over_copy slot d _ _
+over_phase Plain slot c d w =
+    by_plain (λ (t : Told DomainStepped). t.answer.domain.control.ended ≡ d.control.ended) slot c d w
+    (over_written _ _ ∙ over_instruction slot d _ _ _)
+over_phase (CopyIn done) slot c d w =
+    by_copy_in (λ (t : Told DomainStepped). t.answer.domain.control.ended ≡ d.control.ended) done slot c d w
+    (over_copy slot d _ _)
 over_phase Waiting slot c d w = refl
-over_phase (CopyOut done total) slot c d w = over_written _ _ ∙ over_copy slot d _ _
+over_phase (CopyOut done total) slot c d w =
+    by_copy_out (λ (t : Told DomainStepped). t.answer.domain.control.ended ≡ d.control.ended) done total slot c d w
+    (over_written _ _ ∙ over_copy slot d _ _)
 
 over_if : (c : Option Context) (slot : ℕ) (d : Domain) (w : World) →
-    (step_if c slot d w).answer.domain.control.ended ≡ d.control.ended
+    (played (step_if c slot d) w).answer.domain.control.ended ≡ d.control.ended
 unfolding step_if
 over_if None slot d w = refl
 over_if (Some c) slot d w = over_phase c.phase slot c d w
 
 over_step : (slot : ℕ) (d : Domain) (w : World) → (domain_step slot d w).answer.domain.control.ended ≡ d.control.ended
-unfolding domain_step
+unfolding domain_step domain_script
 over_step slot d w = over_if _ slot d w
 
 over_interrupt_if : (c : Option Context) (slot : ℕ) (d : Control) → (interrupt_if c slot d).control.ended ≡ d.ended

@@ -27,14 +27,16 @@ use Rattle.cloak_model.proofs.CallParts.{in_reached, in_placed, in_step, out_rea
 use Rattle.cloak_model.specs.Contexts.{Context, context_at, domain_of, slot_of}
 use Rattle.cloak_model.specs.DomainAlone.{runs_on}
 use Rattle.cloak_model.specs.DomainState.{Domain}
-use Rattle.cloak_model.specs.DomainStep.{DomainStepped, within, instruction_ended, copy_ended, after_write, phase_step, step_if, domain_step}
+use Rattle.cloak_model.specs.DomainStep.{domain_script, DomainStepped, within, instruction_ended, copy_ended, after_write, phase_step, step_if, domain_step}
 use Rattle.cloak_model.specs.Effect.{effect}
 use Rattle.cloak_model.specs.Hypercalls.{stopped}
 use Rattle.cloak_model.specs.InsideStep.{AfterInstruction, load_inside, store_inside, atomic_placed, traps, atomic_inside, done_inside, decoded_inside, fetch, instruction_inside}
-use Rattle.cloak_model.proofs.InsideParts.{load_reached, store_reached, atomic_reached, executed_inside, fetched_inside}
+use Rattle.cloak_model.proofs.InsideParts.{load_reached, store_reached, atomic_reached, fetched_inside}
 use Rattle.cloak_model.specs.Joint.{Moment, Turn, next_hart, cloak_of, domain_ended, after_domain_step, pages_for, by_interrupt, by_running, inside_step, turn_of, step_before_end}
 use Rattle.cloak_model.specs.KernelStep.{atomic_kind, misaligned, ticked}
 use Rattle.cloak_model.specs.World.{World, Cloaked}
+use Rattle.cloak_model.specs.Script.{played}
+use Rattle.cloak_model.proofs.Playing.{plain_played, copy_in_played, copy_out_played}
 use Rattle.cause_law.specs.Presented.{hart_of_step, StepsInside, world_inside, Executes, AsksAt, Fetches, LoadsAt, StoresAt, AtomicAt, CopiesFrom, CopiesTo, PresentsPage}
 use Rattle.cause_law.proofs.Refused.{page_is_refused}
 
@@ -45,7 +47,7 @@ halted d w = record { answer = within d (stopped d.control); world = w }
 -- the end of an instruction, and of a copy
 abbrev ended : ℕ → Domain → Told AfterInstruction → Told DomainStepped
 ended slot d t =
-    let s = instruction_ended slot d t.answer.context t.answer.ending t.world in
+    let s = played (instruction_ended slot d t.answer.context t.answer.ending) t.world in
     answered (after_write t.answer.wrote s.answer) s.world
 
 abbrev copied : ℕ → Domain → Told Copy → Told DomainStepped
@@ -62,10 +64,12 @@ copied_out slot d t = record {
 
 plain_step : (slot : ℕ) (d : Domain) (c : Context) (w : World) → context_at d.control.contexts slot ≡ Some c →
     c.phase ≡ Plain →
-    domain_step slot d w ≡ ended slot d (fetch d.control.number d.control.resources c (pages_for d (Some c) c.pc) w)
-unfolding domain_step step_if phase_step instruction_inside
+    domain_step slot d w
+    ≡ ended slot d (played (fetch d.control.number d.control.resources c (pages_for d (Some c) c.pc)) w)
+unfolding domain_step domain_script step_if phase_step instruction_inside
 plain_step slot d c w there plain =
-    ap (λ (o : Option Context). step_if o slot d w) there ∙ ap (λ (p : Phase). phase_step p slot c d w) plain
+    ap (λ (o : Option Context). played (step_if o slot d) w) there
+    ∙ (ap (λ (p : Phase). played (phase_step p slot c d) w) plain ∙ plain_played slot c d w)
 
 fetch_stops : (slot : ℕ) (d : Domain) (c : Context) (q : PageId) (w : World) (t : Told Answer) →
     context_at d.control.contexts slot ≡ Some c → c.phase ≡ Plain → pages_for d (Some c) c.pc ≡ Some q →
@@ -75,32 +79,32 @@ fetch_stops slot d c q w t there plain lies same stops =
     let n = d.control.number in
     let r = d.control.resources in
     plain_step slot d c w there plain
-    ∙ (ap (λ (o : Option PageId). ended slot d (fetch n r c o w)) lies
-    ∙ (ap (λ (u : Told Answer). ended slot d (fetched_inside n r c q u.answer u.world)) same
-    ∙ ap (λ (a : Answer). ended slot d (fetched_inside n r c q a t.world)) stops))
+    ∙ (ap (λ (o : Option PageId). ended slot d (played (fetch n r c o) w)) lies
+    ∙ (ap (λ (u : Told Answer). ended slot d (played (fetched_inside n r c q u.answer) u.world)) same
+    ∙ ap (λ (a : Answer). ended slot d (played (fetched_inside n r c q a) t.world)) stops))
 
 -- the word that a context executes
 word_step : (slot : ℕ) (d : Domain) (c : Context) (w v : World) (word : ℕ) →
     context_at d.control.contexts slot ≡ Some c → Executes d c w word v →
     domain_step slot d w
-    ≡ ended slot d (decoded_inside d.control.number d.control.resources c word (instruction word) v)
+    ≡ ended slot d (played (decoded_inside d.control.number d.control.resources c word (instruction word)) v)
 unfolding fetch ask_read
 word_step slot d c w v word there runs =
     let n = d.control.number in
     let r = d.control.resources in
     plain_step slot d c w there runs.plain
-    ∙ (ap (λ (o : Option PageId). ended slot d (fetch n r c o w)) runs.lies
-    ∙ (ap (λ (u : Told Answer). ended slot d (fetched_inside n r c runs.page u.answer u.world)) runs.granted
-    ∙ ap (λ (x : ℕ). ended slot d (decoded_inside n r c x (instruction x) v)) runs.has))
+    ∙ (ap (λ (o : Option PageId). ended slot d (played (fetch n r c o) w)) runs.lies
+    ∙ (ap (λ (u : Told Answer). ended slot d (played (fetched_inside n r c runs.page u.answer) u.world)) runs.granted
+    ∙ ap (λ (x : ℕ). ended slot d (played (decoded_inside n r c x (instruction x)) v)) runs.has))
 
 executed_step : (slot : ℕ) (d : Domain) (c : Context) (w v : World) (word : ℕ) (i : Instr) →
     context_at d.control.contexts slot ≡ Some c → Executes d c w word v → instruction word ≡ Some i →
     domain_step slot d w
-    ≡ ended slot d (done_inside d.control.number d.control.resources c i (effect i c.regs c.pc) v)
+    ≡ ended slot d (played (done_inside d.control.number d.control.resources c i (effect i c.regs c.pc)) v)
 unfolding decoded_inside
 executed_step slot d c w v word i there runs found =
     word_step slot d c w v word there runs
-    ∙ ap (λ (o : Option Instr). ended slot d (decoded_inside d.control.number d.control.resources c word o v)) found
+    ∙ ap (λ (o : Option Instr). ended slot d (played (decoded_inside d.control.number d.control.resources c word o) v)) found
 
 load_stops : (slot : ℕ) (d : Domain) (c : Context) (q : PageId) (w v : World) (word : ℕ) (i : Instr)
     (rd va width : ℕ) (is_signed : Bool) (t : Told Answer) → context_at d.control.contexts slot ≡ Some c →
@@ -112,10 +116,10 @@ load_stops slot d c q w v word i rd va width is_signed t there runs found loads 
     let n = d.control.number in
     let r = d.control.resources in
     executed_step slot d c w v word i there runs found
-    ∙ (ap (λ (e : Effect). ended slot d (done_inside n r c i e v)) loads
-    ∙ (ap (λ (o : Option PageId). ended slot d (load_inside c rd va width is_signed o v)) lies
-    ∙ (ap (λ (u : Told Answer). ended slot d (load_reached c q rd va width is_signed u.answer u.world)) same
-    ∙ ap (λ (a : Answer). ended slot d (load_reached c q rd va width is_signed a t.world)) stops)))
+    ∙ (ap (λ (e : Effect). ended slot d (played (done_inside n r c i e) v)) loads
+    ∙ (ap (λ (o : Option PageId). ended slot d (played (load_inside c rd va width is_signed o) v)) lies
+    ∙ (ap (λ (u : Told Answer). ended slot d (played (load_reached c q rd va width is_signed u.answer) u.world)) same
+    ∙ ap (λ (a : Answer). ended slot d (played (load_reached c q rd va width is_signed a) t.world)) stops)))
 
 store_stops : (slot : ℕ) (d : Domain) (c : Context) (q : PageId) (w v : World) (word : ℕ) (i : Instr)
     (va width value : ℕ) (t : Told Answer) → context_at d.control.contexts slot ≡ Some c →
@@ -127,10 +131,10 @@ store_stops slot d c q w v word i va width value t there runs found stores lies 
     let n = d.control.number in
     let r = d.control.resources in
     executed_step slot d c w v word i there runs found
-    ∙ (ap (λ (e : Effect). ended slot d (done_inside n r c i e v)) stores
-    ∙ (ap (λ (o : Option PageId). ended slot d (store_inside c va width value o v)) lies
-    ∙ (ap (λ (u : Told Answer). ended slot d (store_reached c q va width value u.answer u.world)) same
-    ∙ ap (λ (a : Answer). ended slot d (store_reached c q va width value a t.world)) stops)))
+    ∙ (ap (λ (e : Effect). ended slot d (played (done_inside n r c i e) v)) stores
+    ∙ (ap (λ (o : Option PageId). ended slot d (played (store_inside c va width value o) v)) lies
+    ∙ (ap (λ (u : Told Answer). ended slot d (played (store_reached c q va width value u.answer) u.world)) same
+    ∙ ap (λ (a : Answer). ended slot d (played (store_reached c q va width value a) t.world)) stops)))
 
 -- An atomic instruction.
 
@@ -150,18 +154,18 @@ atomic_step : (slot : ℕ) (d : Domain) (c : Context) (w v : World) (word : ℕ)
     register c.regs a.rs1 % 4 ≡ 0 →
     let va = register c.regs a.rs1 in
     domain_step slot d w
-    ≡ ended slot d (atomic_placed c a.rd a.op va (register c.regs a.rs2) (pages_for d (Some c) va) v)
+    ≡ ended slot d (played (atomic_placed c a.rd a.op va (register c.regs a.rs2) (pages_for d (Some c) va)) v)
 unfolding decoded_inside atomic_inside
 atomic_step slot d c w v word a there runs found aligned =
     let n = d.control.number in
     let r = d.control.resources in
     let va = register c.regs a.rs1 in
     word_step slot d c w v word there runs
-    ∙ (ap (λ (o : Option Instr). ended slot d (decoded_inside n r c word o v)) (no_other word a found)
-    ∙ (ap (λ (o : Option Atomic). ended slot d (atomic_inside n r c o v)) found
-    ∙ ap (λ (b : Bool). ended slot d (cond b
-    (atomic_placed c a.rd a.op va (register c.regs a.rs2) (pages_for d (Some c) va) v)
-    (traps c (misaligned a.op) va v))) (eq-eqb (va % 4) 0 aligned)))
+    ∙ (ap (λ (o : Option Instr). ended slot d (played (decoded_inside n r c word o) v)) (no_other word a found)
+    ∙ (ap (λ (o : Option Atomic). ended slot d (played (atomic_inside n r c o) v)) found
+    ∙ ap (λ (b : Bool). ended slot d (played (cond b
+    (atomic_placed c a.rd a.op va (register c.regs a.rs2) (pages_for d (Some c) va))
+    (traps c (misaligned a.op) va)) v)) (eq-eqb (va % 4) 0 aligned)))
 
 atomic_stops : (slot : ℕ) (d : Domain) (c : Context) (q : PageId) (w v : World) (word : ℕ) (a : Atomic)
     (t : Told Answer) → context_at d.control.contexts slot ≡ Some c → Executes d c w word v →
@@ -174,9 +178,9 @@ atomic_stops slot d c q w v word a t there runs found aligned lies same stops =
     let va = register c.regs a.rs1 in
     let operand = register c.regs a.rs2 in
     atomic_step slot d c w v word a there runs found aligned
-    ∙ (ap (λ (o : Option PageId). ended slot d (atomic_placed c a.rd a.op va operand o v)) lies
-    ∙ (ap (λ (u : Told Answer). ended slot d (atomic_reached c a.rd a.op q va operand u.answer u.world)) same
-    ∙ ap (λ (x : Answer). ended slot d (atomic_reached c a.rd a.op q va operand x t.world)) stops))
+    ∙ (ap (λ (o : Option PageId). ended slot d (played (atomic_placed c a.rd a.op va operand o) v)) lies
+    ∙ (ap (λ (u : Told Answer). ended slot d (played (atomic_reached c a.rd a.op q va operand u.answer) u.world)) same
+    ∙ ap (λ (x : Answer). ended slot d (played (atomic_reached c a.rd a.op q va operand x) t.world)) stops))
 
 -- A copy.
 
@@ -186,19 +190,20 @@ in_stops : (slot : ℕ) (d : Domain) (c : Context) (q : PageId) (w : World) (don
     is_cloaked d.control.resources c (byte_address (area c) done) ≡ false →
     ask_reach q (byte_address (buffer c) done) Load w ≡ t → t.answer ≡ told.Stopped →
     domain_step slot d w ≡ halted d t.world
-unfolding domain_step step_if phase_step copy_in_step copy_ended
+unfolding domain_step domain_script step_if phase_step copy_in_step copy_ended
 in_stops slot d c q w done t there phase more lies clear same stops =
     let n = d.control.number in
     let r = d.control.resources in
     let at : ℕ = byte_address (buffer c) done in
-    ap (λ (o : Option Context). step_if o slot d w) there
-    ∙ (ap (λ (p : Phase). phase_step p slot c d w) phase
-    ∙ (ap (λ (all : Bool). copied slot d (in_step all n r c done w)) more
+    ap (λ (o : Option Context). played (step_if o slot d) w) there
+    ∙ (ap (λ (p : Phase). played (phase_step p slot c d) w) phase
+    ∙ (copy_in_played done slot c d w
+    ∙ (ap (λ (all : Bool). copied slot d (played (in_step all n r c done) w)) more
     ∙ (ap (λ (o : Option PageId).
-    copied slot d (in_placed c done o (is_cloaked r c (byte_address (area c) done)) w)) lies
-    ∙ (ap (λ (b : Bool). copied slot d (in_placed c done (Some q) b w)) clear
-    ∙ (ap (λ (u : Told Answer). copied slot d (in_reached c q done u.answer u.world)) same
-    ∙ ap (λ (a : Answer). copied slot d (in_reached c q done a t.world)) stops)))))
+    copied slot d (played (in_placed c done o (is_cloaked r c (byte_address (area c) done))) w)) lies
+    ∙ (ap (λ (b : Bool). copied slot d (played (in_placed c done (Some q) b) w)) clear
+    ∙ (ap (λ (u : Told Answer). copied slot d (played (in_reached c q done u.answer) u.world)) same
+    ∙ ap (λ (a : Answer). copied slot d (played (in_reached c q done a) t.world)) stops))))))
 
 out_stops : (slot : ℕ) (d : Domain) (c : Context) (q : PageId) (w v : World) (done total byte : ℕ)
     (t : Told Answer) → context_at d.control.contexts slot ≡ Some c → c.phase ≡ CopyOut done total →
@@ -207,19 +212,20 @@ out_stops : (slot : ℕ) (d : Domain) (c : Context) (q : PageId) (w v : World) (
     ask_get (byte_address (area c) done) 1 w ≡ record { answer = told.Word byte; world = v } →
     ask_reach q (byte_address (buffer c) done) Store v ≡ t → t.answer ≡ told.Stopped →
     domain_step slot d w ≡ halted d t.world
-unfolding domain_step step_if phase_step copy_out_step copy_ended
+unfolding domain_step domain_script step_if phase_step copy_out_step copy_ended
 out_stops slot d c q w v done total byte t there phase more lies clear got same stops =
     let n = d.control.number in
     let r = d.control.resources in
-    ap (λ (o : Option Context). step_if o slot d w) there
-    ∙ (ap (λ (p : Phase). phase_step p slot c d w) phase
-    ∙ (ap (λ (all : Bool). copied_out slot d (out_step all n r c done total w)) more
+    ap (λ (o : Option Context). played (step_if o slot d) w) there
+    ∙ (ap (λ (p : Phase). played (phase_step p slot c d) w) phase
+    ∙ (copy_out_played done total slot c d w
+    ∙ (ap (λ (all : Bool). copied_out slot d (played (out_step all n r c done total) w)) more
     ∙ (ap (λ (o : Option PageId).
-    copied_out slot d (out_placed c done total o (is_cloaked r c (byte_address (area c) done)) w)) lies
-    ∙ (ap (λ (b : Bool). copied_out slot d (out_placed c done total (Some q) b w)) clear
-    ∙ (ap (λ (u : Told Answer). copied_out slot d (out_got c q done total u.answer u.world)) got
-    ∙ (ap (λ (u : Told Answer). copied_out slot d (out_reached c q done total byte u.answer u.world)) same
-    ∙ ap (λ (a : Answer). copied_out slot d (out_reached c q done total byte a t.world)) stops))))))
+    copied_out slot d (played (out_placed c done total o (is_cloaked r c (byte_address (area c) done))) w)) lies
+    ∙ (ap (λ (b : Bool). copied_out slot d (played (out_placed c done total (Some q) b) w)) clear
+    ∙ (ap (λ (u : Told Answer). copied_out slot d (played (out_got c q done total u.answer) u.world)) got
+    ∙ (ap (λ (u : Told Answer). copied_out slot d (played (out_reached c q done total byte u.answer) u.world)) same
+    ∙ ap (λ (a : Answer). copied_out slot d (played (out_reached c q done total byte a) t.world)) stops)))))))
 
 -- Every step: if a page for which it asks is refused, it is stopped.
 

@@ -6,20 +6,20 @@ use Rattle.cloak_base.specs.declared.names.PageId.{PageId}
 use Rattle.cloak_model.specs.declared.answer.Answer.{Answer}
 use Rattle.cloak_model.specs.AskPages.{replies, if_drawn, is_store, offer_events, offered_by, ask_offer, reached, reach_by_table, ask_reach}
 use Rattle.cloak_model.specs.Asking.{Told}
-use Rattle.cloak_model.specs.Cloaking.{CloakedMemory, Offer, Mismatch, offer}
+use Rattle.cloak_model.specs.Cloaking.{CloakedMemory, OfferEnd, Mismatch, offer}
 use Rattle.cloak_base.specs.Constants.{frame_of}
-use Rattle.cloak_model.specs.World.{Cloak, Cloaked, cipher_items}
+use Rattle.cloak_model.specs.World.{MidStep, Cloaked, cipher_items}
 use Rattle.cause_law.specs.Causes.{QuestionIsRefused, PageIsRefused}
 use Rattle.cause_law.proofs.Compared.{drawn_so, offer_refuses}
 
-mismatch_refuses : (q : PageId) (va : ℕ) (kind : Kind) (g : ℕ) (o : Offer) (c : Cloak) → o ≡ Mismatch →
+mismatch_refuses : (q : PageId) (va : ℕ) (kind : Kind) (g : ℕ) (o : OfferEnd) (c : MidStep) → o ≡ Mismatch →
     QuestionIsRefused q g (offered_by q va kind g o (Cloaked c))
 unfolding offered_by replies
 mismatch_refuses q va kind g o c is =
-    subst (λ (x : Offer). QuestionIsRefused q g (offered_by q va kind g x (Cloaked c))) (sym is)
+    subst (λ (x : OfferEnd). QuestionIsRefused q g (offered_by q va kind g x (Cloaked c))) (sym is)
     (record { answer = refl; violation = refl })
 
-offered_refuses : (q : PageId) (va : ℕ) (kind : Kind) (g : ℕ) (c : Cloak) →
+offered_refuses : (q : PageId) (va : ℕ) (kind : Kind) (g : ℕ) (c : MidStep) →
     (offer q g (is_store kind) c.memory).answer ≡ Mismatch → QuestionIsRefused q g (ask_offer q va kind g (Cloaked c))
 unfolding ask_offer
 offered_refuses q va kind g c is =
@@ -36,7 +36,7 @@ drawn_refuses : (q : PageId) (g : ℕ) (b : Bool) (t u : Told Answer) → b ≡ 
 drawn_refuses q g true t u is refuses = absurd (false≢true (sym is))
 drawn_refuses q g false t u is refuses = refuses
 
-reached_refuses : (q : PageId) (va : ℕ) (kind : Kind) (pa : ℕ) (c : Cloak) → c.memory.ledger.missed ≡ false →
+reached_refuses : (q : PageId) (va : ℕ) (kind : Kind) (pa : ℕ) (c : MidStep) → c.memory.ledger.missed ≡ false →
     (offer q (frame_of pa) (is_store kind) c.memory).answer ≡ Mismatch →
     QuestionIsRefused q (frame_of pa) (if_drawn (reached q va kind (Ok pa)) (Cloaked c))
 unfolding if_drawn reached

@@ -12,7 +12,7 @@ use Rattle.cloak_model.specs.Beginning.{Beginning, opening_from}
 use Rattle.cloak_model.specs.Contexts.{Context, is_root, domain_of, slot_of}
 use Rattle.cloak_model.specs.DomainState.{Domain}
 use Rattle.cloak_model.specs.Joint.{Moment, Turn, next_hart, domain_met, answers_violation, step_before_end, joint_step, after_turn, stop_of}
-use Rattle.cloak_model.specs.Opening.{Opened}
+use Rattle.cloak_model.specs.Opening.{RunEdge}
 use Rattle.cloak_model.specs.Parts.{Joint}
 use Rattle.cloak_model.specs.Run.{Run, run_from, unless_stopped, turns_from, joint_after, closing, first_moment, run_of}
 use Rattle.domain_isolation.proofs.InOrder.{same_some}
@@ -262,7 +262,7 @@ record RunSo (b : Bundle) (r : Run) : Type 0 where
   pub counted : r.opened.joint.refused ≡ 0
   pub closed : IsSame (moment_at b r (length r.turns)).joint r.closed.joint
 
-opened_so : (b : Bundle) (from : Beginning) (budget : ℕ) (o : Opened) → opening_from b from ≡ Ok o →
+opened_so : (b : Bundle) (from : Beginning) (budget : ℕ) (o : RunEdge) → opening_from b from ≡ Ok o →
     RunSo b (run_of b budget o)
 unfolding run_of closing
 opened_so b from budget o opens =

@@ -21,7 +21,7 @@ use Rattle.cloak_model.specs.Contexts.{Context, context_at, domain_of, slot_of, 
 use Rattle.cloak_model.specs.Csr.{satp_of, interrupt_due}
 use Rattle.cloak_model.specs.DomainAlone.{runs_on}
 use Rattle.cloak_model.specs.DomainState.{Domain}
-use Rattle.cloak_model.specs.DomainStep.{step_if, domain_step, interrupt}
+use Rattle.cloak_model.specs.DomainStep.{domain_script, step_if, domain_step, interrupt}
 use Rattle.cloak_model.specs.Hart.{Hart, started}
 use Rattle.cloak_model.specs.HostCalls.{SteppedKernel}
 use Rattle.cloak_model.specs.Joint.{Moment, Turn, next_hart, hart_in, cloak_of, cloak_outside, memory_of, after_kernel_step, outside_ended, after_outside, outside_step, without_mark, domain_ended, with_domain, after_domain_step, pages_for, interrupt_ended, after_interrupt, by_interrupt, by_running, inside_step, turn_of, step_before_end}
@@ -31,13 +31,14 @@ use Rattle.cloak_model.specs.Parts.{Joint}
 use Rattle.cloak_model.specs.Resuming.{resume}
 use Rattle.cloak_model.specs.Touched.{touched}
 use Rattle.cloak_model.specs.Walk.{walk}
-use Rattle.cloak_model.specs.World.{World, Cloak, Flat, Cloaked, Alone, items_of}
+use Rattle.cloak_model.specs.World.{World, MidStep, Flat, Cloaked, Alone, items_of}
+use Rattle.cloak_model.specs.Script.{played}
 use Rattle.settling_ahead.proofs.Laws.{keeps_rest}
 use Rattle.settling_ahead.proofs.Touching.{writes_touched_alone}
 use Rattle.kernel_isolation.proofs.Accounts.{ram_seen}
 use Rattle.kernel_isolation.proofs.Numbers.{number_at}
 use Rattle.kernel_isolation.proofs.Turns.{IsSteady}
-use Rattle.script_fold.proofs.InstructionScripts.{IsOwn, own_page}
+use Rattle.script_fold.proofs.InstructionScripts.{IsOwnPage, own_page}
 use Rattle.cause_law.specs.Causes.{kernel_ending, AsksToResume, context_running, can_run, presented_root, Presents, table_leads, IsLeft}
 use Rattle.cause_law.specs.Presented.{hart_of_step, StepsInside, world_inside, Differs, PresentsPage}
 use Rattle.cause_law.proofs.Kept.{IsKept, kept_settled}
@@ -77,7 +78,7 @@ quiet_meets m t kept none = record { kept = kept; met = λ v is. no_violation v 
 unmarked_kept : (number : ℕ) (m : CloakedMemory) → IsKept m → IsKept (without_mark number m)
 unmarked_kept number m kept = record { places = kept.places; once = kept.once }
 
-ended_calm : (m : Moment) (j : Joint) (number : ℕ) (h : Hart) (e : ℕ) (c : Cloak) (g : Went) → IsKept j.memory →
+ended_calm : (m : Moment) (j : Joint) (number : ℕ) (h : Hart) (e : ℕ) (c : MidStep) (g : Went) → IsKept j.memory →
     IsCalm c → Meets m (domain_ended j number h e (Cloaked c) g)
 unfolding domain_ended
 ended_calm m j number h e c went.Stopped kept calm = quiet_meets m _ kept calm.none
@@ -90,9 +91,9 @@ ended_calm m j number h e c _ kept calm = quiet_meets m _ kept refl
 pub own_at : (d : Domain) (c : Context) (va : ℕ) (q : PageId) → pages_for d (Some c) va ≡ Some q →
     q.domain ≡ d.control.number
 own_at d c va q lies =
-    subst (IsOwn d.control.number) lies (own_page d.control.number d.control.resources c.space va)
+    subst (IsOwnPage d.control.number) lies (own_page d.control.number d.control.resources c.space va)
 
-ended_met : (m : Moment) (s : StepsInside m) (j : Joint) (number : ℕ) (h : Hart) (e : ℕ) (c : Cloak) (g : Went) →
+ended_met : (m : Moment) (s : StepsInside m) (j : Joint) (number : ℕ) (h : Hart) (e : ℕ) (c : MidStep) (g : Went) →
     j.memory ≡ c.memory → s.domain.control.number ≡ domain_of s.ctx → g ≡ went.Stopped →
     MetIn s.domain s.context (world_inside m s) (Cloaked c) → Meets m (domain_ended j number h e (Cloaked c) g)
 unfolding domain_ended
@@ -108,16 +109,17 @@ ended_met m s j number h e c went.Stopped same owner is at =
           step = s;
           va = at.va;
           kind = at.kind;
-          lies = at.lies;
+          lies = at.asked.lies;
           at = at.at;
-          asks = at.asks;
+          asks = at.asked.asks;
           finds = met.finds;
         };
-        own = own_at s.domain s.context at.va at.page at.lies ∙ owner;
+        own = own_at s.domain s.context at.va at.page at.asked.lies ∙ owner;
         walked = met.walked;
         leads = subst (λ (x : CloakedMemory).
             table_leads (ticked (hart_of_step m)) x.ram at.kind at.va ≡ Ok met.walked) (sym same)
-            (subst (λ (regime : InsideRegime). walk c.memory.ram regime.satp (access_of regime at.kind at.va) ≡ Ok met.walked) at.regime
+            (subst (λ (regime : InsideRegime).
+            walk c.memory.ram regime.satp (access_of regime at.kind at.va) ≡ Ok met.walked) at.asked.regime
             met.leads);
         there = met.there;
         differs = subst (Differs at.page met.frame) (sym same) met.differs;
@@ -159,7 +161,7 @@ context_meets : (m : Moment) (ctx : ℕ) (was : Domain) (o : Option Context) →
     context_at was.control.contexts (slot_of ctx) ≡ o →
     let h = ticked (hart_of_step m) in
     Meets m (after_domain_step m.joint (next_hart m) h (domain_of ctx)
-    (step_if o (slot_of ctx) was (Cloaked (cloak_of m.joint.memory h (domain_of ctx) (pages_for was o)))))
+    (played (step_if o (slot_of ctx) was) (Cloaked (cloak_of m.joint.memory h (domain_of ctx) (pages_for was o)))))
 unfolding after_domain_step step_if domain_ended
 context_meets m ctx was None r here goes there = quiet_meets m _ r.kept refl
 context_meets m ctx was (Some c) r here goes there =
@@ -180,7 +182,7 @@ due_meets : (m : Moment) (ctx : ℕ) (was : Domain) (due : Bool) → Running m c
     runs_on (next_hart m) (context_at was.control.contexts (slot_of ctx)) ≡ true →
     interrupt_due (ticked (hart_of_step m)).mode (ticked (hart_of_step m)).csrs ≡ due →
     Meets m (by_interrupt due m.joint (next_hart m) (ticked (hart_of_step m)) (domain_of ctx) (slot_of ctx) was)
-unfolding by_interrupt after_interrupt domain_step
+unfolding by_interrupt after_interrupt domain_step domain_script
 due_meets m ctx was true r here is =
     interrupt_meets m _ (next_hart m) _ _ (interrupt (slot_of ctx) was.control).went r.kept
 due_meets m ctx was false r here is =

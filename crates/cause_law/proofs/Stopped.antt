@@ -17,14 +17,13 @@ use Rattle.cloak_model.specs.declared.item.Item.TheVariants as item
 use Rattle.cloak_model.specs.declared.outcome.Kernel.{Kernel}
 use Rattle.cloak_model.specs.declared.outcome.Kernel.TheVariants as kernel
 use Rattle.cloak_model.specs.Ahead.{settle_touched, settled_step, made_after}
-use Rattle.cloak_model.specs.Asking.{Told}
 use Rattle.cloak_model.specs.AskPages.{answer_item}
 use Rattle.cloak_model.specs.Cloaking.{CloakedMemory}
 use Rattle.cloak_model.specs.Contexts.{Admitted, domain_of, slot_of}
 use Rattle.cloak_model.specs.Csr.{satp_of}
 use Rattle.cloak_model.specs.DomainAlone.{is_stopped}
 use Rattle.cloak_model.specs.DomainState.{Control, Domain}
-use Rattle.cloak_model.specs.DomainStep.{DomainStepped, domain_step, interrupt}
+use Rattle.cloak_model.specs.DomainStep.{domain_script, domain_step, interrupt}
 use Rattle.cloak_model.specs.Halves.{is_inward, inward_half}
 use Rattle.cloak_model.specs.Hart.{Hart}
 use Rattle.cloak_model.specs.Joint.{Moment, Turn, next_hart, hart_in, memory_of, outside_ended, domain_ended, with_domain, after_domain_step, interrupt_ended, after_interrupt, by_interrupt, by_running, inside_step, turn_of, domain_met, end_domain, ends_once, ends_resumed, ends_asked, answers_violation, step_before_end, joint_step, stop_of, stop_without_miss}
@@ -39,7 +38,7 @@ use Rattle.domain_isolation.proofs.Answers.{IsServing}
 use Rattle.domain_isolation.proofs.Endings.{end_world, end_leaves}
 use Rattle.domain_isolation.proofs.InOrder.{decided, same_some, get_set_same}
 use Rattle.domain_isolation.proofs.Played.{answers_of, answer_items, played_items, played_stopped}
-use Rattle.script_fold.proofs.Scripts.{played}
+use Rattle.cloak_model.specs.Script.{played}
 use Rattle.domain_isolation.proofs.Steady.{is_halted}
 use Rattle.script_fold.proofs.StepScripts.{of_domain, step_scripted}
 use Rattle.cause_law.specs.Causes.{kernel_ending, EndsOrStops}
@@ -223,27 +222,25 @@ played_tells : (d : ℕ) (j : Joint) (number : ℕ) (h : Hart) (ctx slot : ℕ) 
     IsServing was.control.number w → items_of w ≡ [] → was.control.number ≡ domain_of ctx →
     slice_get j.domains (domain_of ctx) ≡ Some was →
     Tells d (Some ctx) (after_domain_step j number h (domain_of ctx) (domain_step slot was w))
-unfolding after_domain_step
+unfolding after_domain_step domain_step
 played_tells d j number h ctx slot was w serving none owner there =
-    let e = domain_of ctx in
-    let s = step_scripted slot was in
-    let ending = of_domain slot was in
     let n = was.control.number in
-    let u = played s.script w in
-    subst (λ (t : Told DomainStepped). Tells d (Some ctx) (domain_ended
-    (record (with_domain e t.answer.domain j) { memory = memory_of t.world j.memory }) number h e t.world
-    t.answer.went)) (sym (s.plays w))
-    (record {
+    let s = domain_script slot was in
+    let is_scripted = step_scripted slot was in
+    let u = played s w in
+    let answers = answers_of s w in
+    record {
       by = λ is.
-          let half : inward_half d (items_of u.world) ≡ inward_half d (answer_items n (answers_of s.script w)) =
-          played_items s.script w serving d
-          ∙ ap (λ (l : List Item). inward_half d l ++ inward_half d (answer_items n (answers_of s.script w))) none in
-          let told = ap (list_any is_stop) (sym (domain_half d _ number h e u.world u.answer.went ∙ half)) ∙ is in
-          let any = stopped_answers d n (answers_of s.script w) told in
-          let halts = played_stopped ending s.script w s.ends serving any in
+          let half : inward_half d (items_of u.world) ≡ inward_half d (answer_items n answers) =
+          played_items n s is_scripted.own w serving d
+          ∙ ap (λ (l : List Item). inward_half d l ++ inward_half d (answer_items n answers)) none in
+          let told = ap (list_any is_stop)
+          (sym (domain_half d _ number h (domain_of ctx) u.world u.answer.went ∙ half)) ∙ is in
+          let halts = played_stopped n (of_domain slot was) s is_scripted.own w is_scripted.ends serving.form
+          (stopped_answers d n answers told) in
           domain_stops d j number h ctx u.world u.answer.went was u.answer.domain halts.stopped halts.halted
-          (sym owner ∙ own_stop d n (answers_of s.script w) told) there;
-    })
+          (sym owner ∙ own_stop d n answers told) there;
+    }
 
 interrupt_tells : (d : ℕ) (inside : Option ℕ) (j : Joint) (number : ℕ) (h : Hart) (e : ℕ) (g : Went) →
     Tells d inside (interrupt_ended j number h (item.Timer e ∷ []) g)

@@ -31,7 +31,7 @@ use Rattle.cloak_base.specs.Constants.{frame_of}
 use Rattle.cloak_model.specs.Parts.{Joint}
 use Rattle.cloak_model.specs.Run.{Run, run_from, joint_after}
 use Rattle.cloak_model.specs.Walk.{Walk, walk}
-use Rattle.cloak_model.specs.World.{Cloak, Cloaked, violation_of}
+use Rattle.cloak_model.specs.World.{MidStep, Cloaked, violation_of}
 use Rattle.cause_law.specs.Presented.{hart_of_step, Differs, FindsOther, PresentsPage}
 
 -- The machine as a run goes on.
@@ -206,7 +206,7 @@ pub record QuestionIsRefused (q : PageId) (f : ℕ) (told : Told Answer) : Type 
 -- stopped so.
 abbrev pub PageIsRefused : Type 0
 PageIsRefused =
-    (q : PageId) (va : ℕ) (kind : Kind) (f : ℕ) (c : Cloak) → FindsOther q va kind f c →
+    (q : PageId) (va : ℕ) (kind : Kind) (f : ℕ) (c : MidStep) → FindsOther q va kind f c →
     QuestionIsRefused q f (ask_reach q va kind (Cloaked c))
 
 -- A question of a program was stopped: after that item the step writes that the domain ended, or a draw was missing

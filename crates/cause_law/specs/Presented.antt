@@ -24,7 +24,7 @@ use Rattle.cloak_model.specs.Joint.{Moment, next_hart, hart_in, cloak_of, pages_
 use Rattle.cloak_model.specs.KernelStep.{atomic_kind, ticked}
 use Rattle.cloak_base.specs.Constants.{frame_of}
 use Rattle.cloak_model.specs.Memory.{value_in}
-use Rattle.cloak_model.specs.World.{World, Cloak, Cloaked, plain_of}
+use Rattle.cloak_model.specs.World.{World, MidStep, Cloaked, plain_of}
 
 -- The step of a context.
 
@@ -103,9 +103,9 @@ at_comparison q f m = let m' = (settle f m).memory in (settle_frame_if (owing_fr
 
 -- The kernel's page table leads an access at an address to a frame of RAM. It is not the frame that is owed page q; and as
 -- they are compared, with no draw missing, it differs from what is recorded of q.
-pub record FindsOther (q : PageId) (va : ℕ) (kind : Kind) (f : ℕ) (c : Cloak) : Type 0 where
+pub record FindsOther (q : PageId) (va : ℕ) (kind : Kind) (f : ℕ) (c : MidStep) : Type 0 where
   pub pa : ℕ
-  pub found : Cloak
+  pub found : MidStep
   pub leads : ask_inside_address va kind (Cloaked c) ≡ record { answer = Ok pa; world = Cloaked found }
   pub frame : frame_of pa ≡ f
   pub elsewhere : owed_in found.memory f ≢ Some q
@@ -119,6 +119,6 @@ pub record PresentsPage (m : Moment) (q : PageId) (f : ℕ) : Type 0 where
   pub va : ℕ
   pub kind : Kind
   pub lies : page_here step va ≡ Some q
-  pub at : Cloak
+  pub at : MidStep
   pub asks : AsksAt step.domain step.context (world_inside m step) va kind (Cloaked at)
   pub finds : FindsOther q va kind f at

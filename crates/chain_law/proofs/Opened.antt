@@ -1,5 +1,5 @@
 -- As a run over files begins, each of them is there with its pages, and no two files of a domain have one number.
-use Rattle.std.proofs.Common.{◌≡◌, ◌≢◌, ◌∙◌, ◌⊎◌, inl, inr, ℕ, zero, suc, ◌+◌, ◌<◌, Bool, true, false, cond, List, [], ◌∷◌, length, get_or, slice_get, slice_set, Option, Some, None, Ok, refl, sym, ap, subst}
+use Rattle.std.proofs.Common.{◌≡◌, ◌∙◌, ◌⊎◌, inl, inr, ℕ, zero, suc, ◌+◌, Bool, true, false, cond, List, [], ◌∷◌, length, get_or, slice_get, slice_set, Option, Some, None, Ok, refl, sym, ap, subst}
 use Rattle.std.specs.Prelude.{position, is_none, ◌==◌}
 use Rattle.std.proofs.lemmas.Bool.{false≢true, eqb-true}
 use Rattle.std.proofs.lemmas.List.{get_or-set_same, get_or-set_other}
@@ -13,7 +13,7 @@ use Rattle.cloak_model.specs.Beginning.{Beginning, opening_from}
 use Rattle.cloak_model.specs.Cloaking.{CloakedMemory}
 use Rattle.cloak_model.specs.DomainState.{Domain, with_resources, started_control, started_domain}
 use Rattle.cloak_model.specs.Files.{holds_file, file_found, file_resource}
-use Rattle.cloak_model.specs.Opening.{Opened, started_domains, started_joint}
+use Rattle.cloak_model.specs.Opening.{RunEdge, started_domains, started_joint}
 use Rattle.cloak_model.specs.Parts.{Joint}
 use Rattle.cloak_model.specs.Resources.{Resources, Mapped, resource_at, pages_of, refused, started_resources}
 use Rattle.cloak_model.specs.Run.{Run, run_from, run_of}
@@ -297,7 +297,7 @@ joint_domains : (b : Bundle) (m : CloakedMemory) → (started_joint b m).domains
 unfolding started_joint
 joint_domains b m = refl
 
-machine_opens : (b : Bundle) (from : Beginning) (o : Opened) → opening_from b from ≡ Ok o →
+machine_opens : (b : Bundle) (from : Beginning) (o : RunEdge) → opening_from b from ≡ Ok o →
     OpensFiles (files_of from) o.joint
 machine_opens b from o opens =
     let over = opens_over b from o opens in
@@ -316,7 +316,7 @@ machine_opens b from o opens =
       unique = files_keep AllUnique given_unique files first o.joint over.added (joint_unique b over.memory);
     }
 
-run_opens : (b : Bundle) (budget : ℕ) (files : List FileContents) (o : Opened) → OpensFiles files o.joint →
+run_opens : (b : Bundle) (budget : ℕ) (files : List FileContents) (o : RunEdge) → OpensFiles files o.joint →
     OpensFiles files (run_of b budget o).opened.joint
 unfolding run_of
 run_opens b budget files o opens = opens

@@ -4,7 +4,7 @@ use Rattle.std.proofs.lemmas.Bool.{false≢true}
 use Rattle.cloak_base.specs.declared.names.PageId.{PageId}
 use Rattle.cloak_model.specs.DomainState.{Domain}
 use Rattle.cloak_model.specs.Files.{holds_file}
-use Rattle.cloak_model.specs.Opening.{Opened}
+use Rattle.cloak_model.specs.Opening.{RunEdge}
 use Rattle.cloak_model.specs.Parts.{Joint}
 use Rattle.cloak_model.specs.Resources.{resource_at}
 use Rattle.cloak_model.specs.Run.{Run, closing}
@@ -38,7 +38,7 @@ pub end_unmakes_files : EndUnmakesFiles
 end_unmakes_files m made p program there ended =
     let r : Run = m.run in
     let domains : r.closed.joint.domains ≡ (joint_until (length r.turns) r).domains =
-    ap (λ (o : Opened). o.joint.domains) (closed_is m.bundle m.from m.budget r made.runs)
+    ap (λ (o : RunEdge). o.joint.domains) (closed_is m.bundle m.from m.budget r made.runs)
     ∙ closing_domains (joint_until (length r.turns) r) in
     let gone = ended_are_gone m.bundle m.from m.budget r made.in_grammar made.runs (length r.turns) p.domain program
     (ap (λ (l : List Domain). slice_get l p.domain) (sym domains) ∙ there) ended in

@@ -12,30 +12,30 @@ use Rattle.cloak_model.specs.declared.inside.Went.{Went}
 use Rattle.cloak_model.specs.declared.inside.Went.TheVariants as went
 use Rattle.cloak_model.specs.declared.item.Item.{Item}
 use Rattle.cloak_model.specs.declared.outcome.Kernel.{Kernel}
-use Rattle.cloak_model.specs.declared.outcome.Kernel.TheVariants.{Stay, Resume}
+use Rattle.cloak_model.specs.declared.outcome.Kernel.TheVariants.{Resume}
 use Rattle.cloak_model.specs.Ahead.{settle_while, settle_found, settle_touched, settled_step, made_after, is_owed}
-use Rattle.cloak_model.specs.AskPages.{settled_if_marked, ask_forget}
+use Rattle.cloak_model.specs.AskPages.{ask_forget}
 use Rattle.cloak_model.specs.Asking.{Told}
 use Rattle.cloak_model.specs.Beginning.{Beginning, opening_from, with_content, with_contents}
 use Rattle.cloak_model.specs.Cloaking.{CloakedMemory, AfterSettling, settle}
 use Rattle.cloak_model.specs.Contexts.{Admitted, context_at, domain_of, slot_of}
 use Rattle.cloak_model.specs.DomainState.{Control, Domain}
 use Rattle.cloak_model.specs.DomainStep.{DomainStepped}
-use Rattle.cloak_model.specs.Ending.{all_marked, settled_for, ask_end, cloak_for}
-use Rattle.cloak_model.specs.Fork.{ask_forgets}
+use Rattle.cloak_model.specs.Ending.{ask_end, cloak_for}
 use Rattle.cloak_model.specs.Hart.{Hart}
 use Rattle.cloak_model.specs.Hypercalls.{Stepped}
 use Rattle.cloak_model.specs.Joint.{Moment, Turn, next_hart, hart_in, cloak_of, cloak_outside, memory_of, outside_ended, after_outside, outside_step, domain_ended, after_domain_step, pages_for, interrupt_ended, after_interrupt, by_interrupt, by_running, inside_step, turn_of, end_domain, step_before_end, joint_step}
 use Rattle.cloak_model.specs.KernelStep.{ticked}
 use Rattle.cloak_model.specs.Ledger.{Keys}
-use Rattle.cloak_model.specs.Opening.{Opened, numbers_below, started_joint, started_ledger, started_memory}
+use Rattle.cloak_model.specs.Opening.{RunEdge, started_joint, started_ledger, started_memory}
 use Rattle.cloak_model.specs.PageMoves.{place_with}
 use Rattle.cloak_model.specs.Parts.{Joint}
 use Rattle.cloak_model.specs.Resuming.{resume}
 use Rattle.cloak_model.proofs.ResumeParts.{by_root, by_context, by_domain}
 use Rattle.cloak_model.specs.Run.{Run, run_from, run_of, turns_from, first_moment, joint_after, closing, settled_below}
 use Rattle.cloak_model.specs.StoredFiles.{PageContent, FileContents}
-use Rattle.cloak_model.specs.World.{World, Cloak, Cloaked, ram_of, settled}
+use Rattle.cloak_model.specs.World.{World, MidStep, Cloaked, settled}
+use Rattle.script_fold.proofs.Endings.{keeps_end}
 use Rattle.domain_isolation.proofs.Steady.{settle_plain}
 use Rattle.kernel_isolation.proofs.FilesAdded.{IsGiven}
 use Rattle.kernel_isolation.proofs.Isolated.{of_opened}
@@ -180,35 +180,18 @@ settled_world : (f : ℕ) (w : World) → TidyIn w → TidyIn (settled f w)
 settled_world f (Cloaked c) tidy = settle_tidy f c.memory tidy
 settled_world f _ tidy = tt
 
-either_world : (b : Bool) (w v : World) → TidyIn w → TidyIn v → TidyIn (cond b v w)
-either_world true w v here there = there
-either_world false w v here there = here
-
-marked_world : (d : ℕ) (marked : List Bool) (f : ℕ) (w : World) → TidyIn w → TidyIn (settled_if_marked d marked f w)
-unfolding settled_if_marked
-marked_world d marked f w tidy = either_world _ w (settled f w) tidy (settled_world f w tidy)
-
-settled_for_world : (d f n : ℕ) (w : World) → TidyIn w → TidyIn (settled_for d f n w)
-unfolding settled_for
-settled_for_world d f zero w tidy = tidy
-settled_for_world d f (suc n) w tidy =
-    settled_for_world d (f + 1) n (settled_if_marked d all_marked f w) (marked_world d all_marked f w tidy)
-
 forget_world : (d resource : ℕ) (w : World) → TidyIn w → TidyIn (ask_forget d resource w).world
 unfolding ask_forget
 forget_world d resource (Cloaked c) tidy = drop_tidy d resource c.memory tidy
 forget_world d resource _ tidy = tt
 
-forgets_world : (d : ℕ) (numbers : List ℕ) (w : World) → TidyIn w → TidyIn (ask_forgets d numbers w).world
-unfolding ask_forgets
-forgets_world d [] w tidy = tidy
-forgets_world d (n ∷ numbers) w tidy = forgets_world d numbers (ask_forget d n w).world (forget_world d n w tidy)
-
 end_world : (d : ℕ) (w : World) → TidyIn w → TidyIn (ask_end d w).world
-unfolding ask_end
-end_world d w tidy =
-    forgets_world d (numbers_below 16) (settled_for d 0 (length (ram_of w)) w)
-    (settled_for_world d 0 (length (ram_of w)) w tidy)
+end_world d w =
+    keeps_end (λ v x. TidyIn v → TidyIn x) (record {
+      same = λ v tidy. tidy;
+      chained = λ u v x first second tidy. second (first tidy);
+      settled = settled_world;
+    }) forget_world d w
 
 after_end : (w : World) (m : CloakedMemory) → TidyIn w → IsTidy m → IsTidy (memory_of w m)
 after_end (Cloaked c) m here tidy = here
@@ -280,7 +263,7 @@ record IsFit (j : Joint) : Type 0 where
   steady : IsSteady j
   tidy : JointTidy j
 
-fit_begins : (b : Bundle) (from : Beginning) (o : Opened) → opening_from b from ≡ Ok o → IsFit o.joint
+fit_begins : (b : Bundle) (from : Beginning) (o : RunEdge) → opening_from b from ≡ Ok o → IsFit o.joint
 fit_begins b from o opens = record {
   steady = (is_opened b from o opens).steady;
   tidy = begins_by_memory IsTidy JointTidy b from place_tidy (started_tidy b) (joint_tidy b) given_tidy o opens;
@@ -298,7 +281,7 @@ unshown_are_zeros b from budget r is n =
 
 -- The closing.
 
-below_tidy : (n : ℕ) (c : Cloak) → IsTidy c.memory → IsTidy (settled_below n c).memory
+below_tidy : (n : ℕ) (c : MidStep) → IsTidy c.memory → IsTidy (settled_below n c).memory
 unfolding settled_below
 below_tidy zero c tidy = tidy
 below_tidy (suc n) c tidy = settle_tidy n (settled_below n c).memory (below_tidy n c tidy)
@@ -308,7 +291,7 @@ unfolding closing
 closing_tidy j tidy = below_tidy (length j.memory.ram) (cloak_outside j.memory (hart_in j 0)) tidy
 
 -- the machine that is closed is that after the last step
-closed_so : (b : Bundle) (budget : ℕ) (o : Opened) → let r = run_of b budget o in
+closed_so : (b : Bundle) (budget : ℕ) (o : RunEdge) → let r = run_of b budget o in
     r.closed ≡ closing (joint_until (length r.turns) r)
 unfolding run_of
 closed_so b budget o =
@@ -328,7 +311,7 @@ not_missed false s other = refl
 abbrev DrawnIf : Run → Type 0
 DrawnIf r = r.stop ≢ stop.NoRandom → r.closed.joint.memory.ledger.missed ≡ false
 
-drawn_so : (b : Bundle) (budget : ℕ) (o : Opened) → DrawnIf (run_of b budget o)
+drawn_so : (b : Bundle) (budget : ℕ) (o : RunEdge) → DrawnIf (run_of b budget o)
 unfolding run_of
 drawn_so b budget o other = not_missed _ _ other
 
@@ -339,7 +322,7 @@ pub left_unshown_are_zeros : LeftUnshownAreZeros
 left_unshown_are_zeros b from budget r is other =
     let m : CloakedMemory = r.closed.joint.memory in
     let tidy : IsTidy m =
-    subst (λ (o : Opened). JointTidy o.joint) (sym (closed_is b from budget r is))
+    subst (λ (o : RunEdge). JointTidy o.joint) (sym (closed_is b from budget r is))
     (closing_tidy (joint_until (length r.turns) r) (unshown_are_zeros b from budget r is (length r.turns))) in (
       tidy.0,
       (λ q unrecorded.

@@ -1,22 +1,26 @@
 -- Fresh pages stay zeros over each step of a program.
 use Rattle.std.proofs.Common.{◌≡◌, ℕ, Bool, true, false, List, [], ◌∷◌, zip, Option, Result, Ok, Err, refl, sym, subst, zero-add, arith}
 use Rattle.std.specs.Prelude.{All, slice_index_or}
+use Rattle.std.specs.List.{list_any}
+use Rattle.std.proofs.lemmas.Bool.{cond_both}
 use Rattle.std.proofs.lemmas.List.Elements.{All-head, All-tail}
 use Rattle.cloak_model.specs.declared.answer.Answer.{Answer}
 use Rattle.cloak_model.specs.declared.answer.Answer.TheVariants as told
 use Rattle.cloak_model.specs.declared.resource.MapFault.{MapFault}
-use Rattle.cloak_model.specs.AskPages.{ask_copy, ask_forget}
-use Rattle.cloak_model.specs.Contexts.{Context}
+use Rattle.cloak_model.specs.AskPages.{ask_clear, ask_copy}
+use Rattle.cloak_model.specs.Contexts.{Context, end_at}
 use Rattle.cloak_model.specs.DomainState.{Control, Domain}
 use Rattle.cloak_model.specs.DomainStep.{domain_step}
-use Rattle.cloak_model.specs.Fork.{marked, private_numbers, free_numbers, ask_copies, ask_forgets, fork, end_context}
-use Rattle.cloak_model.proofs.ForkParts.{fork_cleared, fork_if, end_cleared, end_if}
+use Rattle.cloak_model.specs.Fork.{Spaces, Fork, End, marked, private_numbers, free_numbers, copies, fork_fits, copy_each, or_full, if_cleared, fork, is_of_space, forget_each, end_context}
 use Rattle.cloak_model.specs.Hypercalls.{Hypercall, ForkSpace, Exit, hypercall, fork_call, exit_call}
 use Rattle.cloak_model.specs.Resources.{Resources, is_private_to}
 use Rattle.cloak_model.specs.World.{World}
+use Rattle.cloak_model.specs.Script.{Script, played}
+use Rattle.cloak_model.proofs.Playing.{plays_both}
 use Rattle.resource_map.proofs.Places.{All-places, places-map}
+use Rattle.script_fold.proofs.Endings.{keeps_forgets}
 use Rattle.script_fold.proofs.Walks.{Walked, step_walks}
-use Rattle.chain_law.proofs.ZeroWorlds.{Learns, learns_same, learns_then, reach_learns, reach_hand, get_learns, put_learns, write_learns, MarkedClear, clear_learns, clear_clears, copy_learns, copy_owes, forget_learns}
+use Rattle.chain_law.proofs.ZeroWorlds.{KnowsIn, places_of, Learns, learns_same, learns_then, reach_learns, reach_hand, get_learns, put_learns, write_learns, MarkedClear, clear_learns, clear_clears, copy_learns, copy_owes, forget_learns}
 
 -- Forks and ends.
 
@@ -30,8 +34,8 @@ private_marked space r =
     (λ i low pass. subst (IsMarked (marked space r)) (sym (zero-add i)) pass))
 
 copies_learn : (domain : ℕ) (marks : List Bool) (numbers free : List ℕ) (w : World) → All (IsMarked marks) numbers →
-    MarkedClear domain marks w → Learns w (ask_copies domain (zip numbers free) w).world
-unfolding ask_copies
+    MarkedClear domain marks w → Learns w (played (copy_each domain (zip numbers free)) w).world
+unfolding copy_each
 copies_learn domain marks [] free w all clear = learns_same w
 copies_learn domain marks (n ∷ numbers) [] w all clear = learns_same w
 copies_learn domain marks (n ∷ numbers) (to ∷ free) w all clear =
@@ -39,57 +43,52 @@ copies_learn domain marks (n ∷ numbers) (to ∷ free) w all clear =
     (copies_learn domain marks numbers free (ask_copy domain n to w).world (All-tail (IsMarked marks) n numbers all)
     (λ resource is. copy_owes domain n to w resource (clear resource is)))
 
-forgets_learn : (domain : ℕ) (numbers : List ℕ) (w : World) → Learns w (ask_forgets domain numbers w).world
-unfolding ask_forgets
-forgets_learn domain [] w = learns_same w
-forgets_learn domain (n ∷ numbers) w =
-    learns_then _ _ _ (forget_learns domain n w) (forgets_learn domain numbers (ask_forget domain n w).world)
+-- goes on once the frames are settled
+cleared_learns : {A : Type 0} (domain : ℕ) (marks : List Bool) (stopped : A) (next : Script A) (w : World) →
+    let t = ask_clear domain marks w in
+    ((knows : KnowsIn w) → t.answer ≡ told.Ok → KnowsIn t.world → KnowsIn (played next t.world).world) →
+    Learns w (played (if_cleared t.answer stopped next) t.world).world
+cleared_learns domain marks stopped next w more = by (ask_clear domain marks w).answer refl
+  where
+    by : (a : Answer) → (ask_clear domain marks w).answer ≡ a →
+        Learns w (played (if_cleared a stopped next) (ask_clear domain marks w).world).world
+    by told.Ok is = record { by = λ knows. more knows is ((clear_learns domain marks w).by knows) }
+    by _ is = clear_learns domain marks w
 
-fork_cleared_learns : (domain : ℕ) (c : Context) (slot new : ℕ) (r : Resources) (contexts : List (Option Context))
-    (a : Answer) (w : World) → (a ≡ told.Ok → MarkedClear domain (marked c.space r) w) →
-    Learns w (fork_cleared domain c slot new r contexts a w).world
-fork_cleared_learns domain c slot new r contexts told.Ok w clear =
-    copies_learn domain (marked c.space r) (private_numbers c.space r) (free_numbers r) w (private_marked c.space r)
-    (clear refl)
-fork_cleared_learns domain c slot new r contexts (told.Absent cause) w clear = learns_same w
-fork_cleared_learns domain c slot new r contexts (told.Word value) w clear = learns_same w
-fork_cleared_learns domain c slot new r contexts told.Stopped w clear = learns_same w
-
-fork_if_learns : (fits : Result (Unit {0}) MapFault) (domain : ℕ) (c : Context) (r : Resources)
-    (contexts : List (Option Context)) (w : World) → Learns w (fork_if fits domain c r contexts w).world
-fork_if_learns (Err fault) domain c r contexts w = learns_same w
-fork_if_learns (Ok fits) domain c r contexts w = record {
-  by = λ knows.
-      (fork_cleared_learns domain c _ _ r contexts _ _ (clear_clears domain (marked c.space r) w knows)).by
-      ((clear_learns domain (marked c.space r) w).by knows);
-}
+full_learns : (fits : Result (Unit {0}) MapFault) (unchanged : Spaces) (next : Script Fork) (w : World) →
+    Learns w (played next w).world → Learns w (played (or_full fits unchanged next) w).world
+full_learns (Err fault) unchanged next w more = learns_same w
+full_learns (Ok fits) unchanged next w more = more
 
 fork_learns : (domain : ℕ) (c : Context) (r : Resources) (contexts : List (Option Context)) (w : World) →
-    Learns w (fork domain c r contexts w).world
+    Learns w (played (fork domain c r contexts) w).world
 unfolding fork
-fork_learns domain c r contexts w = fork_if_learns _ domain c r contexts w
-
-end_cleared_learns : (domain slot space : ℕ) (r : Resources) (contexts : List (Option Context)) (a : Answer)
-    (w : World) → Learns w (end_cleared domain slot space r contexts a w).world
-end_cleared_learns domain slot space r contexts told.Ok w = forgets_learn domain _ w
-end_cleared_learns domain slot space r contexts _ w = learns_same w
-
-end_if_learns : (others : Bool) (domain slot space : ℕ) (r : Resources) (contexts : List (Option Context)) (w : World) →
-    Learns w (end_if others domain slot space r contexts w).world
-end_if_learns true domain slot space r contexts w = learns_same w
-end_if_learns false domain slot space r contexts w =
-    learns_then _ _ _ (clear_learns domain (marked space r) w) (end_cleared_learns domain slot space r contexts _ _)
+fork_learns domain c r contexts w =
+    let v = (ask_clear domain (marked c.space r) w).world in
+    full_learns (fork_fits c.space r contexts) _ _ w (cleared_learns domain (marked c.space r) _ _ w (λ knows ok.
+    (plays_both (λ t. Learns v t.world) (copy_each domain (copies c.space r)) _ v
+    (copies_learn domain (marked c.space r) (private_numbers c.space r) (free_numbers r) v (private_marked c.space r)
+    (clear_clears domain (marked c.space r) w (places_of w knows) ok))).by))
 
 end_context_learns : (domain slot space : ℕ) (r : Resources) (contexts : List (Option Context)) (w : World) →
-    Learns w (end_context domain slot space r contexts w).world
+    Learns w (played (end_context domain slot space r contexts) w).world
 unfolding end_context
-end_context_learns domain slot space r contexts w = end_if_learns _ domain slot space r contexts w
+end_context_learns domain slot space r contexts w =
+    let v = (ask_clear domain (marked space r) w).world in
+    cond_both (list_any (is_of_space space) (end_at slot contexts)) _ _
+    (λ (s : Script End). Learns w (played s w).world) (λ is. learns_same w)
+    (λ is. cleared_learns domain (marked space r) _ _ w (λ knows ok.
+    (plays_both (λ t. Learns v t.world) (forget_each domain (private_numbers space r)) _ v
+    (keeps_forgets Learns learns_same learns_then forget_learns domain (private_numbers space r) v)).by))
 
 hypercall_learns : (h : Hypercall) (slot : ℕ) (c : Context) (d : Control) (w : World) →
-    Learns w (hypercall h slot c d w).world
+    Learns w (played (hypercall h slot c d) w).world
 unfolding hypercall fork_call exit_call
-hypercall_learns ForkSpace slot c d w = fork_learns _ c _ _ w
-hypercall_learns Exit slot c d w = end_context_learns _ slot _ _ _ w
+hypercall_learns ForkSpace slot c d w =
+    plays_both (λ t. Learns w t.world) (fork d.number c d.resources d.contexts) _ w (fork_learns _ c _ _ w)
+hypercall_learns Exit slot c d w =
+    plays_both (λ t. Learns w t.world) (end_context d.number slot c.space d.resources d.contexts) _ w
+    (end_context_learns _ slot _ _ _ w)
 hypercall_learns _ slot c d w = learns_same w
 
 -- The step.
@@ -105,7 +104,8 @@ learns_walked = record {
   put = put_learns;
   store = λ q va own kind at width value w is ok. record {
     by = λ knows.
-        (write_learns q at width value _ (λ after. reach_hand q va kind w knows ok)).by ((reach_learns q va kind w).by knows);
+        (write_learns q at width value _ (λ after. reach_hand q va kind w knows ok)).by
+        ((reach_learns q va kind w).by knows);
   };
 }
 

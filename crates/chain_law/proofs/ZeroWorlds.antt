@@ -13,14 +13,16 @@ use Rattle.cloak_model.specs.declared.answer.Answer.{Answer}
 use Rattle.cloak_model.specs.declared.answer.Answer.TheVariants as told
 use Rattle.cloak_model.specs.declared.item.Item.{Item}
 use Rattle.cloak_model.specs.Asking.{Told, Asking}
-use Rattle.cloak_model.specs.AskPages.{answer_item, is_store, replies, if_drawn, ask_inside_address, offered_by, ask_offer, reached, reach_by_table, is_marked, settled_if_marked, clear_from, ask_reach, ask_read, ask_write, ask_get, ask_put, ask_clear, ask_copy, ask_forget}
-use Rattle.cloak_model.specs.Cloaking.{CloakedMemory, Offer, Ready, Mismatch, Missed, owed_in, settle}
+use Rattle.cloak_model.specs.AskPages.{answer_item, is_store, replies, if_drawn, ask_inside_address, offered_by, ask_offer, reached, reach_by_table, is_marked, settled_if_marked, clear_from, ask_reach, ask_write, ask_get, ask_put, ask_clear, ask_copy, ask_forget}
+use Rattle.cloak_model.specs.Cloaking.{CloakedMemory, OfferEnd, Ready, Mismatch, Missed, owed_in, settle}
 use Rattle.cloak_model.specs.Events.{Event}
 use Rattle.cloak_model.specs.Memory.{is_in_ram}
 use Rattle.cloak_model.specs.PageMoves.{copy_pages, drop_pages}
-use Rattle.cloak_model.specs.World.{World, Cloak, Handed, Flat, Cloaked, Alone, is_missed, regime_of, ram_of, owed_of, noted, stored_at, settled, written, with_plain, plain_of}
+use Rattle.cloak_model.specs.World.{World, MidStep, Handed, Flat, Cloaked, Alone, is_missed, regime_of, ram_of, owed_of, noted, stored_at, settled, written, with_plain, plain_of}
+use Rattle.cloak_model.specs.Script.{Question, Reach, Get, Put, Clear, asked}
 use Rattle.domain_isolation.proofs.InOrder.{decided}
-use Rattle.domain_isolation.proofs.Steady.{is_cloaked, replied_reach, replied_get, replied_put, replied_clear}
+use Rattle.domain_isolation.proofs.Steady.{is_cloaked}
+use Rattle.domain_isolation.proofs.Answers.{question_answered}
 use Rattle.kernel_isolation.proofs.Leading.{leads_inside}
 use Rattle.kernel_isolation.proofs.Settlings.{HasPlaces}
 use Rattle.script_fold.proofs.Questions.{Kept, opens_of, replies_of, keeps_inside_address, keeps_reach, keeps_get, keeps_put, keeps_clear}
@@ -89,7 +91,7 @@ stay_plain domain plain (Cloaked c) = record {
 }
 stay_plain domain plain (Alone h) = tt
 
-kept : Kept Stay
+pub kept : Kept Stay
 kept = record {
   same = stay_same;
   chained = stay_then;
@@ -115,6 +117,14 @@ Knows m = HasPlaces m × IsTidy m
 abbrev pub KnowsIn : World → Type 0
 KnowsIn (Cloaked c) = Knows c.memory
 KnowsIn _ = Unit {0}
+
+abbrev pub PlacesIn : World → Type 0
+PlacesIn (Cloaked c) = HasPlaces c.memory
+PlacesIn _ = Unit {0}
+
+pub places_of : (w : World) → KnowsIn w → PlacesIn w
+places_of (Cloaked c) knows = knows.0
+places_of _ knows = tt
 
 pub record Learns (w v : World) : Type 0 where
   pub by : KnowsIn w → KnowsIn v
@@ -148,55 +158,27 @@ learns_stay (Alone a) (Alone b) stay plain = record { by = λ knows. tt }
 
 -- The questions.
 
-plain_reach : (q : PageId) (va : ℕ) (kind : Kind) (w : World) → is_cloaked w ≡ true →
-    plain_of (ask_reach q va kind w).world ≡ plain_of w
-unfolding ask_reach
-plain_reach q va kind (Cloaked c) is = (replied_reach q va kind (Cloaked c) refl).plain
-plain_reach q va kind _ is = absurd (false≢true is)
+asked_learns : (question : Question) (w : World) → Stay w (asked question w).world → Learns w (asked question w).world
+asked_learns question w stay = learns_stay w _ stay (λ is. (question_answered 0 question w is).replied.plain)
 
 pub reach_learns : (q : PageId) (va : ℕ) (kind : Kind) (w : World) → Learns w (ask_reach q va kind w).world
-reach_learns q va kind w = learns_stay w _ (keeps_reach Stay kept q va kind w) (plain_reach q va kind w)
-
-plain_get : (va width : ℕ) (w : World) → is_cloaked w ≡ true → plain_of (ask_get va width w).world ≡ plain_of w
-unfolding ask_get
-plain_get va width (Cloaked c) is = (replied_get va width (Cloaked c) refl).plain
-plain_get va width _ is = absurd (false≢true is)
+reach_learns q va kind w = asked_learns (Reach q va kind) w (keeps_reach Stay kept q va kind w)
 
 pub get_learns : (va width : ℕ) (w : World) → Learns w (ask_get va width w).world
-get_learns va width w = learns_stay w _ (keeps_get Stay (replies_of Stay kept) va width w) (plain_get va width w)
-
-plain_put : (va width value : ℕ) (w : World) → is_cloaked w ≡ true →
-    plain_of (ask_put va width value w).world ≡ plain_of w
-unfolding ask_put
-plain_put va width value (Cloaked c) is = (replied_put va width value (Cloaked c) refl).plain
-plain_put va width value _ is = absurd (false≢true is)
+get_learns va width w = asked_learns (Get va width) w (keeps_get Stay (replies_of Stay kept) va width w)
 
 pub put_learns : (va width value : ℕ) (w : World) → Learns w (ask_put va width value w).world
-put_learns va width value w = learns_stay w _ (keeps_put Stay kept va width value w) (plain_put va width value w)
-
-pub read_learns : (q : PageId) (at width : ℕ) (w : World) → Learns w (ask_read q at width w).world
-unfolding ask_read
-read_learns q at width w = learns_same w
-
-plain_clear : (domain : ℕ) (marked : List Bool) (w : World) → is_cloaked w ≡ true →
-    plain_of (ask_clear domain marked w).world ≡ plain_of w
-unfolding ask_clear
-plain_clear domain marked (Cloaked c) is = (replied_clear domain marked 0 (length c.memory.ram) (Cloaked c) refl).plain
-plain_clear domain marked _ is = absurd (false≢true is)
+put_learns va width value w = asked_learns (Put va width value) w (keeps_put Stay kept va width value w)
 
 pub clear_learns : (domain : ℕ) (marked : List Bool) (w : World) → Learns w (ask_clear domain marked w).world
 clear_learns domain marked w =
-    learns_stay w _ (keeps_clear Stay (replies_of Stay kept) domain marked w) (plain_clear domain marked w)
+    asked_learns (Clear domain marked) w (keeps_clear Stay (replies_of Stay kept) domain marked w)
 
 -- A page that was reached is at hand.
 
 abbrev pub AtHandIn : PageId → World → Type 0
 AtHandIn q (Cloaked c) = IsAtHand q c.memory
 AtHandIn q _ = Unit {0}
-
-abbrev PlacesIn : World → Type 0
-PlacesIn (Cloaked c) = HasPlaces c.memory
-PlacesIn _ = Unit {0}
 
 stay_places : (w v : World) → Stay w v → PlacesIn w → PlacesIn v
 stay_places (Flat a) (Flat b) stay places = tt
@@ -231,7 +213,7 @@ hand_replies q a w hand is = hand_written q _ w (hand is)
 stopped_ok : told.Stopped ≡ told.Ok → ⊥
 stopped_ok is = cc
 
-hand_offered : (q : PageId) (va : ℕ) (kind : Kind) (g : ℕ) (o : Offer) (w : World) → (o ≡ Ready → AtHandIn q w) →
+hand_offered : (q : PageId) (va : ℕ) (kind : Kind) (g : ℕ) (o : OfferEnd) (w : World) → (o ≡ Ready → AtHandIn q w) →
     HandIfOk q (offered_by q va kind g o w)
 unfolding offered_by
 hand_offered q va kind g Ready w hand = hand_replies q told.Ok _ (λ is. hand_noted q _ w (hand refl))
@@ -443,14 +425,14 @@ abbrev pub MarkedClear : ℕ → List Bool → World → Type 0
 MarkedClear domain marked w =
     (resource : ℕ) → slice_index_or marked resource false ≡ true → NoneOwedIn domain resource w
 
-pub own_number : (domain : ℕ) (marked : List Bool) (q : PageId) → q.domain ≡ domain →
+own_number : (domain : ℕ) (marked : List Bool) (q : PageId) → q.domain ≡ domain →
     slice_index_or marked q.resource false ≡ true → is_marked domain marked (Some q) ≡ true
 own_number domain marked q own is =
     ap (λ (b : Bool). b && slice_index_or marked q.resource false) (eq-eqb q.domain domain own) ∙ is
 
-cleared_memory : (domain : ℕ) (marked : List Bool) (n : ℕ) (c : Cloak) → ClearBelow n domain marked (Cloaked c) →
-    length c.memory.ledger.owed ≤ n → MarkedClear domain marked (Cloaked c)
-cleared_memory domain marked n c clear low resource is q own of f owed = elim (cases_lt f n) [
+pub cleared_world : (domain : ℕ) (marked : List Bool) (n : ℕ) (w : World) → length (owed_of w) ≤ n →
+    ClearBelow n domain marked w → MarkedClear domain marked w
+cleared_world domain marked n (Cloaked c) low clear = λ resource is q own of f owed. elim (cases_lt f n) [
   | inl inside ↦
       false≢true (sym (ap (is_marked domain marked) (sym owed) ∙ clear f inside)
       ∙ own_number domain marked q own (ap (λ (k : ℕ). slice_index_or marked k false) of ∙ is))
@@ -458,23 +440,25 @@ cleared_memory domain marked n c clear low resource is q own of f owed = elim (c
       let clash : None ≡ Some q =
       sym (get_or_past c.memory.ledger.owed f None (omega (arith, low, past))) ∙ owed in cc
 ]
+cleared_world domain marked n _ low clear = λ resource is. tt
 
-cleared_world : (domain : ℕ) (marked : List Bool) (c : Cloak) (v : World) → Stay (Cloaked c) v → HasPlaces c.memory →
-    ClearBelow (0 + length c.memory.ram) domain marked v → MarkedClear domain marked v
-cleared_world domain marked c (Cloaked e) stay places clear =
-    cleared_memory domain marked (0 + length c.memory.ram) e clear (omega (arith, stay.places, places))
-cleared_world domain marked c _ stay places clear = absurd stay
+-- there are no more of such frames than of all
+pub owed_low : (c : MidStep) (v : World) → Stay (Cloaked c) v → HasPlaces c.memory →
+    length (owed_of v) ≤ 0 + length c.memory.ram
+owed_low c (Cloaked e) stay places = omega (arith, stay.places, places)
+owed_low c _ stay places = absurd stay
 
 none_alone : (domain resource : ℕ) (h : Handed) (v : World) → Stay (Alone h) v → NoneOwedIn domain resource v
 none_alone domain resource h (Cloaked c) stay = absurd stay
 none_alone domain resource h _ stay = tt
 
-pub clear_clears : (domain : ℕ) (marked : List Bool) (w : World) → KnowsIn w →
+pub clear_clears : (domain : ℕ) (marked : List Bool) (w : World) → PlacesIn w →
     (ask_clear domain marked w).answer ≡ told.Ok → MarkedClear domain marked (ask_clear domain marked w).world
 unfolding ask_clear
-clear_clears domain marked (Flat seen) knows is = absurd (stopped_ok is)
-clear_clears domain marked (Cloaked c) knows is =
-    cleared_world domain marked c _ (keeps_clear Stay (replies_of Stay kept) domain marked (Cloaked c)) knows.0
+clear_clears domain marked (Flat seen) places is = absurd (stopped_ok is)
+clear_clears domain marked (Cloaked c) places is =
+    cleared_world domain marked (0 + length c.memory.ram) _
+    (owed_low c _ (keeps_clear Stay (replies_of Stay kept) domain marked (Cloaked c)) places)
     (below_from domain marked 0 (length c.memory.ram) (Cloaked c) (λ f low. absurd (omega (arith, low))) is)
-clear_clears domain marked (Alone h) knows is =
+clear_clears domain marked (Alone h) places is =
     λ resource of. none_alone domain resource h _ (keeps_clear Stay (replies_of Stay kept) domain marked (Alone h))

@@ -9,7 +9,7 @@ use Rattle.cloak_model.specs.Beginning.{Beginning, opening_from}
 use Rattle.cloak_model.specs.Cloaking.{CloakedMemory, owed_in}
 use Rattle.cloak_model.specs.Exchange.{Emits, Piece, item_pieces}
 use Rattle.cloak_model.specs.Ledger.{Keys}
-use Rattle.cloak_model.specs.Opening.{Lack, Opened, drawn_keys, is_placed, key_count, keys_for, numbers_below, opened_by, opened_with, opening, opening_items, started_joint, started_ledger, started_memory}
+use Rattle.cloak_model.specs.Opening.{Lack, RunEdge, drawn_keys, is_placed, key_count, keys_for, numbers_below, opened_by, opened_with, opening, opening_items, started_joint, started_ledger, started_memory}
 use Rattle.cloak_model.specs.declared.image.Program.{Program}
 use Rattle.cloak_model.specs.declared.item.Item.{Item}
 use Rattle.cloak_model.specs.declared.item.Item.TheVariants.{Cipher}
@@ -72,7 +72,7 @@ outside_settled joint outside k = outside k ∙ by_right (right_at joint.memory.
     by_right Spent none = refl
 
 -- nothing is shown as a run begins in which no program is placed
-pub nothing_shown : (b : Bundle) (from : Beginning) (o : Opened) → opening_from b from ≡ Ok o → map placing b.programs ≡ [] →
+pub nothing_shown : (b : Bundle) (from : Beginning) (o : RunEdge) → opening_from b from ≡ Ok o → map placing b.programs ≡ [] →
     o.items ≡ []
 nothing_shown b from o opens none = opening_shows b from o opens ∙ by_programs b.programs none
   where
@@ -112,7 +112,7 @@ unfolding started_memory started_ledger
 started_owes b keys stream m fixed f =
     ap (λ (l : List (Option PageId)). slice_index_or l f None) fixed.owed ∙ none_of b.kernel.frames f
 
-OwesNone : Result Opened Lack → Type 0
+OwesNone : Result RunEdge Lack → Type 0
 OwesNone (Ok o) = (f : ℕ) → owed_in o.joint.memory f ≡ None
 OwesNone (Err lack) = Unit {0}
 
@@ -129,7 +129,7 @@ drawn_owes b (Some draw) =
     placed_owes b (keys_for b.programs draw.0) draw.1 _
     (programs_fixed 0 b.programs (started_memory b.kernel (keys_for b.programs draw.0) draw.1))
 
-pub opening_owes : (b : Bundle) (stream : Random) (o : Opened) → opening b stream ≡ Ok o → (f : ℕ) →
+pub opening_owes : (b : Bundle) (stream : Random) (o : RunEdge) → opening b stream ≡ Ok o → (f : ℕ) →
     owed_in o.joint.memory f ≡ None
 unfolding OwesNone
 opening_owes b stream o opens = subst OwesNone opens (drawn_owes b (drawn_keys (key_count b.programs) stream))

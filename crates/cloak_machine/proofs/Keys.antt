@@ -9,7 +9,7 @@ use Rattle.cloak_model.specs.Joint.{cloak_outside, hart_in}
 use Rattle.cloak_model.specs.Ledger.{vector_of}
 use Rattle.cloak_model.specs.Parts.{Joint}
 use Rattle.cloak_model.specs.Run.{closing, settled_below}
-use Rattle.cloak_model.specs.World.{Cloak}
+use Rattle.cloak_model.specs.World.{MidStep}
 
 owed_keys : (f : ℕ) (q : PageId) (draw : Option (List ℕ × Random)) (m : CloakedMemory) →
     (settle_owed f q draw m).memory.ledger.keys ≡ m.ledger.keys
@@ -26,7 +26,7 @@ settle_keys : (f : ℕ) (m : CloakedMemory) → (settle f m).memory.ledger.keys 
 unfolding settle
 settle_keys f m = if_keys f (owed_in m f) m
 
-below_keys : (n : ℕ) (c : Cloak) → (settled_below n c).memory.ledger.keys ≡ c.memory.ledger.keys
+below_keys : (n : ℕ) (c : MidStep) → (settled_below n c).memory.ledger.keys ≡ c.memory.ledger.keys
 unfolding settled_below
 below_keys zero c = refl
 below_keys (suc n) c = settle_keys n (settled_below n c).memory ∙ below_keys n c

@@ -5,12 +5,12 @@ use Rattle.cloak_model.specs.declared.image.Bundle.{Bundle}
 use Rattle.cloak_model.specs.declared.image.Program.{Program}
 use Rattle.cloak_model.specs.Beginning.{Beginning, opening_from}
 use Rattle.cloak_model.specs.DomainState.{Domain, started_domain}
-use Rattle.cloak_model.specs.Opening.{Opened, started_domains, started_joint, started_kernel}
+use Rattle.cloak_model.specs.Opening.{RunEdge, started_domains, started_joint, started_kernel}
 use Rattle.kernel_isolation.proofs.FilesAdded.{added_keep, files_of, opens_over, was_there}
 use Rattle.cloak_machine.specs.Standing.{HaveFewLoads}
 
 -- No load was completed, and the console was shown nothing.
-pub record IsBegun (o : Opened) : Type 0 where
+pub record IsBegun (o : RunEdge) : Type 0 where
   pub console : o.joint.console ≡ []
   pub loads : HaveFewLoads 0 o.joint.domains
 
@@ -28,7 +28,7 @@ is_there [] k other low = absurd (omega (arith, low))
 is_there (x ∷ domains) zero other low = refl
 is_there (x ∷ domains) (suc k) other low = is_there domains k other (omega (arith, low))
 
-pub begun : (b : Bundle) (from : Beginning) (o : Opened) → opening_from b from ≡ Ok o → IsBegun o
+pub begun : (b : Bundle) (from : Beginning) (o : RunEdge) → opening_from b from ≡ Ok o → IsBegun o
 unfolding started_joint started_kernel
 begun b from o opens =
     let over = opens_over b from o opens in

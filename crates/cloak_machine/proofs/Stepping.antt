@@ -14,7 +14,7 @@ use Rattle.cloak_model.specs.DomainState.{Domain, domain_line}
 use Rattle.cloak_model.specs.Exchange.{Piece, Emits, item_pieces, shown_each}
 use Rattle.cloak_model.specs.Joint.{Moment, Turn, joint_step, next_hart}
 use Rattle.cloak_model.specs.Beginning.{Beginning, opening_from}
-use Rattle.cloak_model.specs.Opening.{Opened}
+use Rattle.cloak_model.specs.Opening.{RunEdge}
 use Rattle.cloak_model.specs.Parts.{Joint, kernel_part}
 use Rattle.cloak_model.specs.Report.{stop_line, number_line, refusal_lines, kernel_lines}
 use Rattle.cloak_model.specs.Run.{closing, first_moment}
@@ -48,7 +48,7 @@ use Rattle.cloak_machine.proofs.Turning.{goes}
 -- Opening.
 
 -- the machine of an opening, before its first step
-pub first_stands : (machine : Machine) (b : Bundle) (from : Beginning) (o : Opened) → opening_from b from ≡ Ok o →
+pub first_stands : (machine : Machine) (b : Bundle) (from : Beginning) (o : RunEdge) → opening_from b from ≡ Ok o →
     StandsForJoint machine.joint o.joint → machine.schedule.turns.items ≡ b.kernel.schedule →
     machine.schedule.place ≡ 0 → machine.steps ≡ 0 → ConsoleShows machine.console [] →
     machine.joint.memory.shadows.live ≡ [] → StandsForMoment machine (first_moment b o.joint)
@@ -67,7 +67,7 @@ first_stands machine b from o opens joint schedule place steps console empty =
     zero_mod n = grind arith
 
 -- the same machine once it showed what the kernel is shown
-pub still_first : (old new : Machine) (b : Bundle) (o : Opened) → StandsForMoment old (first_moment b o.joint) →
+pub still_first : (old new : Machine) (b : Bundle) (o : RunEdge) → StandsForMoment old (first_moment b o.joint) →
     StandsForJoint new.joint o.joint → new.schedule ≡ old.schedule → new.steps ≡ old.steps →
     new.console ≡ old.console → new.joint.memory.shadows ≡ old.joint.memory.shadows →
     StandsForMoment new (first_moment b o.joint)

@@ -23,8 +23,10 @@ use Rattle.cloak_model.specs.Ahead.{settled_step}
 use Rattle.cloak_model.specs.Contexts.{Context, Admitted, domain_of, slot_of}
 use Rattle.cloak_model.specs.Csr.{satp_of}
 use Rattle.cloak_model.specs.DomainState.{Control, Domain}
-use Rattle.cloak_model.specs.DomainStep.{DomainStepped, domain_step, step_if, phase_step, instruction_ended}
-use Rattle.cloak_model.specs.DomainStep.{after_write, copy_ended}
+use Rattle.cloak_model.specs.DomainStep.{DomainStepped}
+use Rattle.script_fold.proofs.OneLoad.{LoadsOnce, no_load, loads_step}
+use Rattle.cloak_model.specs.DomainStep.{DomainStepped}
+use Rattle.script_fold.proofs.OneLoad.{LoadsOnce, no_load, loads_step}
 use Rattle.cloak_model.specs.declared.context.WordPlace.{WordPlace}
 use Rattle.cloak_model.specs.Hart.{Hart}
 use Rattle.cloak_model.specs.HostCalls.{SteppedKernel}
@@ -132,52 +134,6 @@ unfolding after_outside
 goes_outside j number told =
     let goes = goes_ended _ number _ told.answer.ending in record { console = goes.console; loads = goes.loads }
 
--- A step of a program.
-
--- a step completed at most one load
-abbrev LoadsOnce : Domain → DomainStepped → Type 0
-LoadsOnce d step = length step.domain.loads ≤ length d.loads + 1
-
-same_loads : (n : ℕ) → n ≤ n + 1
-same_loads n = omega arith
-
-one_load : (d : Domain) (address value : ℕ) → length (d.loads ++ (address, value) ∷ []) ≤ length d.loads + 1
-one_load d address value = let e = length-append d.loads ((address, value) ∷ []) in omega (arith, e)
-
-loads_instruction : (slot : ℕ) (d : Domain) (c : Context) (r : Ran) (w : World) →
-    LoadsOnce d (instruction_ended slot d c r w).answer
-unfolding instruction_ended
-loads_instruction slot d c (ran.Loaded address value) w = one_load d address value
-loads_instruction slot d c _ w = same_loads (length d.loads)
-
-loads_copy : (slot : ℕ) (d : Domain) (c : Context) (r : Copied) → LoadsOnce d (copy_ended slot d c r)
-unfolding copy_ended
-loads_copy slot d c (copied.Loaded address byte) = one_load d address byte
-loads_copy slot d c _ = same_loads (length d.loads)
-
--- a write after a step
-loads_written : (wrote : Option WordPlace) (d : Domain) (s : DomainStepped) → LoadsOnce d s →
-    LoadsOnce d (after_write wrote s)
-loads_written None d s once = once
-loads_written (Some place) d s once = once
-
-loads_phase : (phase : Phase) (slot : ℕ) (c : Context) (d : Domain) (w : World) →
-    LoadsOnce d (phase_step phase slot c d w).answer
-unfolding phase_step
-loads_phase Plain slot c d w = loads_written _ d _ (loads_instruction slot d _ _ _)
-loads_phase (CopyIn done) slot c d w = loads_copy slot d _ _
-loads_phase Waiting slot c d w = same_loads (length d.loads)
-loads_phase (CopyOut done total) slot c d w = loads_written _ d _ (loads_copy slot d _ _)
-
-loads_if : (c : Option Context) (slot : ℕ) (d : Domain) (w : World) → LoadsOnce d (step_if c slot d w).answer
-unfolding step_if
-loads_if None slot d w = same_loads (length d.loads)
-loads_if (Some c) slot d w = loads_phase c.phase slot c d w
-
-loads_step : (slot : ℕ) (d : Domain) (w : World) → LoadsOnce d (domain_step slot d w).answer
-unfolding domain_step
-loads_step slot d w = loads_if _ slot d w
-
 -- A hart inside.
 
 goes_domain : (j j' : Joint) (number : ℕ) (h : Hart) (d : ℕ) (w : World) (how : Went) → j'.console ≡ j.console →
@@ -207,7 +163,7 @@ goes_by_interrupt : (due : Bool) (j : Joint) (number : ℕ) (h : Hart) (d slot :
     slice_get j.domains d ≡ Some was → Goes j (by_interrupt due j number h d slot was)
 unfolding by_interrupt after_interrupt
 goes_by_interrupt true j number h d slot was there =
-    goes_interrupt j _ number h _ _ refl (load_set d j.domains was _ there (same_loads (length was.loads)))
+    goes_interrupt j _ number h _ _ refl (load_set d j.domains was _ there (no_load (length was.loads)))
 goes_by_interrupt false j number h d slot was there =
     goes_domain_step j number h d was _ there (loads_step slot was _)
 

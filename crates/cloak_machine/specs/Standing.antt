@@ -6,7 +6,7 @@ use Rattle.cloak_model.specs.declared.image.Bundle.{Bundle}
 use Rattle.cloak_model.specs.declared.item.Item.TheVariants as item
 use Rattle.cloak_model.specs.DomainState.{Domain, domain_line}
 use Rattle.cloak_model.specs.Exchange.{Piece, Emits, item_pieces}
-use Rattle.cloak_model.specs.Opening.{Opened, NoKey, NoPageDraw, NoRoom, opening}
+use Rattle.cloak_model.specs.Opening.{RunEdge, NoKey, NoPageDraw, NoRoom, opening}
 use Rattle.cloak_model.specs.Beginning.{opening_stored, stored_keys}
 use Rattle.cloak_model.specs.Parts as model
 use Rattle.cloak_model.specs.StoredFiles.{StoredFile, FileContents, StandsForFiles}
@@ -54,7 +54,7 @@ pub record StandsForMoment (machine : Machine) (m : Moment) : Type 0 where
 
 -- a run opens so, and the machine is that of its first moment
 pub record OpensMachine (b : Bundle) (stream : Random) (machine : Machine) : Type 0 where
-  pub opened : Opened
+  pub opened : RunEdge
   pub opens : opening b stream ≡ Ok opened
   pub stands : StandsForMoment machine (first_moment b opened.joint)
 
@@ -68,7 +68,7 @@ Opens b stream (Err fault.NoMemory) = Unit {0}
 -- a run over files of these contents opens so, and the machine is that of its first moment
 pub record OpensOver (b : Bundle) (keys : List (List ℕ)) (stream : Random) (contents : List FileContents)
     (machine : Machine) : Type 0 where
-  pub opened : Opened
+  pub opened : RunEdge
   pub opens : opening_stored b keys stream contents ≡ Ok opened
   pub stands : StandsForMoment machine (first_moment b opened.joint)
 
@@ -91,7 +91,7 @@ length_of_disk machine = length machine.joint.disk
 
 -- what the kernel is shown as a run opens so, and the machine is still that of its first moment
 pub record ShowsOpening {E : Type 0} (gave : E → E → List Piece → Type 0) (e e' : E) (machine : Machine) (b : Bundle)
-    (o : Opened) : Type 0 where
+    (o : RunEdge) : Type 0 where
   pub emits : Emits gave e e' (item_pieces o.items)
   pub stands : StandsForMoment machine (first_moment b o.joint)
 
@@ -125,7 +125,7 @@ pub record EndsAs (end : RunEnd) (stopped : Stop) (count : ℕ) (closed : model.
 
 -- what the closing of a run that this stopped emits, if it closes like this, and what is reported then
 pub record FinishesAs {E : Type 0} (gave : E → E → List Piece → Type 0) (e e' : E) (end : RunEnd) (stopped : Stop)
-    (m : Moment) (closed : Opened) : Type 0 where
+    (m : Moment) (closed : RunEdge) : Type 0 where
   pub emits : Emits gave e e' (item_pieces (item.Close m.steps ∷ (closed.items ++ item.End ∷ [])))
   pub steps : end.steps ≡ m.steps
   pub draws : end.draws ≡ closed.joint.memory.ledger.draws

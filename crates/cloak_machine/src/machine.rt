@@ -6,7 +6,7 @@ ghost use Rattle.cloak_model.specs.Bundle.{IsInGrammar};
 ghost use Rattle.cloak_model.specs.Cloaking.{owed_in};
 ghost use Rattle.cloak_model.specs.Exchange.{Emits, EmitsSome, shown_each};
 ghost use Rattle.cloak_model.specs.Joint.{Moment, joint_step};
-ghost use Rattle.cloak_model.specs.Opening.{Opened};
+ghost use Rattle.cloak_model.specs.Opening.{RunEdge};
 ghost use Rattle.cloak_model.specs.Run.{closing, first_moment, most_steps};
 ghost use Rattle.cloak_model.specs.StoredFiles.{IsTable, StandsForFiles};
 ghost use Rattle.cloak_model.specs.StoredRun.{contents_of};
@@ -147,7 +147,7 @@ impl Machine {
         ensures steps { steps_made self.new ≡ steps_made self.old }
         ensures placings { placings_of self.new ≡ placings_of self.old }
         ensures emits_some { EmitsSome E.gave e.old e.new }
-        ensures shows { (b : Bundle) (from : Beginning) (o : Opened) → opening_from b from ≡ Ok o →
+        ensures shows { (b : Bundle) (from : Beginning) (o : RunEdge) → opening_from b from ≡ Ok o →
             placings_of self.old ≡ map placing b.programs → StandsForMoment self.old (first_moment b o.joint) →
             ShowsOpening E.gave e.old e.new self.new b o }
     {

@@ -12,7 +12,7 @@ use Rattle.cloak_model.specs.Cloaking.{CloakedMemory}
 use Rattle.cloak_model.specs.DomainState.{Domain, with_resources}
 use Rattle.cloak_model.specs.Parts.{Joint}
 use Rattle.cloak_model.specs.StoredFiles.{PageContent, FileContents, IsTable, table_of, HasSealedPages}
-use Rattle.cloak_model.specs.Opening.{Lack, NoRoom, NoPageDraw, Opened, groups, opening, opening_items, place_programs, started_joint, started_memory}
+use Rattle.cloak_model.specs.Opening.{Lack, NoRoom, NoPageDraw, RunEdge, groups, opening, opening_items, place_programs, started_joint, started_memory}
 
 -- Pages.
 
@@ -64,7 +64,7 @@ files_added (f ∷ files) j = and_then (files_added files) (file_added f j (slic
 -- The opening over files.
 
 -- with the memory in which the programs' pages were placed, if each found a draw; want of room goes before that
-unfoldable pub opened_over : Bundle → List FileContents → Joint → Option CloakedMemory → Result Opened Lack
+unfoldable pub opened_over : Bundle → List FileContents → Joint → Option CloakedMemory → Result RunEdge Lack
 opened_over b files bare None = and_then (λ j. Err NoPageDraw) (files_added files bare)
 opened_over b files bare (Some m) =
     and_then (λ j. Ok (record { joint = j; items = opening_items b.programs m.ram })) (files_added files (started_joint b m))
@@ -74,7 +74,7 @@ abbrev pub stored_keys : Bundle → List (List ℕ) → Keys
 stored_keys b keys = record { numbered = keys; group = groups b.programs }
 
 -- The keys are handed in, and each program page takes one draw.
-unfoldable pub opening_stored : Bundle → List (List ℕ) → Random → List FileContents → Result Opened Lack
+unfoldable pub opening_stored : Bundle → List (List ℕ) → Random → List FileContents → Result RunEdge Lack
 opening_stored b keys stream files =
     let m = started_memory b.kernel (stored_keys b keys) stream in
     opened_over b files (started_joint b m) (place_programs 0 b.programs m)
@@ -89,7 +89,7 @@ pub data Beginning : Type 0 where
   Stored : List (List ℕ) → Random → List FileContents → Beginning
 
 -- The joint machine as the run begins, or why there is none.
-abbrev pub opening_from : Bundle → Beginning → Result Opened Lack
+abbrev pub opening_from : Bundle → Beginning → Result RunEdge Lack
 opening_from b (Fresh stream) = opening b stream
 opening_from b (Stored keys stream files) = opening_stored b keys stream files
 

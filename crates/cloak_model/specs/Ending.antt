@@ -3,10 +3,11 @@
 use Rattle.std.specs.Prelude.{ℕ, ◌+◌, zero, suc, nat_eq, Bool, true, false, List, [], length, replicate, map, Option, None, if◌then◌else◌}
 use Rattle.cloak_base.specs.declared.names.SpaceId.{SpaceId}
 use Rattle.cloak_model.specs.Cloaking.{CloakedMemory}
-use Rattle.cloak_model.specs.World.{World, Cloak, Handed, ram_of}
+use Rattle.cloak_model.specs.World.{World, MidStep, Handed, ram_of}
 use Rattle.cloak_model.specs.Asking.{Asking}
 use Rattle.cloak_model.specs.AskPages.{settled_if_marked}
-use Rattle.cloak_model.specs.Fork.{ask_forgets}
+use Rattle.cloak_model.specs.Script.{played}
+use Rattle.cloak_model.specs.Fork.{forget_each}
 use Rattle.cloak_model.specs.Opening.{numbers_below}
 use Rattle.cloak_model.specs.DomainState.{Control, Domain}
 
@@ -25,10 +26,10 @@ settled_for domain f (suc n) w = settled_for domain (f + 1) n (settled_if_marked
 -- The frames that are owed pages of a domain are settled, and then its pages are dropped, those of each number of a
 -- resource, by rising number. Of a number that is free there is nothing to drop.
 unfoldable pub ask_end : ℕ → Asking (Unit {0})
-ask_end domain w = ask_forgets domain (numbers_below 16) (settled_for domain 0 (length (ram_of w)) w)
+ask_end domain w = played (forget_each domain (numbers_below 16)) (settled_for domain 0 (length (ram_of w)) w)
 
 -- the memory as a domain's end begins, which no hart asks for
-abbrev pub cloak_for : CloakedMemory → ℕ → Cloak
+abbrev pub cloak_for : CloakedMemory → ℕ → MidStep
 cloak_for m domain = record {
   memory = m;
   items = [];

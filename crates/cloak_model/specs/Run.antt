@@ -1,6 +1,6 @@
 -- A joint run with a budget of steps, as one value, and what is read off it: the exchange and its halves, the record,
 -- and the one list of what is written to record and output.
-use Rattle.std.specs.Prelude.{ℕ, zero, suc, nat_lt, Bool, ◌||◌, is_some, List, [], ◌∷◌, ◌++◌, codes, length, map, Option, Some, None, unwrap_or, Result, if◌then◌else◌}
+use Rattle.std.specs.Prelude.{ℕ, zero, suc, nat_lt, Bool, false, ◌≡◌, ◌||◌, is_some, List, [], ◌∷◌, ◌++◌, codes, length, map, Option, Some, None, unwrap_or, Result, if◌then◌else◌}
 use Rattle.std.specs.List.{list_any}
 use Rattle.std.specs.Result.{result_map_both}
 use Rattle.cloak_base.specs.Random.{Random}
@@ -10,10 +10,10 @@ use Rattle.cloak_base.specs.declared.causes.Stop.TheVariants as stop
 use Rattle.cloak_model.specs.declared.image.Bundle.{Bundle}
 use Rattle.cloak_model.specs.declared.item.Item.{Item}
 use Rattle.cloak_model.specs.declared.item.Item.TheVariants as item
-use Rattle.cloak_model.specs.World.{Cloak, settled_in}
+use Rattle.cloak_model.specs.World.{MidStep, settled_in}
 use Rattle.cloak_model.specs.Exchange.{Piece, recorded, shown, record_magic, record_of, items_in_order, item_pieces, shown_each}
 use Rattle.cloak_model.specs.Halves as half
-use Rattle.cloak_model.specs.Opening.{Lack, Opened}
+use Rattle.cloak_model.specs.Opening.{Lack, RunEdge}
 use Rattle.cloak_model.specs.Beginning.{Beginning, Fresh, opening_from}
 use Rattle.cloak_model.specs.Report.{report}
 use Rattle.cloak_model.specs.Parts.{Joint}
@@ -26,10 +26,10 @@ most_steps = 1000000000
 -- A run: the machine as it was opened and what the kernel was shown then; its steps; why it stopped; the machine as it
 -- was closed and what the kernel was shown then.
 pub record Run : Type 0 where
-  pub opened : Opened
+  pub opened : RunEdge
   pub turns : List Turn
   pub stop : Stop
-  pub closed : Opened
+  pub closed : RunEdge
 
 -- The steps.
 
@@ -56,12 +56,12 @@ last_stop so_far (t ∷ turns) = last_stop (stop_of t) turns
 -- The closing.
 
 -- the frames below n are settled, by rising number
-unfoldable pub settled_below : ℕ → Cloak → Cloak
+unfoldable pub settled_below : ℕ → MidStep → MidStep
 settled_below zero c = c
 settled_below (suc n) c = settled_in n (settled_below n c)
 
 -- all frames are settled; in the regime of hart 0, since nobody asks
-unfoldable pub closing : Joint → Opened
+unfoldable pub closing : Joint → RunEdge
 closing j =
     let c = settled_below (length j.memory.ram) (cloak_outside j.memory (hart_in j 0)) in
     record { joint = record j { memory = c.memory }; items = c.items }
@@ -78,12 +78,12 @@ abbrev pub first_moment : Bundle → Joint → Moment
 first_moment b j = record { schedule = b.kernel.schedule; steps = 0; joint = j }
 
 -- the run that was opened so, and made these steps
-abbrev pub run_of_turns : Opened → List Turn → Run
+abbrev pub run_of_turns : RunEdge → List Turn → Run
 run_of_turns o turns =
     let c = closing (joint_after o.joint turns) in
     record { opened = o; turns = turns; stop = cause_of c.joint (last_stop None turns); closed = c }
 
-unfoldable pub run_of : Bundle → ℕ → Opened → Run
+unfoldable pub run_of : Bundle → ℕ → RunEdge → Run
 run_of b budget o = run_of_turns o (turns_from budget (first_moment b o.joint))
 
 -- The joint run of a bundle from a beginning, with at most `budget` steps.
@@ -110,6 +110,15 @@ run_inward_half d r = half.inward_half d (exchange r)
 -- the bytes of the record
 abbrev pub record_bytes : Run → List ℕ
 record_bytes r = record_of (exchange r)
+
+-- The premise on digests of whoever reads a record again. Up to now no two different pages that were compared had one
+-- digest.
+abbrev pub NoClashYet : Joint → Type 0
+NoClashYet j = j.memory.ledger.clashed ≡ false
+
+-- In the whole run no two different pages that were compared had one digest. (What clashed once stays so.)
+abbrev pub NoClash : Run → Type 0
+NoClash r = NoClashYet r.closed.joint
 
 -- the kernel was refused something: a domain ended, or a resuming was refused of which none was left to end
 abbrev pub any_refused : List (Option Violation) → ℕ → Bool

@@ -12,7 +12,7 @@ use Rattle.cloak_base.specs.declared.names.PageId.{PageId}
 use Rattle.cloak_base.specs.Random.{Random}
 use Rattle.cloak_base.specs.Pages.{zero_page}
 use Rattle.cloak_model.specs.Chain.{cbc}
-use Rattle.cloak_model.specs.Cloaking.{CloakedMemory, AfterSettling, AfterOffer, Offer, Ready as Accepted}
+use Rattle.cloak_model.specs.Cloaking.{CloakedMemory, AfterSettling, AfterOffer, OfferEnd, Ready as Accepted}
 use Rattle.cloak_model.specs.Cloaking.{Mismatch as Refused, settle, settle_frame_if, offer, owes, owing_frame, compared}
 use Rattle.cloak_model.specs.Cloaking.{unless_missed, taken, is_clash, with_comparison, owed_in, with_owed}
 use Rattle.frame_store.specs.Rights.{Holding}
@@ -342,7 +342,7 @@ taken_clashed q g true m = refl
 taken_clashed q g false m = refl
 
 -- what is told of an offer, by what it came to
-abbrev pub after_offering : AfterOffer → (PageId → Bool) → ToldCall (List (ℕ × List ℕ) × Offer)
+abbrev pub after_offering : AfterOffer → (PageId → Bool) → ToldCall (List (ℕ × List ℕ) × OfferEnd)
 after_offering o w = record { answer = (o.ciphers, o.answer); wiped = w; memory = o.memory }
 
 abbrev pub FollowsOffer : PagerState → Offered → Random → (PageId → Bool) → AfterOffer → Type 0

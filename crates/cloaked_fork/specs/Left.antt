@@ -1,8 +1,8 @@
 -- What a fork or an end returns, with what it leaves.
-use Rattle.std.specs.Prelude.{ℕ, List, Option, unwrap_or, Result}
+use Rattle.std.specs.Prelude.{ℕ, List, Option, unwrap_or}
 use Rattle.cloak_base.specs.declared.names.CtxId.{CtxId}
 use Rattle.cloak_model.specs.declared.inside.Ended.{Ended}
-use Rattle.cloak_model.specs.declared.resource.MapFault.{MapFault}
+use Rattle.cloak_model.specs.declared.inside.Forked.{Forked}
 use Rattle.cloak_model.specs.Contexts.{Context, context_number}
 use Rattle.cloak_model.specs.Resources.{Resources, first_free}
 use Rattle.cloak_model.specs.Fork.{Spaces, Fork, End, forked}
@@ -10,7 +10,7 @@ use Rattle.cloak_model.specs.Fork.{Spaces, Fork, End, forked}
 abbrev pub spaces : List (Option Context) → Resources → Spaces
 spaces contexts r = record { contexts = contexts; resources = r }
 
-abbrev pub made_fork : Result (Option CtxId) MapFault → List (Option Context) → Resources → Fork
+abbrev pub made_fork : Forked → List (Option Context) → Resources → Fork
 made_fork answer contexts r = record { answer = answer; spaces = spaces contexts r }
 
 abbrev pub ending : Ended → List (Option Context) → Resources → End

@@ -12,6 +12,7 @@ ghost use Rattle.cloaked_fork.specs.Homes.{AllInUse};
 ghost use Rattle.cloaked_fork.specs.Left as left;
 ghost use Rattle.cloaked_fork.specs.Marks.{AreCleared};
 ghost use Rattle.cloaked_fork.specs.Serving.{Serves, GoesOnServing};
+ghost use Rattle.cloak_model.specs.Script.{played};
 
 use crate::pages::forget_all;
 use crate::slots::context;
@@ -24,7 +25,7 @@ use thread_context::Contexts;
 fn forget_pages<M: PageSide>(r: &Resources, domain: u32, space: u32, m: &mut M)
     requires serves { Serves M.PageSide m.old domain r.now }
     requires cleared { AreCleared (M.is_cleared m.old) (spec.marked space r.now) }
-    ensures follows { Follows M.stands_for m.old m.new tt (spec.ask_forgets domain (spec.private_numbers space r.now)) }
+    ensures follows { Follows M.stands_for m.old m.new tt (played (spec.forget_each domain (spec.private_numbers space r.now))) }
     ensures side { GoesOnServing M.PageSide (drop_space space r.now) m.old m.new }
 {
     let marked = r.marked(space);
@@ -33,7 +34,6 @@ fn forget_pages<M: PageSide>(r: &Resources, domain: u32, space: u32, m: &mut M)
 
 /// The end of a space's last context goes on once its question for settled frames has this answer: the space ends, or
 /// nothing does.
-#[tactic(auto, using(crate::proofs::Laters::fork_laters))]
 fn end_settled<M: PageSide>(
     settled: Answer,
     r: &mut Resources,
@@ -49,7 +49,7 @@ fn end_settled<M: PageSide>(
     requires last { list_any (spec.is_of_space space) (end_at slot c.old) ≡ false }
     requires cleared { settled ≡ Answer.Ok → AreCleared (M.is_cleared m.old) (spec.marked space r.old) }
     ensures follows { Follows M.stands_for m.old m.new (left.ending result c.new r.new)
-        (parts.end_cleared domain slot space r.old c.old settled) }
+        (played (parts.end_cleared domain slot space r.old c.old settled)) }
     ensures not_kept { result ≢ Ended.Kept }
     ensures gone { (n : ℕ) → result ≡ Ended.SpaceGone n → n ≡ space }
     ensures gone_leaves { (n : ℕ) → result ≡ Ended.SpaceGone n → left.spaces c.new r.new ≡ left.spaces
@@ -83,7 +83,7 @@ fn end_in_space<M: PageSide>(
     requires in_use { IsInUse r.old space }
     requires serves { Serves M.PageSide m.old domain r.old }
     ensures follows { Follows M.stands_for m.old m.new (left.ending result c.new r.new)
-        (spec.end_context domain slot space r.old c.old) }
+        (played (spec.end_context domain slot space r.old c.old)) }
     ensures kept { (result ≡ Ended.Kept) ↔ IsTrue (list_any (spec.is_of_space space) (end_at slot c.old)) }
     ensures kept_leaves { result ≡ Ended.Kept → left.spaces c.new r.new ≡ left.spaces (end_at slot c.old) r.old }
     ensures gone { (n : ℕ) → result ≡ Ended.SpaceGone n → n ≡ space }
@@ -114,8 +114,8 @@ pub fn end_context<M: PageSide>(
     requires in_use { ForSome (context_at c.old slot) (λ x. IsInUse r.old x.space) }
     requires serves { Serves M.PageSide m.old domain r.old }
     ensures follows { IfSome (context_at c.old slot)
-        (λ x. Follows M.stands_for m.old m.new (left.ending result c.new r.new) (spec.end_context domain slot x.space
-        r.old c.old)) }
+        (λ x. Follows M.stands_for m.old m.new (left.ending result c.new r.new) (played (spec.end_context domain slot x.space
+        r.old c.old))) }
     ensures kept { IfSome (context_at c.old slot)
         (λ x. (result ≡ Ended.Kept) ↔ IsTrue (list_any (spec.is_of_space x.space) (end_at slot c.old))) }
     ensures kept_leaves { result ≡ Ended.Kept → left.spaces c.new r.new ≡ left.spaces (end_at slot c.old) r.old }

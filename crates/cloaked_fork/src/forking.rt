@@ -3,6 +3,7 @@ ghost use Rattle.std.specs.Prelude.{◌≡◌, ◌≢◌, ◌<◌, ◌↔◌, �
 ghost use Rattle.std.specs.Prelude.{IsNone, IfSome, IfErr, OnErr, IfOk, IsOk, IsTrue};
 ghost use Rattle.std.specs.Option.{ForSome};
 ghost use Rattle.cloak_base.specs.declared.names.CtxId.{CtxId};
+ghost use Rattle.cloak_model.specs.declared.resource.MapFault.{MapFault};
 ghost use Rattle.cloak_model.specs.Asking.{Follows};
 ghost use Rattle.cloak_model.specs.Contexts.{context_at};
 ghost use Rattle.cloak_model.specs.Fork as spec;
@@ -14,11 +15,12 @@ ghost use Rattle.cloaked_fork.specs.Homes.{AllInUse};
 ghost use Rattle.cloaked_fork.specs.Left as left;
 ghost use Rattle.cloaked_fork.specs.Marks.{AreCleared};
 ghost use Rattle.cloaked_fork.specs.Serving.{Serves, GoesOnServing};
+ghost use Rattle.cloak_model.specs.Script.{played};
 
 use crate::pages::copy_all;
 use crate::slots::context;
 use cloak_base::CtxId;
-use cloak_model::{Answer, MapFault, PageSide};
+use cloak_model::{Answer, Forked, MapFault, PageSide};
 use resource_map::Resources;
 use thread_context::{Context, Contexts};
 
@@ -54,7 +56,7 @@ fn fits(r: &Resources, c: &Contexts, space: u32) -> Result<(), MapFault>
 fn copy_pages<M: PageSide>(r: &Resources, domain: u32, space: u32, m: &mut M)
     requires serves { Serves M.PageSide m.old domain r.now }
     requires cleared { AreCleared (M.is_cleared m.old) (spec.marked space r.now) }
-    ensures follows { Follows M.stands_for m.old m.new tt (spec.ask_copies domain (spec.copies space r.now)) }
+    ensures follows { Follows M.stands_for m.old m.new tt (played (spec.copy_each domain (spec.copies space r.now))) }
     ensures side { SideStays M.PageSide IsAny m.old m.new }
 {
     let copies = r.copies(space);
@@ -83,7 +85,6 @@ fn copy_space(r: &mut Resources, c: &mut Contexts, domain: u32, caller: &Context
 }
 
 /// A fork goes on once its question for settled frames has this answer: the space is copied, or nothing is.
-#[tactic(auto, using(crate::proofs::Laters::fork_laters))]
 fn fork_settled<M: PageSide>(
     settled: Answer,
     r: &mut Resources,
@@ -91,86 +92,90 @@ fn fork_settled<M: PageSide>(
     domain: u32,
     caller: &Context,
     m: &mut M,
-) -> Option<CtxId>
+) -> Forked
     requires number { domain < 4 }
     requires in_use { IsInUse r.old caller.now.space }
     requires room { IsTrue (spec.has_room caller.now.space r.old c.old) }
     requires serves { Serves M.PageSide m.old domain r.old }
     requires cleared { settled ≡ Answer.Ok → AreCleared (M.is_cleared m.old) (spec.marked caller.now.space r.old) }
-    ensures follows { Follows M.stands_for m.old m.new (left.made_fork (Ok result) c.new r.new)
-        (parts.fork_cleared domain caller.now (left.lowest c.old) (left.lowest r.old.spaces) r.old c.old settled) }
-    ensures made { IfSome result (λ made. made ≡ left.new_context_number domain c.old) }
-    ensures copied { IsSome result → left.spaces c.new r.new ≡ left.forked_spaces caller.now r.old c.old }
-    ensures stopped_unchanged { IsNone result → left.spaces c.new r.new ≡ left.spaces c.old r.old }
+    ensures follows { Follows M.stands_for m.old m.new (left.made_fork result c.new r.new)
+        (played (parts.fork_cleared domain caller.now (left.lowest c.old) (left.lowest r.old.spaces) r.old c.old settled)) }
+    ensures number { (n : CtxId) → result ≡ Forked.Child n → n ≡ left.new_context_number domain c.old }
+    ensures forked { (n : CtxId) → result ≡ Forked.Child n → left.spaces c.new r.new ≡ left.forked_spaces caller.now
+        r.old c.old }
+    ensures not_refused { (fault : MapFault) → result ≢ Forked.Refused fault }
+    ensures stopped_unchanged { result ≡ Forked.Stopped → left.spaces c.new r.new ≡ left.spaces c.old r.old }
     ensures side { GoesOnServing M.PageSide r.new m.old m.new }
     ensures in_use { AllInUse c.old r.old → AllInUse c.new r.new }
 {
     match settled {
         Answer::Ok => {
             copy_pages(r, domain, caller.space, m);
-            Some(copy_space(r, c, domain, caller))
+            Forked::Child(copy_space(r, c, domain, caller))
         }
-        Answer::Absent(_) | Answer::Word(_) | Answer::Stopped => None,
+        Answer::Absent(_) | Answer::Word(_) | Answer::Stopped => Forked::Stopped,
     }
 }
 
 /// Copies the caller's space, with its context, if there is room.
-#[tactic(auto, using(crate::proofs::Laters::fork_laters), unfolding(cloak_model::specs::Fork::fork))]
+#[tactic(auto, unfolding(cloak_model::specs::Fork::fork))]
 fn fork_caller<M: PageSide>(
     r: &mut Resources,
     c: &mut Contexts,
     domain: u32,
     caller: &Context,
     m: &mut M,
-) -> Result<Option<CtxId>, MapFault>
+) -> Forked
     requires number { domain < 4 }
     requires in_use { IsInUse r.old caller.now.space }
     requires serves { Serves M.PageSide m.old domain r.old }
     ensures follows { Follows M.stands_for m.old m.new (left.made_fork result c.new r.new)
-        (spec.fork domain caller.now r.old c.old) }
-    ensures number { (n : CtxId) → result ≡ Ok (Some n) → n ≡ left.new_context_number domain c.old }
-    ensures forked { (n : CtxId) → result ≡ Ok (Some n) → left.spaces c.new r.new ≡ left.forked_spaces caller.now
+        (played (spec.fork domain caller.now r.old c.old)) }
+    ensures number { (n : CtxId) → result ≡ Forked.Child n → n ≡ left.new_context_number domain c.old }
+    ensures forked { (n : CtxId) → result ≡ Forked.Child n → left.spaces c.new r.new ≡ left.forked_spaces caller.now
         r.old c.old }
-    ensures full { (result ≡ Err MapFault.Full) ↔ (spec.fork_fits caller.now.space r.old c.old ≡ Err MapFault.Full) }
-    ensures only_full { IfErr result (λ fault. fault ≡ MapFault.Full) }
-    ensures refused_unchanged { OnErr result (left.spaces c.new r.new ≡ left.spaces c.old r.old) }
-    ensures stopped_unchanged { result ≡ Ok None → left.spaces c.new r.new ≡ left.spaces c.old r.old }
+    ensures full { (result ≡ Forked.Refused MapFault.Full) ↔ (spec.fork_fits caller.now.space r.old c.old ≡ Err MapFault.Full) }
+    ensures only_full { (fault : MapFault) → result ≡ Forked.Refused fault → fault ≡ MapFault.Full }
+    ensures refused_unchanged { (fault : MapFault) → result ≡ Forked.Refused fault →
+        left.spaces c.new r.new ≡ left.spaces c.old r.old }
+    ensures stopped_unchanged { result ≡ Forked.Stopped → left.spaces c.new r.new ≡ left.spaces c.old r.old }
     ensures side { GoesOnServing M.PageSide r.new m.old m.new }
     ensures in_use { AllInUse c.old r.old → AllInUse c.new r.new }
 {
     match fits(r, c, caller.space) {
-        Err(fault) => Err(fault),
+        Err(fault) => Forked::Refused(fault),
         Ok(()) => {
             let settled = m.clear(domain, &r.marked(caller.space));
-            Ok(fork_settled(settled, r, c, domain, caller, m))
+            fork_settled(settled, r, c, domain, caller, m)
         }
     }
 }
 
 /// Copies the space of a slot's context, with that context: the new one has 0 as its answer and is at the next
-/// instruction. Returns the number of the new context, or nothing if the question for settled frames is answered
-/// `Stopped`.
+/// instruction. Its number is that of the `Child`. `Refused` if there is no room, and `Stopped` if the question for
+/// settled frames is answered so.
 pub fn fork_space<M: PageSide>(
     r: &mut Resources,
     c: &mut Contexts,
     domain: u32,
     slot: u32,
     m: &mut M,
-) -> Result<Option<CtxId>, MapFault>
+) -> Forked
     requires number { domain < 4 }
     requires used { IsSome (context_at c.old slot) }
     requires in_use { ForSome (context_at c.old slot) (λ x. IsInUse r.old x.space) }
     requires serves { Serves M.PageSide m.old domain r.old }
     ensures follows { IfSome (context_at c.old slot)
-        (λ x. Follows M.stands_for m.old m.new (left.made_fork result c.new r.new) (spec.fork domain x r.old c.old)) }
-    ensures number { (n : CtxId) → result ≡ Ok (Some n) → n ≡ left.new_context_number domain c.old }
+        (λ x. Follows M.stands_for m.old m.new (left.made_fork result c.new r.new) (played (spec.fork domain x r.old c.old))) }
+    ensures number { (n : CtxId) → result ≡ Forked.Child n → n ≡ left.new_context_number domain c.old }
     ensures forked { IfSome (context_at c.old slot)
-        (λ x. (n : CtxId) → result ≡ Ok (Some n) → left.spaces c.new r.new ≡ left.forked_spaces x r.old c.old) }
+        (λ x. (n : CtxId) → result ≡ Forked.Child n → left.spaces c.new r.new ≡ left.forked_spaces x r.old c.old) }
     ensures full { IfSome (context_at c.old slot)
-        (λ x. (result ≡ Err MapFault.Full) ↔ (spec.fork_fits x.space r.old c.old ≡ Err MapFault.Full)) }
-    ensures only_full { IfErr result (λ fault. fault ≡ MapFault.Full) }
-    ensures refused_unchanged { OnErr result (left.spaces c.new r.new ≡ left.spaces c.old r.old) }
-    ensures stopped_unchanged { result ≡ Ok None → left.spaces c.new r.new ≡ left.spaces c.old r.old }
+        (λ x. (result ≡ Forked.Refused MapFault.Full) ↔ (spec.fork_fits x.space r.old c.old ≡ Err MapFault.Full)) }
+    ensures only_full { (fault : MapFault) → result ≡ Forked.Refused fault → fault ≡ MapFault.Full }
+    ensures refused_unchanged { (fault : MapFault) → result ≡ Forked.Refused fault →
+        left.spaces c.new r.new ≡ left.spaces c.old r.old }
+    ensures stopped_unchanged { result ≡ Forked.Stopped → left.spaces c.new r.new ≡ left.spaces c.old r.old }
     ensures side { GoesOnServing M.PageSide r.new m.old m.new }
     ensures in_use { AllInUse c.old r.old → AllInUse c.new r.new }
 {

@@ -11,6 +11,5 @@ mod forking;
 mod pages;
 mod slots;
 
-pub use cloak_model::{Ended, MapFault};
 pub use ending::end_context;
 pub use forking::fork_space;

@@ -10,7 +10,7 @@ use Rattle.cloak_model.specs.Memory.{with_value_in}
 use Rattle.cloak_model.specs.Ask.{opened, shown_value}
 use Rattle.cloak_model.proofs.Later.{IsLater}
 use Rattle.cloak_model.proofs.PagesLater.{later_drawn, later_offered}
-use Rattle.cloak_model.specs.World.{World, Cloak, Flat, Cloaked, Alone, cipher_items, is_clashed, stored_at}
+use Rattle.cloak_model.specs.World.{World, MidStep, Flat, Cloaked, Alone, cipher_items, is_clashed, stored_at}
 use Rattle.cloak_model.specs.World.{regime_of, is_missed, written}
 use Rattle.cloak_model.specs.Asking.{Asking, FollowsFrom, then_ask}
 use Rattle.cloak_model.specs.AskPages.{answer_item, replies, if_drawn, inside_access, ask_inside_address, get_at, got, put_at, stored_inside}
@@ -18,7 +18,7 @@ use Rattle.cloak_model.specs.AskPages.{offer_events, offered_by, ask_offer, reac
 use Rattle.cloak_base.specs.declared.names.PageId.{PageId}
 use Rattle.cloak_base.specs.declared.causes.Violation.{Violation}
 use Rattle.cloak_base.specs.declared.causes.Violation.TheVariants as violation
-use Rattle.cloak_model.specs.Cloaking.{CloakedMemory, Offer, offer}
+use Rattle.cloak_model.specs.Cloaking.{CloakedMemory, OfferEnd, offer}
 use Rattle.cloak_model.specs.Exchange.{Piece, Emits, item_pieces}
 use Rattle.cloaked_side.specs.Holding.{Holds}
 use Rattle.cloaked_side.specs.Offering.{Offers, offer_of}
@@ -213,13 +213,13 @@ put_at_led gave first new va width value pa a w told = told
 -- A page was offered.
 
 -- the memory and the step after an offer
-abbrev pub offered_cloak : PageId → ℕ → Bool → Cloak → Cloak
+abbrev pub offered_cloak : PageId → ℕ → Bool → MidStep → MidStep
 offered_cloak q g write c =
     let o = offer q g write c.memory in
     record c { memory = o.memory; items = c.items ++ cipher_items o.ciphers; events = c.events ++ offer_events q g c.memory o.answer }
 
 sees_offered : {E : Type 0} (gave : E → E → List Piece → Type 0) (first old mid : Side E) (given : Ended)
-    (q : PageId) (g : ℕ) (write : Bool) (c : Cloak) → SeesCloak gave first old c →
+    (q : PageId) (g : ℕ) (write : Bool) (c : MidStep) → SeesCloak gave first old c →
     Offers gave old.emitter.now mid.emitter.now mid.memory.now given (offer q g write c.memory) →
     TracksBy old.memory.now mid.memory.now (after_events (space_in mid.regime) (offer_events q g c.memory (offer q g write c.memory).answer)) →
     Spends 0 (length (offer q g write c.memory).ciphers) (spent_in old.memory.now) (spent_in mid.memory.now) →
@@ -249,7 +249,7 @@ sees_offered gave first old mid given q g write c sees o tracks spends maps viol
 }
 
 -- the same side, except for a violation
-pub with_violation : {E : Type 0} (gave : E → E → List Piece → Type 0) (first mid after : Side E) (v : Option Violation) (c : Cloak) →
+pub with_violation : {E : Type 0} (gave : E → E → List Piece → Type 0) (first mid after : Side E) (v : Option Violation) (c : MidStep) →
     SeesCloak gave first mid c → after.memory ≡ mid.memory → after.emitter ≡ mid.emitter → after.domain ≡ mid.domain → after.regime ≡ mid.regime →
     after.violation ≡ v → SeesCloak gave first after (record c { violation = v })
 with_violation gave first mid after v c sees memory emitter domain regime violated = record {
@@ -278,7 +278,7 @@ pub asked_offer : {E : Type 0} (gave : E → E → List Piece → Type 0) (first
     Spends 0 (length (offer q g write m).ciphers) (spent_in old.memory.now) (spent_in mid.memory.now)) →
     MapsStill old.memory.now mid.memory.now →
     mid.violation ≡ old.violation → mid.domain ≡ old.domain → mid.regime ≡ old.regime →
-    ((c c' : Cloak) → w ≡ Cloaked c → SeesCloak gave first old c → SeesCloak gave first mid c' →
+    ((c c' : MidStep) → w ≡ Cloaked c → SeesCloak gave first old c → SeesCloak gave first mid c' →
     c'.memory ≡ (offer q g (is_store kind) c.memory).memory → c'.regime ≡ c.regime →
     FollowsFrom (Sees gave first) new a (offered_by q va kind g (offer_of given) (Cloaked c'))) →
     FollowsFrom (Sees gave first) new a (ask_offer q va kind g w)
@@ -298,12 +298,12 @@ asked_offer {E} gave first old mid new given q va kind g write a (Cloaked c) kin
     let goes = subst (λ (b : Bool). (offer q g b c.memory).memory.ledger.clashed ≡ false → (sp : Option SpaceId) →
     TracksBy old.memory.now mid.memory.now (after_events sp (offer_events q g c.memory (offer q g b c.memory).answer))) kind_is
     (tracks c.memory sees.holds) unclashed (space_in mid.regime) in
-    subst (λ (x : Offer). FollowsFrom (Sees gave first) new a (offered_by q va kind g x (Cloaked c'))) done.answer
+    subst (λ (x : OfferEnd). FollowsFrom (Sees gave first) new a (offered_by q va kind g x (Cloaked c'))) done.answer
     (told c c' refl sees (sees_offered gave first old mid given q g store c sees done goes least maps violation domain regime) refl refl)
 
 -- It is granted, once its translation is known.
 pub granted_told : {E : Type 0} (gave : E → E → List Piece → Type 0) (first after new : Side E) (q : PageId) (va : ℕ) (kind : Kind)
-    (g : ℕ) (a : Answer) (c : Cloak) → Sees gave first after (known (regime_of (Cloaked c)).satp (inside_access (Cloaked c) va kind) (Some q) (Cloaked c)) →
+    (g : ℕ) (a : Answer) (c : MidStep) → Sees gave first after (known (regime_of (Cloaked c)).satp (inside_access (Cloaked c) va kind) (Some q) (Cloaked c)) →
     ((v : World) → Sees gave first after v → FollowsFrom (Sees gave first) new a (replies Granted v)) →
     FollowsFrom (Sees gave first) new a (offered_by q va kind g (offer_of ended.Ready) (Cloaked c))
 unfolding offered_by
@@ -311,7 +311,7 @@ granted_told gave first after new q va kind g a c sees told = told _ sees
 
 -- The page was found in another frame, and that is a violation.
 pub mismatched_told : {E : Type 0} (gave : E → E → List Piece → Type 0) (first after new : Side E) (q : PageId) (va : ℕ) (kind : Kind)
-    (g : ℕ) (a : Answer) (c : Cloak) → SeesCloak gave first after (record c { violation = Some (violation.Page q (record { 0 = g })) }) →
+    (g : ℕ) (a : Answer) (c : MidStep) → SeesCloak gave first after (record c { violation = Some (violation.Page q (record { 0 = g })) }) →
     ((v : World) → Sees gave first after v → FollowsFrom (Sees gave first) new a (replies Stopped v)) →
     FollowsFrom (Sees gave first) new a (offered_by q va kind g (offer_of ended.Mismatch) (Cloaked c))
 unfolding offered_by
@@ -319,7 +319,7 @@ mismatched_told gave first after new q va kind g a c sees told = told _ sees
 
 -- A draw was missing.
 pub missed_told : {E : Type 0} (gave : E → E → List Piece → Type 0) (first mid new : Side E) (q : PageId) (va : ℕ) (kind : Kind)
-    (g : ℕ) (a : Answer) (c : Cloak) → SeesCloak gave first mid c →
+    (g : ℕ) (a : Answer) (c : MidStep) → SeesCloak gave first mid c →
     ((v : World) → Sees gave first mid v → FollowsFrom (Sees gave first) new a (replies Stopped v)) →
     FollowsFrom (Sees gave first) new a (offered_by q va kind g (offer_of ended.Missed) (Cloaked c))
 unfolding offered_by

@@ -9,9 +9,10 @@ use Rattle.cloak_model.specs.AskPages.{settled_if_marked, ask_forget}
 use Rattle.cloak_model.specs.Asking.{FollowsFrom, Told}
 use Rattle.cloak_model.specs.Ending.{all_marked, settled_for, ask_end}
 use Rattle.cloak_model.specs.Exchange.{Piece, Emits, item_pieces}
-use Rattle.cloak_model.specs.Fork.{ask_forgets}
+use Rattle.cloak_model.specs.Fork.{forget_each}
 use Rattle.cloak_model.specs.Opening.{numbers_below}
 use Rattle.cloak_model.specs.World.{World, items_of, ram_of}
+use Rattle.cloak_model.specs.Script.{played}
 use Rattle.protect_meta.specs.Table.{MetaRow}
 use Rattle.cloak_pager.specs.State.{PagerState, IsWholePager, IsNoneHeld, Names, held_in, page_of, right_at}
 use Rattle.cloak_pager.specs.declared.frame_right.FrameRight.{FrameRight}
@@ -57,24 +58,24 @@ mark_of_all r low = get_or-replicate 16 r true false low
 -- Forgetting.
 
 forgets_last : (d : ℕ) (xs : List ℕ) (n : ℕ) (w : World) →
-    ask_forgets d (xs ++ n ∷ []) w ≡ ask_forget d n (ask_forgets d xs w).world
-unfolding ask_forgets
+    played (forget_each d (xs ++ n ∷ [])) w ≡ ask_forget d n (played (forget_each d xs) w).world
+unfolding forget_each
 forgets_last d [] n w = refl
 forgets_last d (x ∷ xs) n w = forgets_last d xs n (ask_forget d x w).world
 
 -- no resource is forgotten
 pub forgets_none : {E : Type 0} (gave : E → E → List Piece → Type 0) (first now : Side E) (d : ℕ) (w : World) →
-    Sees gave first now w → FollowsFrom (Sees gave first) now (tt {0}) (ask_forgets d (numbers_below 0) w)
-unfolding ask_forgets
+    Sees gave first now w → FollowsFrom (Sees gave first) now (tt {0}) (played (forget_each d (numbers_below 0)) w)
+unfolding forget_each
 forgets_none gave first now d w sees = record { answer = refl; stands = sees }
 
 -- one resource more is forgotten
 pub forgets_next : {E : Type 0} (gave : E → E → List Piece → Type 0) (first new : Side E) (d n : ℕ) (w : World) →
-    FollowsFrom (Sees gave first) new (tt {0}) (ask_forget d n (ask_forgets d (numbers_below n) w).world) →
-    FollowsFrom (Sees gave first) new (tt {0}) (ask_forgets d (numbers_below (n + 1)) w)
+    FollowsFrom (Sees gave first) new (tt {0}) (ask_forget d n (played (forget_each d (numbers_below n)) w).world) →
+    FollowsFrom (Sees gave first) new (tt {0}) (played (forget_each d (numbers_below (n + 1))) w)
 forgets_next gave first new d n w told =
     let one : suc n ≡ n + 1 = omega arith in
-    subst (λ (k : ℕ). FollowsFrom (Sees gave first) new (tt {0}) (ask_forgets d (numbers_below k) w)) one
+    subst (λ (k : ℕ). FollowsFrom (Sees gave first) new (tt {0}) (played (forget_each d (numbers_below k)) w)) one
     (subst (λ (t : Told (Unit {0})). FollowsFrom (Sees gave first) new (tt {0}) t) (sym (forgets_last d (numbers_below n) n w)) told)
 
 -- no frame holds a page of one resource more
@@ -115,7 +116,7 @@ none_of_all p d whole none r = elim (cases_lt r 16) [
 pub asked_end : {E : Type 0} (gave : E → E → List Piece → Type 0) (first old mid new : Side E) (d : ℕ) (w : World) →
     Sees gave first old w →
     ((v : World) → Sees gave first old v → Sees gave first mid (settled_for d 0 (frames_of old.memory.now) v)) →
-    ((v : World) → Sees gave first mid v → FollowsFrom (Sees gave first) new (tt {0}) (ask_forgets d (numbers_below 16) v)) →
+    ((v : World) → Sees gave first mid v → FollowsFrom (Sees gave first) new (tt {0}) (played (forget_each d (numbers_below 16)) v)) →
     FollowsFrom (Sees gave first) new (tt {0}) (ask_end d w)
 unfolding ask_end
 asked_end gave first old mid new d w sees settles forgets =

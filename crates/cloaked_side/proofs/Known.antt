@@ -7,7 +7,7 @@ use Rattle.cloak_base.proofs.Pages.{same_page_tells}
 use Rattle.cloak_base.specs.declared.names.Kind.TheVariants.{Store}
 use Rattle.cloak_model.specs.AskPages.{is_store, offer_events, replies, offered_by, ask_offer, ask_inside_address, if_drawn, reached}
 use Rattle.cloak_model.specs.Events.{Event, Look, Touch, Born, births_by}
-use Rattle.cloak_model.specs.Cloaking.{CloakedMemory, Offer, Ready, Mismatch, Missed, owed_in, settle, offer}
+use Rattle.cloak_model.specs.Cloaking.{CloakedMemory, OfferEnd, Ready, Mismatch, Missed, owed_in, settle, offer}
 use Rattle.cloak_model.specs.World.{is_clashed, noted, settled, settled_in, cipher_items}
 use Rattle.cloak_model.proofs.Later.{later_inside, later_loaded_at, later_stored_to}
 use Rattle.cloak_base.specs.declared.names.Frame.{Frame}
@@ -47,14 +47,14 @@ use Rattle.cloak_model.specs.declared.access.Walked.{Walked}
 use Rattle.cloak_model.specs.declared.access.Access.{Access}
 use Rattle.cloak_model.specs.declared.regime.InsideRegime.{InsideRegime}
 use Rattle.cloak_base.specs.declared.names.Mode.TheVariants.{U}
-use Rattle.cloak_model.specs.Ask.{shown_word, ask_word, ask_walk, ask_inside, ask_translate, ask_led, opened, ask_value, ask_store, shown_value, stored_value, loaded_at, ask_load, stored_to, ask_store_at}
+use Rattle.cloak_model.specs.Ask.{shown_word, ask_word, ask_walk, ask_in_ram, ask_translate, ask_led, opened, ask_value, ask_store, shown_value, stored_value, loaded_at, ask_load, stored_to, ask_store_at}
 use Rattle.cloak_model.proofs.WalkParts.{ask_after, ask_first}
 use Rattle.cloak_model.specs.Asking.{Told, FollowsFrom, answered}
 use Rattle.cloak_model.specs.Exchange.{Piece}
 use Rattle.cloak_base.specs.Constants.{frame_of, is_in_frames}
 use Rattle.cloak_model.specs.Memory.{is_in_ram}
 use Rattle.cloak_model.specs.Walk.{Walk, FirstWord, Ends, GoesOn, first_word, walk, has_paging, without_paging, first_entry, access_fault}
-use Rattle.cloak_model.specs.World.{World, Cloak, Flat, Cloaked, Alone}
+use Rattle.cloak_model.specs.World.{World, MidStep, Flat, Cloaked, Alone}
 use Rattle.shadow_fold.specs.Agreement.{Present, EntryAgrees, satp_in, access_in, start_of}
 use Rattle.shadow_fold.specs.Entries.{is_for}
 use Rattle.shadow_fold.specs.Table.{Table, looked}
@@ -77,7 +77,7 @@ use Rattle.cloaked_side.specs.declared.leading.Led.{Led}
 use Rattle.cloaked_side.specs.declared.side.Side.{Side}
 use Rattle.cloaked_side.proofs.Presents.{pager_owes}
 
-led_there : (c : Cloak) (regime : Regime) (va : ℕ) (kind : Kind) (e : Entry) → (e.regime ≡ regime) × (e.page ≡ va / 4096) × (e.kind ≡ kind)
+led_there : (c : MidStep) (regime : Regime) (va : ℕ) (kind : Kind) (e : Entry) → (e.regime ≡ regime) × (e.page ≡ va / 4096) × (e.kind ≡ kind)
     → (b : Told (Result ℕ ℕ)) → ask_translate (satp_in e.regime) (access_in e.regime va e.kind) (Cloaked c) ≡ b
     → ask_translate (satp_in regime) (access_in regime va kind) (Cloaked c) ≡ b
 led_there c regime va kind e same b is =
@@ -100,7 +100,7 @@ entry_place b pa kind = cond b (Ok pa) (Err (access_fault kind))
 abbrev pub entry_walk : Entry → ℕ → Walked
 entry_walk e va = record { pa = start_of e.frame.0 + va % 4096; pt1 = e.pt1; pt0 = e.pt0 }
 
-found_leads : {E : Type 0} (gave : E → E → List Piece → Type 0) (first now : Side E) (c : Cloak) (regime : Regime) (va : ℕ)
+found_leads : {E : Type 0} (gave : E → E → List Piece → Type 0) (first now : Side E) (c : MidStep) (regime : Regime) (va : ℕ)
     (kind : Kind) (e : Entry) (b : Bool) → SeesCloak gave first now c → Some e ≡ find (is_for regime (va / 4096) kind) now.memory.now.shadows.live
     → b ≡ is_in_frames (frames_of now.memory.now) (start_of e.frame.0 + va % 4096)
     → (walk c.memory.ram (satp_in regime) (access_in regime va kind) ≡ Ok (entry_walk e va))
@@ -166,7 +166,7 @@ found_target gave first now w regime page kind e pa k cloaked sees is at small s
 abbrev pub with_table : {E : Type 0} → Side E → Table → Side E
 with_table old t = record old { memory = record old.memory { now = record old.memory.now { shadows = t } } }
 
-sees_with : {E : Type 0} (gave : E → E → List Piece → Type 0) (first old : Side E) (t : Table) (c : Cloak) (events : List Event) (left : ℕ) → SeesCloak gave first old c
+sees_with : {E : Type 0} (gave : E → E → List Piece → Type 0) (first old : Side E) (t : Table) (c : MidStep) (events : List Event) (left : ℕ) → SeesCloak gave first old c
     → Agrees (present (held_in old.memory.now.pager) c.memory) t → t.frames ≡ old.memory.now.shadows.frames
     → TracksBy old.memory.now (record old.memory.now { shadows = t }) (after_events (space_in old.regime) events)
     → SpendsFor (looks_in events) left 0 (spent_in old.memory.now) (spent_in (record old.memory.now { shadows = t }))
@@ -213,7 +213,7 @@ looked_misses regime page kind t = refl
 
 -- a look counts, and changes nothing else
 looks : {E : Type 0} (gave : E → E → List Piece → Type 0) (first old : Side E) (t : Table) (regime : Regime) (va : ℕ)
-    (kind : Kind) (c : Cloak) (left : ℕ) → SeesCloak gave first old c → IsRegimeIn (space_in old.regime) regime → t ≡ looked regime (va / 4096) kind old.memory.now.shadows
+    (kind : Kind) (c : MidStep) (left : ℕ) → SeesCloak gave first old c → IsRegimeIn (space_in old.regime) regime → t ≡ looked regime (va / 4096) kind old.memory.now.shadows
     → SpendsFor 1 left 0 (spent_in old.memory.now) (spent_in (record old.memory.now { shadows = t }))
     → SeesCounted gave first (with_table old t) (record c { events = c.events ++ Look (satp_in regime) (access_in regime va kind) ∷ [] }) left 0
 looks gave first old t regime va kind c left sees viewed is spends =
@@ -227,7 +227,7 @@ looks gave first old t regime va kind c left sees viewed is spends =
 
 -- one that finds an entry
 pub looks_found : {E : Type 0} (gave : E → E → List Piece → Type 0) (first old : Side E) (t : Table) (regime : Regime) (va : ℕ)
-    (kind : Kind) (e : Entry) (c : Cloak) → SeesCloak gave first old c → IsRegimeIn (space_in old.regime) regime → t ≡ looked regime (va / 4096) kind old.memory.now.shadows
+    (kind : Kind) (e : Entry) (c : MidStep) → SeesCloak gave first old c → IsRegimeIn (space_in old.regime) regime → t ≡ looked regime (va / 4096) kind old.memory.now.shadows
     → Some e ≡ find (is_for regime (va / 4096) kind) old.memory.now.shadows.live
     → SeesCloak gave first (with_table old t) (record c { events = c.events ++ Look (satp_in regime) (access_in regime va kind) ∷ [] })
 looks_found gave first old t regime va kind e c sees viewed is there =
@@ -289,7 +289,7 @@ entry_follows gave first old t (Flat ram) regime va kind e b to sees viewed is t
 entry_follows gave first old t (Alone handed) regime va kind e b to sees viewed is there inside at = absurd sees
 entry_follows gave first old t (Cloaked c) regime va kind e b to sees viewed is there inside at =
     let new = with_table old t in
-    let c1 : Cloak = record c { events = c.events ++ Look (satp_in regime) (access_in regime va kind) ∷ [] } in
+    let c1 : MidStep = record c { events = c.events ++ Look (satp_in regime) (access_in regime va kind) ∷ [] } in
     let sees1 = looks_found gave first old t regime va kind e c sees viewed is there in
     let there1 = found_after regime (va / 4096) kind old.memory.now.shadows t e is there in
     let led = found_leads gave first new c1 regime va kind e b sees1 there1 inside in
@@ -313,7 +313,7 @@ entry_so gave first old t (Flat ram) regime va kind e cloaked led sees viewed is
 entry_so gave first old t (Alone handed) regime va kind e cloaked led sees viewed is there inside at so = absurd sees
 entry_so gave first old t (Cloaked c) regime va kind e cloaked led sees viewed is there inside at so =
     let new = with_table old t in
-    let c1 : Cloak = record c { events = c.events ++ Look (satp_in regime) (access_in regime va kind) ∷ [] } in
+    let c1 : MidStep = record c { events = c.events ++ Look (satp_in regime) (access_in regime va kind) ∷ [] } in
     let sees1 = looks_found gave first old t regime va kind e c sees viewed is there in
     let there1 = found_after regime (va / 4096) kind old.memory.now.shadows t e is there in
     let found_there = found_leads gave first new c1 regime va kind e true sees1 there1 (sym inside) in
@@ -400,16 +400,16 @@ pub walk_of : {E : Type 0} (gave : E → E → List Piece → Type 0) (first old
     (walked : Walked) (w : World) → SeesWalking gave first old w → is_in_frames (frames_of mid.memory.now) walked.pa ≡ true
     → FollowsFrom (SeesWalking gave first) mid (Ok walked) (ask_walk (satp_in regime) (access_in regime va kind) w)
     → IsWalkOf (ask_translate (satp_in regime) (access_in regime va kind) w).world regime va kind walked
-unfolding ask_translate ask_inside
+unfolding ask_translate ask_in_ram
 walk_of gave first old mid regime va kind walked (Flat ram) sees inside told = absurd sees
 walk_of gave first old mid regime va kind walked (Alone handed) sees inside told = absurd sees
 walk_of gave first old mid regime va kind walked (Cloaked c) sees inside told =
     let satp = satp_in regime in
     let a = access_in regime va kind in
     let asked = asked_walk satp a c in
-    let c' : Cloak = asked.0 in
+    let c' : MidStep = asked.0 in
     let stands = subst (λ (v : World). SeesWalking gave first mid v) asked.1 told.stands in
-    subst (λ (o : Walk). IsWalkOf (ask_inside a o (ask_walk satp a (Cloaked c)).world).world regime va kind walked) told.answer
+    subst (λ (o : Walk). IsWalkOf (ask_in_ram a o (ask_walk satp a (Cloaked c)).world).world regime va kind walked) told.answer
     (subst (λ (v : World). IsWalkOf v regime va kind walked) (sym asked.1)
     (asked.2 ∙ sym told.answer, ap (λ (n : ℕ). is_in_frames n walked.pa) stands.holds.pager.count ∙ inside))
 
@@ -564,14 +564,14 @@ led_entry gave first old new regime va kind led walked w sees some by outside le
 -- A page was offered in the frame, which holds it now: the entry of the walk agrees, unless the frame is one of its tables.
 
 -- what an offer leaves of memory
-offer_leaves : (q : PageId) (va : ℕ) (kind : Kind) (g : ℕ) (c : Cloak) (o : Offer) → (c' : Cloak) ×
+offer_leaves : (q : PageId) (va : ℕ) (kind : Kind) (g : ℕ) (c : MidStep) (o : OfferEnd) → (c' : MidStep) ×
     ((offered_by q va kind g o (Cloaked c)).world ≡ Cloaked c') × (c'.memory ≡ c.memory)
 unfolding offered_by replies
 offer_leaves q va kind g c Ready = (_, refl, refl)
 offer_leaves q va kind g c Mismatch = (_, refl, refl)
 offer_leaves q va kind g c Missed = (_, refl, refl)
 
-asked_leaves : (q : PageId) (va : ℕ) (kind : Kind) (g : ℕ) (c : Cloak) → (c' : Cloak) ×
+asked_leaves : (q : PageId) (va : ℕ) (kind : Kind) (g : ℕ) (c : MidStep) → (c' : MidStep) ×
     ((ask_offer q va kind g (Cloaked c)).world ≡ Cloaked c') × (c'.memory ≡ (offer q g (is_store kind) c.memory).memory)
 unfolding ask_offer
 asked_leaves q va kind g c =
@@ -593,7 +593,7 @@ outside_but old new g q whole others here x other none = by_held (held_in new x)
     ]
 
 page_entry_in : {E : Type 0} (gave : E → E → List Piece → Type 0) (first old new : Side E) (regime : Regime) (va : ℕ) (kind : Kind)
-    (q : PageId) (pa : ℕ) (walked : Walked) (c c' : Cloak) → SeesCloak gave first old c → SeesCloak gave first new c'
+    (q : PageId) (pa : ℕ) (walked : Walked) (c c' : MidStep) → SeesCloak gave first old c → SeesCloak gave first new c'
     → c'.memory ≡ (offer q (frame_of pa) (is_store kind) c.memory).memory
     → IsWalkOf (Cloaked c) regime va kind walked → walked.pa ≡ pa
     → AreOutside (held_in old.memory.now.pager) walked → HoldsNoOther q old.memory.now.pager new.memory.now.pager
@@ -635,21 +635,21 @@ if_led (Err cause) all p = tt
 -- The walk of an access, after a look that missed.
 
 -- the touches of a walk are few
-word_since : (pa : ℕ) (c : Cloak) → (c' : Cloak) × ((ask_word pa (Cloaked c)).world ≡ Cloaked c') × (touched_since 0 c'.events ≤ touched_since 0 c.events + 1)
+word_since : (pa : ℕ) (c : MidStep) → (c' : MidStep) × ((ask_word pa (Cloaked c)).world ≡ Cloaked c') × (touched_since 0 c'.events ≤ touched_since 0 c.events + 1)
 unfolding ask_word
 word_since pa c = by (is_in_ram c.memory.ram pa)
   where
-    by : (b : Bool) → (c' : Cloak) × ((cond b (shown_word pa (settled (frame_of pa) (Cloaked c))) (answered None (Cloaked c))).world ≡ Cloaked c')
+    by : (b : Bool) → (c' : MidStep) × ((cond b (shown_word pa (settled (frame_of pa) (Cloaked c))) (answered None (Cloaked c))).world ≡ Cloaked c')
         × (touched_since 0 c'.events ≤ touched_since 0 c.events + 1)
     by true = let one = since_then 0 c.events (Touch (frame_of pa) ∷ []) in (settled_in (frame_of pa) c, refl, omega (arith, one))
     by false = (c, refl, omega arith)
 
-after_since : (a : Access) (at1 : ℕ) (word : FirstWord) (c : Cloak) → (c' : Cloak) × ((ask_after a at1 word (Cloaked c)).world ≡ Cloaked c')
+after_since : (a : Access) (at1 : ℕ) (word : FirstWord) (c : MidStep) → (c' : MidStep) × ((ask_after a at1 word (Cloaked c)).world ≡ Cloaked c')
     × (touched_since 0 c'.events ≤ touched_since 0 c.events + 1)
 after_since a at1 (Ends walk) c = (c, refl, omega arith)
 after_since a at1 (GoesOn at0) c = word_since at0 c
 
-first_since : (a : Access) (at1 : ℕ) (c : Cloak) → (c' : Cloak) × ((ask_first a at1 (Cloaked c)).world ≡ Cloaked c')
+first_since : (a : Access) (at1 : ℕ) (c : MidStep) → (c' : MidStep) × ((ask_first a at1 (Cloaked c)).world ≡ Cloaked c')
     × (touched_since 0 c'.events ≤ touched_since 0 c.events + 2)
 first_since a at1 c =
     let told = ask_word at1 (Cloaked c) in
@@ -660,22 +660,22 @@ first_since a at1 c =
       let few = one.2 in let more = two.2 in omega (arith, few, more),
     )
 
-walk_since : (satp : ℕ) (a : Access) (c : Cloak) → (c' : Cloak) × ((ask_walk satp a (Cloaked c)).world ≡ Cloaked c')
+walk_since : (satp : ℕ) (a : Access) (c : MidStep) → (c' : MidStep) × ((ask_walk satp a (Cloaked c)).world ≡ Cloaked c')
     × (touched_since 0 c'.events ≤ touched_since 0 c.events + 2)
 unfolding ask_walk
 walk_since satp a c = by (has_paging satp)
   where
-    by : (b : Bool) → (c' : Cloak) × ((cond b (ask_first a (first_entry satp a.va) (Cloaked c)) (answered (without_paging a) (Cloaked c))).world ≡ Cloaked c')
+    by : (b : Bool) → (c' : MidStep) × ((cond b (ask_first a (first_entry satp a.va) (Cloaked c)) (answered (without_paging a) (Cloaked c))).world ≡ Cloaked c')
         × (touched_since 0 c'.events ≤ touched_since 0 c.events + 2)
     by true = first_since a (first_entry satp a.va) c
     by false = (c, refl, omega arith)
 
 -- so the walk is paid for
-walked_sees : {E : Type 0} (gave : E → E → List Piece → Type 0) (first now : Side E) (satp : ℕ) (a : Access) (c : Cloak)
+walked_sees : {E : Type 0} (gave : E → E → List Piece → Type 0) (first now : Side E) (satp : ℕ) (a : Access) (c : MidStep)
     → SeesWalking gave first now (ask_walk satp a (noted (Look satp a ∷ []) (Cloaked c))).world
     → Sees gave first now (ask_walk satp a (noted (Look satp a ∷ []) (Cloaked c))).world
 walked_sees gave first now satp a c =
-    let c1 : Cloak = record c { events = c.events ++ Look satp a ∷ [] } in
+    let c1 : MidStep = record c { events = c.events ++ Look satp a ∷ [] } in
     let there = walk_since satp a c1 in
     let none : touched_since 0 c1.events ≡ 0 = since_then 0 c.events (Look satp a ∷ []) in
     let few = there.2 in
@@ -702,8 +702,8 @@ walk_place n kind (Ok walked) = entry_place (is_in_frames n walked.pa) walked.pa
 
 inside_told : {E : Type 0} (gave : E → E → List Piece → Type 0) (first mid : Side E) (regime : Regime) (va : ℕ) (kind : Kind)
     (r : Walk) (to : Result ℕ ℕ) (v : World) → Sees gave first mid v → to ≡ walk_place (frames_of mid.memory.now) kind r
-    → FollowsFrom (Sees gave first) mid to (ask_inside (access_in regime va kind) r v)
-unfolding ask_inside
+    → FollowsFrom (Sees gave first) mid to (ask_in_ram (access_in regime va kind) r v)
+unfolding ask_in_ram
 inside_told gave first mid regime va kind (Err cause) to v sees is = record { answer = is; stands = sees }
 inside_told gave first mid regime va kind (Ok walked) to v sees is = record {
   answer = is
@@ -724,7 +724,7 @@ walk_follows gave first old mid regime va kind r to (Cloaked c) sees told is =
     let satp = satp_in regime in
     let a = access_in regime va kind in
     let t = ask_walk satp a (noted (Look satp a ∷ []) (Cloaked c)) in
-    subst (λ (o : Walk). FollowsFrom (Sees gave first) mid to (ask_inside a o t.world)) told.answer
+    subst (λ (o : Walk). FollowsFrom (Sees gave first) mid to (ask_in_ram a o t.world)) told.answer
     (inside_told gave first mid regime va kind r to t.world (walked_sees gave first mid satp a c told.stands) is)
 
 -- and led so
@@ -769,7 +769,7 @@ opened_live gave first old new regime va kind led f w at sees viewed none live c
 -- A page was offered where its access was led, and the frame holds it now.
 
 offered_is : {E : Type 0} (gave : E → E → List Piece → Type 0) (first old : Side E) (regime : Regime) (va : ℕ) (kind : Kind) (q : PageId) (g : ℕ) (write : Bool) (walked : Walked)
-    (c c' : Cloak) → SeesCloak gave first old c → c'.memory ≡ (offer q g write c.memory).memory → AreOutside (held_in old.memory.now.pager) walked
+    (c c' : MidStep) → SeesCloak gave first old c → c'.memory ≡ (offer q g write c.memory).memory → AreOutside (held_in old.memory.now.pager) walked
     → IsWalkOf (Cloaked c) regime va kind walked → IsWalkOf (Cloaked c') regime va kind walked
 offered_is gave first old regime va kind q g write walked c c' sees is out by =
     let h = sees.holds in
@@ -778,7 +778,7 @@ offered_is gave first old regime va kind q g write walked c c' sees is out by =
       ap (λ (n : ℕ). is_in_frames n walked.pa) (offer_count q g write c.memory) ∙ by.1,
     )
 
-pub reached_so : {E : Type 0} (gave : E → E → List Piece → Type 0) (first old new : Side E) (regime : Regime) (va : ℕ) (kind : Kind) (q : PageId) (led : Led) (c c' : Cloak)
+pub reached_so : {E : Type 0} (gave : E → E → List Piece → Type 0) (first old new : Side E) (regime : Regime) (va : ℕ) (kind : Kind) (q : PageId) (led : Led) (c c' : MidStep)
     → SeesCloak gave first old c → SeesCloak gave first new c' → c'.memory ≡ (offer q (frame_of led.pa) (is_store kind) c.memory).memory
     → IsLedSo old.memory.now (Cloaked c) regime va kind (Some q) led → HoldsNoOther q old.memory.now.pager new.memory.now.pager
     → held_in new.memory.now.pager (frame_of led.pa) ≡ Some q → (kind ≡ Store → owed_at new.memory.now.pager (frame_of led.pa) ≡ Some q)
@@ -973,10 +973,10 @@ bare_walk satp a w off =
 bare_access : {E : Type 0} (gave : E → E → List Piece → Type 0) (first now : Side E) (satp : ℕ) (a : Access) (b : Bool) (w : World)
     → Sees gave first now w → has_paging satp ≡ false → b ≡ is_in_frames (frames_of now.memory.now) a.va
     → FollowsFrom (Sees gave first) now (cond b (Ok a.va) (Err (access_fault a.kind))) (ask_translate satp a w)
-unfolding ask_translate ask_inside
+unfolding ask_translate ask_in_ram
 bare_access gave first now satp a b w sees off inside =
     let there : b ≡ is_in_ram (ram_of w) a.va = inside ∙ sym (ap (λ (n : ℕ). is_in_frames n a.va) (count_of gave first now w sees)) in
-    let by : Told Walk → Told (Result ℕ ℕ) = λ t. ask_inside a t.answer t.world in
+    let by : Told Walk → Told (Result ℕ ℕ) = λ t. ask_in_ram a t.answer t.world in
     subst (λ (t : Told (Result ℕ ℕ)). FollowsFrom (Sees gave first) now (cond b (Ok a.va) (Err (access_fault a.kind))) t)
     (sym (ap by (bare_walk satp a w off)))
     (record { answer = ap (λ (x : Bool). cond x (Ok a.va) (Err (access_fault a.kind))) there; stands = sees })

@@ -10,7 +10,7 @@ use Rattle.std.proofs.lemmas.List.Quantifiers.{position-Some}
 use Rattle.std.proofs.lemmas.List.Sums.{fails_before_first}
 use Rattle.cloak_base.specs.declared.names.PageId.{PageId}
 use Rattle.cloak_base.proofs.Pages.{same_page-decides, same_page-self}
-use Rattle.cloak_model.specs.Cloaking.{CloakedMemory, AfterSettling, AfterOffer, Offer, Ready, Missed, settle}
+use Rattle.cloak_model.specs.Cloaking.{CloakedMemory, AfterSettling, AfterOffer, OfferEnd, Ready, Missed, settle}
 use Rattle.cloak_model.specs.Cloaking.{settle_frame_if, offer, owes, owing_frame, compared, unless_missed, owed_in}
 use Rattle.cloak_pager.specs.Turns.{StaysBut}
 use Rattle.cloak_pager.proofs.Pages.{same_or_not}
@@ -353,7 +353,7 @@ rooms_spend gave e e' old new room q g m r spends write =
 
 -- What an offer of the pager results in, once there is room, as an offer of the memory around it.
 pub offers_so : {E : Type 0} (gave : E → E → List Piece → Type 0) (e e' : E) (old new : Memory) (given : Ended)
-    (answer : Offer) (q : PageId) (g : ℕ) (write : Bool) (m : CloakedMemory) →
+    (answer : OfferEnd) (q : PageId) (g : ℕ) (write : Bool) (m : CloakedMemory) →
     (r : Rooms gave e e' old true q g m) → (answer ≢ Missed) → offer_of given ≡ answer →
     FollowsCallUnclashed old.pager new.pager ([], answer) (after_offer q g write) →
     new.stream ≡ old.stream → new.draws ≡ old.draws → new.missed ≡ old.missed → new.reservations ≡ old.reservations →
@@ -367,8 +367,8 @@ offers_so {E} gave e e' old new given answer q g write m r not_missed is moves s
     let whole : offer q g write m ≡ behind_ciphers r.ciphers o = r.offers write in
     let v = moves r.holds.wiped x r.holds.pager
     (sym (ap (λ (y : AfterOffer). y.memory.ledger.clashed) whole) ∙ clash) in
-    let none : o.ciphers ≡ [] = sym (ap (λ (y : List (ℕ × List ℕ) × Offer). y.0) v.answer) in
-    let ends : answer ≡ o.answer = ap (λ (y : List (ℕ × List ℕ) × Offer). y.1) v.answer in
+    let none : o.ciphers ≡ [] = sym (ap (λ (y : List (ℕ × List ℕ) × OfferEnd). y.0) v.answer) in
+    let ends : answer ≡ o.answer = ap (λ (y : List (ℕ × List ℕ) × OfferEnd). y.1) v.answer in
     let same = offer_same q g write x none (λ e''. not_missed (ends ∙ e'')) in
     subst (λ (y : AfterOffer). Offers gave e e' new given y) (sym whole) (record {
       answer = is ∙ ends;

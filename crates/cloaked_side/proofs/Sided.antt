@@ -6,7 +6,7 @@ use Rattle.cloak_model.specs.declared.regime.InsideRegime.{InsideRegime}
 use Rattle.cloak_model.specs.Cloaking.{CloakedMemory, settle}
 use Rattle.cloak_model.specs.declared.item.Item.{Item}
 use Rattle.cloak_model.specs.Events.{Event, Read, Touch, Write}
-use Rattle.cloak_model.specs.World.{World, Cloak, Flat, Cloaked, Alone, cipher_items, noted, settled, settled_in, ram_of, stored_at, written}
+use Rattle.cloak_model.specs.World.{World, MidStep, Flat, Cloaked, Alone, cipher_items, noted, settled, settled_in, ram_of, stored_at, written}
 use Rattle.cloak_model.specs.World.{filled_frame}
 use Rattle.cloak_base.specs.Constants.{frame_of, place_of, is_in_frames}
 use Rattle.cloak_model.specs.Memory.{with_value_in, is_in_ram, unless_written, word_at}
@@ -44,7 +44,7 @@ use Rattle.cloaked_side.specs.declared.memory.Memory.{Memory}
 use Rattle.cloaked_side.specs.declared.side.Side.{Side}
 
 -- What calls did to a side that sees this: events and items more, and a memory that went on with them.
-pub counted_on : {E : Type 0} (gave : E → E → List Piece → Type 0) (first old new : Side E) (c c' : Cloak) (left more : ℕ)
+pub counted_on : {E : Type 0} (gave : E → E → List Piece → Type 0) (first old new : Side E) (c c' : MidStep) (left more : ℕ)
     (es : List Event) (is : List Item) → c'.events ≡ c.events ++ es → c'.items ≡ c.items ++ is → c'.violation ≡ new.violation →
     c'.regime ≡ c.regime → new.domain ≡ old.domain → new.regime ≡ old.regime → Holds new.memory.now c'.memory →
     Emits gave first.emitter.now new.emitter.now (item_pieces (c.items ++ is)) →
@@ -73,7 +73,7 @@ counted_on gave first old new c c' left more es is evented itemed violated viewe
 
 -- events that leave a memory as it is
 
-pub sees_also : {E : Type 0} (gave : E → E → List Piece → Type 0) (first now : Side E) (c : Cloak) (left more : ℕ) (events : List Event) →
+pub sees_also : {E : Type 0} (gave : E → E → List Piece → Type 0) (first now : Side E) (c : MidStep) (left more : ℕ) (events : List Event) →
     TracksBy now.memory.now now.memory.now (after_events (space_in now.regime) events) → SeesCounted gave first now c left more →
     SeesCounted gave first now (record c { events = c.events ++ events }) left more
 sees_also gave first now c left more events still sees = record {
@@ -124,7 +124,7 @@ sees_written gave first old new i (Cloaked c) memory violation domain regime emi
       (maps_of first.memory.now old.memory.now (space_in old.regime) (space_in new.regime) c.events (ap space_in regime) sees.maps);
 }
 
-pub counted_settled : {E : Type 0} (gave : E → E → List Piece → Type 0) (first old new : Side E) (f : ℕ) (c : Cloak) (left more : ℕ) →
+pub counted_settled : {E : Type 0} (gave : E → E → List Piece → Type 0) (first old new : Side E) (f : ℕ) (c : MidStep) (left more : ℕ) →
     ((m : CloakedMemory) → Holds old.memory.now m →
     Settles gave old.emitter.now new.emitter.now new.memory.now (settle f m)) →
     TracksBy old.memory.now new.memory.now (touched (frame f)) →
@@ -351,7 +351,7 @@ still_written old new m f n bytes shown is written same = record {
 }
 
 -- another memory, and these events more
-pub counted_moved : {E : Type 0} (gave : E → E → List Piece → Type 0) (first old new : Side E) (c : Cloak)
+pub counted_moved : {E : Type 0} (gave : E → E → List Piece → Type 0) (first old new : Side E) (c : MidStep)
     (m' : CloakedMemory) (events : List Event) (left more : ℕ) → Rewritten old new → SameDraws c.memory m' →
     (old.memory.now.reservations ≡ c.memory.marks → new.memory.now.reservations ≡ m'.marks) →
     AgreesStill old.memory.now new.memory.now c.memory m' →
@@ -381,7 +381,7 @@ counted_moved gave first old new c m' events left more same kept marks still sta
     tracks spends (maps_still old.memory.now new.memory.now (space_in new.regime) events maps) sees
 
 -- and no events
-pub sees_still : {E : Type 0} (gave : E → E → List Piece → Type 0) (first old new : Side E) (c : Cloak)
+pub sees_still : {E : Type 0} (gave : E → E → List Piece → Type 0) (first old new : Side E) (c : MidStep)
     (m' : CloakedMemory) → Repaged old new → SameDraws c.memory m' → m'.marks ≡ c.memory.marks →
     AgreesStill old.memory.now new.memory.now c.memory m' →
     ((w : PageId → Bool) → StandsForMemory old.memory.now.pager w c.memory →
@@ -397,7 +397,7 @@ sees_still gave first old new c m' same kept marks still stands tracks reads sha
     (maps_same old.memory.now new.memory.now shadows) sees)
 
 -- A frame was read, and events came about.
-pub counted_read : {E : Type 0} (gave : E → E → List Piece → Type 0) (first old new : Side E) (c : Cloak) (left more : ℕ) →
+pub counted_read : {E : Type 0} (gave : E → E → List Piece → Type 0) (first old new : Side E) (c : MidStep) (left more : ℕ) →
     Repaged old new → new.memory.now.shadows ≡ old.memory.now.shadows → new.memory.now.counting ≡ old.memory.now.counting →
     IsReadOnce old.memory.now.pager new.memory.now.pager → SeesCounted gave first old c left more →
     SeesCounted gave first new c left (more + 1)
@@ -440,7 +440,7 @@ counted_read gave first old new c left more same shadows counting read sees =
     }
 
 -- one more read is due by the event of it
-counted_event : {E : Type 0} (gave : E → E → List Piece → Type 0) (first now : Side E) (c : Cloak) (f : ℕ) →
+counted_event : {E : Type 0} (gave : E → E → List Piece → Type 0) (first now : Side E) (c : MidStep) (f : ℕ) →
     SeesCounted gave first now c 0 1 → SeesCloak gave first now (record c { events = c.events ++ Read f ∷ [] })
 counted_event gave first now c f sees =
     record {

@@ -14,7 +14,7 @@ use Rattle.cloak_model.specs.Events.{Touch}
 use Rattle.cloak_base.specs.Constants.{frame_of}
 use Rattle.cloak_model.specs.Memory.{is_in_ram, value_at}
 use Rattle.cloak_model.specs.Walk.{Walk, FirstWord, Ends, GoesOn, has_paging, without_paging, first_entry, first_word, second_word}
-use Rattle.cloak_model.specs.World.{World, Cloak, Cloaked, settled_in}
+use Rattle.cloak_model.specs.World.{World, MidStep, Cloaked, settled_in}
 use Rattle.shadow_fold.specs.Fold.{Fold, after_events, after_event, touched}
 use Rattle.shadow_law.specs.Agreeing.{touches}
 use Rattle.shadow_law.specs.Walks.{listed}
@@ -22,10 +22,10 @@ use Rattle.shadow_law.proofs.Walks.{FirstNames, word_names, second_names, listed
 use Rattle.cloaked_side.proofs.Tracking.{emptied_at, touched_held}
 
 -- this world has these events after those of c
-abbrev pub HasTouches : Cloak → Walked → World → Type 0
-HasTouches c w world = (c' : Cloak) × (world ≡ Cloaked c') × (c'.events ≡ c.events ++ touches (listed w.pt1 ++ listed w.pt0))
+abbrev pub HasTouches : MidStep → Walked → World → Type 0
+HasTouches c w world = (c' : MidStep) × (world ≡ Cloaked c') × (c'.events ≡ c.events ++ touches (listed w.pt1 ++ listed w.pt0))
 
-second_touches : (a : Access) (at1 at0 : ℕ) (c : Cloak) (w : Walked) (b : Bool) (v : ℕ) → let c1 = settled_in (frame_of at1) c in
+second_touches : (a : Access) (at1 at0 : ℕ) (c : MidStep) (w : Walked) (b : Bool) (v : ℕ) → let c1 = settled_in (frame_of at1) c in
     let t = cond b (let u : Told (Option ℕ) = record { answer = Some v; world = Cloaked (settled_in (frame_of at0) c1) } in u) (let u : Told (Option ℕ) = record { answer = None; world = Cloaked c1 } in u) in
     second_word a at1 at0 t.answer ≡ Ok w → HasTouches c w t.world
 unfolding second_word
@@ -37,7 +37,7 @@ second_touches a at1 at0 c w true v is =
     )
 second_touches a at1 at0 c w false v is = absurd cc
 
-after_touches : (a : Access) (at1 v : ℕ) (c : Cloak) (w : Walked) (first : FirstWord) → first_word a at1 (Some v) ≡ first
+after_touches : (a : Access) (at1 v : ℕ) (c : MidStep) (w : Walked) (first : FirstWord) → first_word a at1 (Some v) ≡ first
     → (ask_after a at1 first (Cloaked (settled_in (frame_of at1) c))).answer ≡ Ok w → HasTouches c w (ask_after a at1 first (Cloaked (settled_in (frame_of at1) c))).world
 unfolding ask_word FirstNames
 after_touches a at1 v c w (Ends walk) word is =
@@ -50,17 +50,17 @@ after_touches a at1 v c w (GoesOn at0) word is =
     let c1 = settled_in (frame_of at1) c in
     second_touches a at1 at0 c w (is_in_ram c1.memory.ram at0) (value_at (settled_in (frame_of at0) c1).memory.ram at0 4) is
 
-no_word : (a : Access) (at1 : ℕ) (c : Cloak) (w : Walked) → (ask_after a at1 (first_word a at1 None) (Cloaked c)).answer ≡ Ok w → ⊥
+no_word : (a : Access) (at1 : ℕ) (c : MidStep) (w : Walked) → (ask_after a at1 (first_word a at1 None) (Cloaked c)).answer ≡ Ok w → ⊥
 unfolding first_word
 no_word a at1 c w is = cc
 
-first_touches : (a : Access) (at1 v : ℕ) (c : Cloak) (w : Walked) (b : Bool) →
+first_touches : (a : Access) (at1 v : ℕ) (c : MidStep) (w : Walked) (b : Bool) →
     let t = cond b (let u : Told (Option ℕ) = record { answer = Some v; world = Cloaked (settled_in (frame_of at1) c) } in u) (let u : Told (Option ℕ) = record { answer = None; world = Cloaked c } in u) in
     let r = ask_after a at1 (first_word a at1 t.answer) t.world in r.answer ≡ Ok w → HasTouches c w r.world
 first_touches a at1 v c w true is = after_touches a at1 v c w (first_word a at1 (Some v)) refl is
 first_touches a at1 v c w false is = absurd (no_word a at1 c w is)
 
-pub walked_touches : (satp : ℕ) (a : Access) (c : Cloak) (w : Walked) → (ask_walk satp a (Cloaked c)).answer ≡ Ok w → HasTouches c w (ask_walk satp a (Cloaked c)).world
+pub walked_touches : (satp : ℕ) (a : Access) (c : MidStep) (w : Walked) → (ask_walk satp a (Cloaked c)).answer ≡ Ok w → HasTouches c w (ask_walk satp a (Cloaked c)).world
 unfolding ask_walk ask_word
 walked_touches satp a c w is = by (has_paging satp) is
   where

@@ -1,7 +1,7 @@
 -- What a side saw is told of its memory and its emitter.
 use Rattle.std.proofs.Common.{◌≡◌, arith, ℕ, false, List, [], Option, ap, sym, ◌∙◌, subst}
 use Rattle.std.proofs.lemmas.List.{append-nil}
-use Rattle.cloak_model.specs.World.{World, Cloak, Flat, Cloaked, Alone, is_clashed, unnoted}
+use Rattle.cloak_model.specs.World.{World, MidStep, Flat, Cloaked, Alone, is_clashed, unnoted}
 use Rattle.cloak_model.specs.Asking.{Told, FollowsFrom}
 use Rattle.cloak_model.specs.Hart.{Hart}
 use Rattle.cloak_model.specs.HostCalls.{SteppedKernel}
@@ -26,7 +26,7 @@ use Rattle.cloaked_side.specs.declared.side.Side.{Side}
 use Rattle.cloaked_side.proofs.Emitting.{emits_none}
 
 -- a side as a step begins
-pub sees_first : {E : Type 0} (gave : E → E → List Piece → Type 0) (s : Side E) (c : Cloak) →
+pub sees_first : {E : Type 0} (gave : E → E → List Piece → Type 0) (s : Side E) (c : MidStep) →
     Holds s.memory.now c.memory → c.items ≡ [] → c.events ≡ [] → s.violation ≡ c.violation →
     s.domain ≡ c.regime.domain → IsRegimeFor c.regime s.regime →
     Sees gave s s (Cloaked c)
@@ -107,7 +107,7 @@ tells_whole gave e e' memory given a (Cloaked c) tells =
 
 -- what followed of the plain step, told as the step that settles ahead
 pub tells_ahead : {E : Type 0} (gave : E → E → List Piece → Type 0) (first now : Side E) (after : SteppedKernel) (h : Hart)
-    (disk : List ℕ) (c : Cloak) (memory : Memory) (e : E) →
+    (disk : List ℕ) (c : MidStep) (memory : Memory) (e : E) →
     memory ≡ now.memory.now → e ≡ now.emitter.now → c.memory.ledger.clashed ≡ false →
     (is_clashed (kernel_step h disk (Cloaked c)).world ≡ false →
     FollowsFrom (λ side w. Sees gave first side w) now after (kernel_step h disk (Cloaked c))) →

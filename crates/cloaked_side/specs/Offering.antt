@@ -1,7 +1,7 @@
 -- What making room for a page, and offering it, results in.
 use Rattle.std.specs.Prelude.{ℕ, ◌≡◌, Bool, true, false, List, [], ◌++◌}
 use Rattle.cloak_base.specs.declared.names.PageId.{PageId}
-use Rattle.cloak_model.specs.Cloaking.{CloakedMemory, AfterOffer, Offer, Ready, Mismatch, Missed, offer}
+use Rattle.cloak_model.specs.Cloaking.{CloakedMemory, AfterOffer, OfferEnd, Ready, Mismatch, Missed, offer}
 use Rattle.cloak_model.specs.World.{cipher_items}
 use Rattle.cloak_model.specs.Exchange.{Piece, Emits, item_pieces}
 use Rattle.cloaked_side.specs.Holding.{Holds}
@@ -28,7 +28,7 @@ pub record Rooms {E : Type 0} (gave : E → E → List Piece → Type 0) (e e' :
   pub offers : (write : Bool) → offer q g write m ≡ behind_ciphers ciphers (offer_left room q g write memory)
 
 -- how an offer ends
-abbrev pub offer_of : Ended → Offer
+abbrev pub offer_of : Ended → OfferEnd
 offer_of ended.Ready = Ready
 offer_of ended.Mismatch = Mismatch
 offer_of ended.Missed = Missed

@@ -4,7 +4,7 @@ use Rattle.cloak_base.specs.declared.names.Kind.{Kind}
 use Rattle.cloak_base.specs.declared.names.PageId.{PageId}
 use Rattle.cloak_base.specs.declared.names.SpaceId.{SpaceId}
 use Rattle.cloak_pager.specs.State.{held_in, owed_at, IsNoneOwed, IsNoneHeld}
-use Rattle.cloak_model.specs.World.{World, Cloak, Flat, Cloaked, Alone, is_clashed}
+use Rattle.cloak_model.specs.World.{World, MidStep, Flat, Cloaked, Alone, is_clashed}
 use Rattle.cloak_model.specs.Asking.{Asking, FollowsFrom}
 use Rattle.cloak_model.specs.declared.regime.InsideRegime.{InsideRegime}
 use Rattle.cloak_model.specs.Exchange.{Piece, Emits, EmitsSome, item_pieces}
@@ -20,7 +20,7 @@ use Rattle.cloaked_side.specs.declared.program_side.ProgramSide.{ProgramSide}
 use Rattle.cloaked_side.specs.declared.side.Side.{Side}
 
 -- What a step has asked so far, for a context of this space or outside.
-abbrev pub asked_by : Option SpaceId → Cloak → AskedByStep
+abbrev pub asked_by : Option SpaceId → MidStep → AskedByStep
 asked_by space c = record { space = space; events = c.events; items = c.items; changed = [] }
 
 -- this many more than are due
@@ -41,7 +41,7 @@ IsRegimeFor v (Inside satp sum mxr space) = (v.satp ≡ satp) × (v.sum ≡ sum)
 -- What memory and step have become since an earlier state of the side, in which the emitter was as when a step began. A
 -- side does not know which pages lie at the addresses of a space. Of the reads of page tables that the misses pay for,
 -- `left` are left, and `more` reads are paid for beyond those that are due.
-pub record SeesCounted {E : Type 0} (gave : E → E → List Piece → Type 0) (first now : Side E) (c : Cloak)
+pub record SeesCounted {E : Type 0} (gave : E → E → List Piece → Type 0) (first now : Side E) (c : MidStep)
     (left more : ℕ) : Type 0 where
   pub holds : Holds now.memory.now c.memory
   pub emits : Emits gave first.emitter.now now.emitter.now (item_pieces c.items)
@@ -54,7 +54,7 @@ pub record SeesCounted {E : Type 0} (gave : E → E → List Piece → Type 0) (
       (spent_in first.memory.now) (spent_in now.memory.now)
   pub maps : MapsBy first.memory.now now.memory.now (space_in now.regime) c.events
 
-abbrev pub SeesCloak : {E : Type 0} → (E → E → List Piece → Type 0) → Side E → Side E → Cloak → Type 0
+abbrev pub SeesCloak : {E : Type 0} → (E → E → List Piece → Type 0) → Side E → Side E → MidStep → Type 0
 SeesCloak gave first now c = SeesCounted gave first now c 0 0
 
 abbrev pub Sees : {E : Type 0} → (E → E → List Piece → Type 0) → Side E → Side E → World → Type 0
@@ -85,7 +85,7 @@ SeesWalking gave first now (Cloaked c) = SeesCounted gave first now c 2 (touched
 -- The same as is seen, except for the fold: what memory and step have become while the frames of a resource are emptied
 -- one by one.
 
-pub record ShowsCloak {E : Type 0} (gave : E → E → List Piece → Type 0) (first now : Side E) (c : Cloak) : Type 0 where
+pub record ShowsCloak {E : Type 0} (gave : E → E → List Piece → Type 0) (first now : Side E) (c : MidStep) : Type 0 where
   pub holds : Holds now.memory.now c.memory
   pub emits : Emits gave first.emitter.now now.emitter.now (item_pieces c.items)
   pub violation : now.violation ≡ c.violation

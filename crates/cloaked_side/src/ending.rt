@@ -3,7 +3,7 @@ ghost use Rattle.std.specs.Prelude.{◌≡◌, ◌≢◌, ◌<◌, ℕ, [], None
 ghost use Rattle.cloak_model.specs.Cloaking.{CloakedMemory};
 ghost use Rattle.cloak_model.specs.Ending.{settled_for, ask_end};
 ghost use Rattle.cloak_model.specs.Exchange.{EmitsSome};
-ghost use Rattle.cloak_model.specs.Fork.{ask_forgets};
+ghost use Rattle.cloak_model.specs.Fork.{forget_each};
 ghost use Rattle.cloak_model.specs.Opening.{numbers_below};
 ghost use Rattle.cloak_model.specs.World.{events_of, items_of};
 ghost use Rattle.cloak_pager.specs.State.{IsNoneHeld, IsNoneOwed, held_in};
@@ -20,6 +20,7 @@ use cloak_model::Emit;
 impl<'m, 'e, E: Emit> Side<'m, 'e, E> {
     ghost use Rattle.cloak_model.specs.Asking.{Keeps};
     ghost use Rattle.cloaked_side.specs.Seeing.{Becomes, FollowsAlways, StaysWithin};
+    ghost use Rattle.cloak_model.specs.Script.{played};
 
     /// Settles the frames that are owed pages of a domain, by rising number, even after a missing draw.
     fn settle_owed(&mut self, domain: u32)
@@ -39,7 +40,7 @@ impl<'m, 'e, E: Emit> Side<'m, 'e, E> {
     fn drop_resources(&mut self, domain: u32)
         requires domain { domain < domains_in self.old.memory.now }
         requires cleared { (r : ℕ) → r < 16 → IsNoneOwed self.old.memory.now.pager domain r }
-        ensures told { FollowsAlways E.gave self.old self.new tt (ask_forgets domain (numbers_below 16)) }
+        ensures told { FollowsAlways E.gave self.old self.new tt (played (forget_each domain (numbers_below 16))) }
         ensures keeps { Keeps (StaysWithin E.gave) self.old self.new }
         ensures none { (r : ℕ) → IsNoneHeld self.new.memory.now.pager domain r }
     {

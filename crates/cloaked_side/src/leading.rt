@@ -221,7 +221,7 @@ impl<'m, 'e, E: Emit> Side<'m, 'e, E> {
     /// Where an access leads by a walk, or the cause of its fault, after a look that missed. The walk reads at most the
     /// two words of page tables that the miss pays for.
     #[inline(never)]
-    #[tactic(auto, using(cloak_model::proofs::Later::laters), unfolding(cloak_model::specs::Ask::ask_translate, cloak_model::specs::Ask::ask_inside))]
+    #[tactic(auto, using(cloak_model::proofs::Later::laters), unfolding(cloak_model::specs::Ask::ask_translate, cloak_model::specs::Ask::ask_in_ram))]
     pub(crate) fn led_by_walk(&mut self, regime: &Regime, va: u32, kind: Kind) -> Result<Led, u32>
         requires unknown { is_known regime.now (va / 4096) kind self.old.memory.now.shadows ≡ false }
         ensures follows { (first : _) (w : World) →

@@ -3,8 +3,8 @@ ghost use Rattle.std.specs.Prelude.{◌≡◌};
 
 use crate::checks::same;
 use cloak_base::{CtxId, Kind, PageId};
-use cloak_model::{Answer, Owner, PageSide, Region};
-use cloaked_fork::{Ended, MapFault, end_context, fork_space};
+use cloak_model::{Answer, Ended, Forked, MapFault, Owner, PageSide, Region};
+use cloaked_fork::{end_context, fork_space};
 use resource_map::Resources;
 use std::process::Abort;
 use std::test::Fail;
@@ -104,12 +104,7 @@ fn region(start: u32, pages: u32, resource: u32) -> Region {
 }
 
 /// Forks by the context of a slot, if it is there and in a space.
-fn fork(
-    r: &mut Resources,
-    c: &mut Contexts,
-    slot: u32,
-    m: &mut Fake,
-) -> Option<Result<Option<CtxId>, MapFault>> {
+fn fork(r: &mut Resources, c: &mut Contexts, slot: u32, m: &mut Fake) -> Option<Forked> {
     let space = c.get(slot)?.space;
     if !r.has_space(space) {
         return None;
@@ -149,7 +144,7 @@ fn forks_a_space_with_a_file(rt: HostRuntime) -> Result<(), Fail> {
     same(
         &rt,
         &fork(&mut r, &mut c, 0, &mut m),
-        &Some(Ok(Some(CtxId(9)))),
+        &Some(Forked::Child(CtxId(9))),
         "fork",
     );
     same(
@@ -188,14 +183,14 @@ fn refuses_a_ninth_context(rt: HostRuntime) -> Result<(), Fail> {
         same(
             &rt,
             &fork(&mut r, &mut c, 0, &mut m),
-            &Some(Ok(Some(CtxId(8 + slot)))),
+            &Some(Forked::Child(CtxId(8 + slot))),
             slot,
         );
     }
     same(
         &rt,
         &fork(&mut r, &mut c, 0, &mut m),
-        &Some(Err(MapFault::Full)),
+        &Some(Forked::Refused(MapFault::Full)),
         "a ninth context",
     );
     Ok(())
@@ -255,7 +250,7 @@ fn stops_with_nothing_changed(rt: HostRuntime) -> Result<(), Fail> {
     same(
         &rt,
         &fork(&mut r, &mut c, 0, &mut m),
-        &Some(Ok(None)),
+        &Some(Forked::Stopped),
         "fork",
     );
     same(

@@ -4,7 +4,7 @@ use Rattle.std.proofs.Common.{◌≡◌, ◌⊎◌, ℕ, List, Option, Some, Non
 use Rattle.std.specs.Prelude.{IfSome}
 use Rattle.std.specs.Result.{result_map_both}
 use Rattle.cloak_model.specs.BundleFault.{bundle_fault}
-use Rattle.cloak_model.specs.Opening.{Lack, NoKey, NoPageDraw, Opened, opening}
+use Rattle.cloak_model.specs.Opening.{Lack, NoKey, NoPageDraw, RunEdge, opening}
 use Rattle.cloak_model.specs.Run.{Run, joint_run, run_of}
 use Rattle.command_words.specs.Command as spec
 use Rattle.frozen_commands.specs.FreezeAnswering.{Freezes, FreezingBrokeOff, HasEnded, HasStopped, IfNoneClashed, IsSaved, LacksVectors}
@@ -84,7 +84,7 @@ lacks {S} {O} names steps from s lack answer before after told cause given =
     let opens : opening s.bundle s.stream ≡ Err lack =
     subst (λ (t : FreezeSources). opening t.bundle t.stream ≡ Err lack)
     (one_source names from before.files.held s cause.sources told both.0) both.1 in
-    inr (subst (λ (o : Result Opened Lack). ComesToFrozen names steps s
+    inr (subst (λ (o : Result RunEdge Lack). ComesToFrozen names steps s
     (result_map_both (run_of s.bundle steps) (λ x. x) o) answer before after) (sym opens) given)
 
 refused : {S O : Type 0} (names : spec.FreezeNames) (steps : ℕ) (from : spec.Randomness) (s : FreezeSources)

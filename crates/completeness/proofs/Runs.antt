@@ -4,7 +4,7 @@ use Rattle.std.specs.Result.{result_map_both}
 use Rattle.io_traits.specs.Told.{OtherFiles}
 use Rattle.cloak_base.specs.Random.{Random}
 use Rattle.cloak_model.specs.declared.image.Bundle.{Bundle}
-use Rattle.cloak_model.specs.Opening.{Lack, Opened}
+use Rattle.cloak_model.specs.Opening.{Lack, RunEdge}
 use Rattle.cloak_model.specs.Run.{Run, joint_run, run_of}
 use Rattle.command_words.specs.Command as spec
 use Rattle.command_parts.specs.declared.status.Status.{Status}
@@ -36,7 +36,7 @@ lacks : {S O : Type 0} (record_name : List ℕ) (steps : ℕ) (b : Bundle) (s : 
     (before after : Outside S O) → OpensNot b s answer before after →
     ComesTo record_name (joint_run b s steps) answer before after
 lacks {S} {O} record_name steps b s answer before after none =
-    subst (λ (o : Result Opened Lack). ComesTo record_name (result_map_both (run_of b steps) (λ x. x) o) answer before after)
+    subst (λ (o : Result RunEdge Lack). ComesTo record_name (result_map_both (run_of b steps) (λ x. x) o) answer before after)
     (sym none.opens) none.lacks
 
 by_refusal : {S O : Type 0} (bundle_name record_name : List ℕ) (steps : ℕ) (from : spec.Randomness) (b : Bundle)

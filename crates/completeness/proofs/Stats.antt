@@ -2,7 +2,7 @@
 use Rattle.std.proofs.Common.{◌≡◌, ◌⊎◌, ℕ, List, None, Result, Ok, sym, subst, inl, inr}
 use Rattle.cloak_base.specs.Random.{Random}
 use Rattle.cloak_model.specs.declared.image.Bundle.{Bundle}
-use Rattle.cloak_model.specs.Opening.{Lack, Opened, opening}
+use Rattle.cloak_model.specs.Opening.{Lack, RunEdge, opening}
 use Rattle.command_words.specs.Command as spec
 use Rattle.command_parts.specs.declared.status.Status.{Status}
 use Rattle.command_parts.specs.declared.status.Status.TheVariants as status
@@ -22,7 +22,7 @@ Complete steps b s answer before after =
 lacks : {S O : Type 0} (steps : ℕ) (b : Bundle) (s : Random) (answer : Status) (before after : Outside S O) →
     OpensNot b s answer before after → ComesToCounts b steps (opening b s) answer before after
 lacks {S} {O} steps b s answer before after none =
-    subst (λ (o : Result Opened Lack). ComesToCounts b steps o answer before after) (sym none.opens) none.lacks
+    subst (λ (o : Result RunEdge Lack). ComesToCounts b steps o answer before after) (sym none.opens) none.lacks
 
 by_refusal : {S O : Type 0} (bundle_name : List ℕ) (steps : ℕ) (from : spec.Randomness) (b : Bundle) (s : Random)
     (answer : Status) (before after : Outside S O) →
@@ -36,7 +36,7 @@ by_refusal {S} {O} bundle_name steps from b s answer before after file told noth
 
 -- the run of what was told
 shows_counts : {S O : Type 0} (answer : Status) (before after : Outside S O) (steps steps' : ℕ) (b bundle : Bundle)
-    (o : Opened) → steps' ≡ steps → bundle ≡ b → ShowsCounts bundle steps' o answer before after →
+    (o : RunEdge) → steps' ≡ steps → bundle ≡ b → ShowsCounts bundle steps' o answer before after →
     ShowsCounts b steps o answer before after
 shows_counts {S} {O} answer before after steps steps' b bundle o same_steps same_bundle shows =
     subst (λ (k : ℕ). ShowsCounts b k o answer before after) same_steps
@@ -53,7 +53,7 @@ made {S} {O} bundle_name steps from b s answer before after file told has =
     let opens : opening b s ≡ Ok asks.opened =
     subst (λ (x : Random). opening b x ≡ Ok asks.opened) is.stream_is
     (subst (λ (x : Bundle). opening x asks.stream ≡ Ok asks.opened) is.bundle_is asks.opens) in
-    inr (subst (λ (o : Result Opened Lack). ComesToCounts b steps o answer before after) (sym opens)
+    inr (subst (λ (o : Result RunEdge Lack). ComesToCounts b steps o answer before after) (sym opens)
     (shows_counts answer before after steps asks.steps b asks.bundle asks.opened is.budget is.bundle_is
     (record { held = has.files.held; status = has.status; lines = has.lines })))
 

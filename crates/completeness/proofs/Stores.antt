@@ -7,7 +7,7 @@ use Rattle.std.specs.Result.{result_map_both}
 use Rattle.std.proofs.lemmas.Bool.{cases_eq}
 use Rattle.cloak_model.specs.Beginning.{Stored, opening_stored}
 use Rattle.cloak_model.specs.BundleFault.{bundle_fault}
-use Rattle.cloak_model.specs.Opening.{Lack, NoPageDraw, NoRoom, Opened}
+use Rattle.cloak_model.specs.Opening.{Lack, NoPageDraw, NoRoom, RunEdge}
 use Rattle.cloak_model.specs.Run.{Run, run_from, run_of}
 use Rattle.cloak_model.specs.StoredFiles.{FileContents, IsStore, StoredFile}
 use Rattle.cloak_model.specs.StoreFault.{store_fault}
@@ -120,7 +120,7 @@ lacks {S} {O} names counter steps from s lack answer before after told cause giv
     let each = subst (λ (t : StoreSources). (files : List FileContents) → AreFiles t files →
     opening_stored t.bundle t.secret.keys t.stream files ≡ Err lack)
     (one_source names counter from before.files.held s cause.sources told asks) cause.lacks in
-    inr (λ files are. subst (λ (o : Result Opened Lack).
+    inr (λ files are. subst (λ (o : Result RunEdge Lack).
     ComesToStored names counter s (result_map_both (run_of s.bundle steps) (λ x. x) o) answer before after)
     (sym (each files are)) given)
 

@@ -36,7 +36,7 @@ use Rattle.command_parts.specs.Refusal.{refusal_line, status_of_refusal}
 use Rattle.read_back.specs.declared.ending.Ending.{Ending}
 use Rattle.read_back.specs.declared.ending.Ending.TheVariants as ending
 use Rattle.read_back.specs.Answering.{HasSolo, HasView, viewed_unfit, viewed_text, program_unfit, program_text}
-use Rattle.read_back.specs.Reading.{BeginsWith, FileIs, FitsAs, ReadsAs, ReadsBack, status_of_ending}
+use Rattle.read_back.specs.Reading.{BeginsWith, FileIs, FitsAs, ReadsAs, ReadsRecord, status_of_ending}
 use Rattle.completeness.specs.Asked.{IsBundleFile, OnlyLine, WantsMemory}
 use Rattle.completeness.specs.Views.{IsRecordFile, ShowsAll, SolosAreComplete, ViewsAreComplete}
 use Rattle.completeness.proofs.Faults.{never_counted, never_rose, no_fault, same_bundle}
@@ -135,7 +135,7 @@ read_whole unfit file items reading reads read ending.Unread g fits is counts =
 shows_all : {S O : Type 0} (unfit : List Item → Option ℕ) (text : List Item → Option Ending → List ℕ) (name : List ℕ)
     (items : List Item) (answer : Status) (before after : Outside S O) (file : IsRecordFile before.files.held name items) →
     Given unfit (readable file.bytes) items before.files.reading after.files.reading →
-    SameFiles before.files.held after.files.held → ReadsBack unfit text name answer before after →
+    SameFiles before.files.held after.files.held → ReadsRecord unfit text name answer before after →
     ShowsAll (text items (Some ending.Whole)) answer before after
 shows_all {S} {O} unfit text name items answer before after file g held r =
     let is : FileIs (readable file.bytes) r.items (Some r.ended) =
@@ -263,8 +263,8 @@ viewed {S} {O} n r b items answer before after low file there fits nothing has =
     (subst (λ (x : List ℕ). IsInFile (before.files.held x) has.bundle) names.0 has.asks.file) in
     shows_all (viewed_unfit b.kernel) (viewed_text b.kernel) r items answer before after there
     (record { is = there.is; fits = fits; stays = kernel_stays b.kernel; low = low; same = nothing.reading }) has.only.held
-    (subst (λ (x : List ℕ). ReadsBack (viewed_unfit b.kernel) (viewed_text b.kernel) x answer before after) names.1
-    (subst (λ (x : Bundle). ReadsBack (viewed_unfit x.kernel) (viewed_text x.kernel) has.record_name answer before after)
+    (subst (λ (x : List ℕ). ReadsRecord (viewed_unfit b.kernel) (viewed_text b.kernel) x answer before after) names.1
+    (subst (λ (x : Bundle). ReadsRecord (viewed_unfit x.kernel) (viewed_text x.kernel) has.record_name answer before after)
     bundle has.reads))
 
 pub views_are_complete : (S O : Type 0) → ViewsAreComplete S O
@@ -351,13 +351,13 @@ soloed {S} {O} d n r b p items answer before after low file has_p there fits not
     shows_all (program_unfit d b.kernel p) (program_text d b.kernel p) r items answer before after there
     (record { is = there.is; fits = fits; stays = program_stays d b.kernel p; low = low; same = nothing.reading })
     has.only.held
-    (subst (λ (x : List ℕ). ReadsBack (program_unfit d b.kernel p) (program_text d b.kernel p) x answer before after)
+    (subst (λ (x : List ℕ). ReadsRecord (program_unfit d b.kernel p) (program_text d b.kernel p) x answer before after)
     names.2
-    (subst (λ (x : Program). ReadsBack (program_unfit d b.kernel x) (program_text d b.kernel x) has.record_name answer
+    (subst (λ (x : Program). ReadsRecord (program_unfit d b.kernel x) (program_text d b.kernel x) has.record_name answer
     before after) program
-    (subst (λ (x : ℕ). ReadsBack (program_unfit x b.kernel has.p) (program_text x b.kernel has.p) has.record_name answer
+    (subst (λ (x : ℕ). ReadsRecord (program_unfit x b.kernel has.p) (program_text x b.kernel has.p) has.record_name answer
     before after) names.0
-    (subst (λ (x : Bundle). ReadsBack (program_unfit has.d x.kernel has.p) (program_text has.d x.kernel has.p)
+    (subst (λ (x : Bundle). ReadsRecord (program_unfit has.d x.kernel has.p) (program_text has.d x.kernel has.p)
     has.record_name answer before after) bundle has.reads))))
 
 pub solos_are_complete : (S O : Type 0) → SolosAreComplete S O

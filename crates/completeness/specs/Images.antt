@@ -5,7 +5,8 @@ use Rattle.io_traits.specs.Told.{Grows}
 use Rattle.command_parts.specs.declared.status.Status.{Status}
 use Rattle.command_parts.specs.declared.status.Status.TheVariants as status
 use Rattle.command_parts.specs.Outside.{Outside, Output, NothingRose}
-use Rattle.run_command.specs.Running.{NoClash, run_status}
+use Rattle.run_command.specs.Running.{run_status}
+use Rattle.cloak_model.specs.Run.{NoClash}
 use Rattle.image_commands.specs.Demonstrating.{DemoAnswers, IsDemoRun, demo_lines}
 use Rattle.image_commands.specs.Generating.{GenAnswers, HasGenerated}
 use Rattle.image_commands.specs.Showing.{no_memory_line}

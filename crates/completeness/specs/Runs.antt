@@ -14,7 +14,7 @@ use Rattle.command_parts.specs.Refusal.{refusal_line, status_of_refusal}
 use Rattle.command_parts.specs.Streams.{IsToldStream}
 use Rattle.run_command.specs.Answering.{RunAnswers}
 use Rattle.run_command.specs.Recording.{IsWritten}
-use Rattle.run_command.specs.Running.{NoClash}
+use Rattle.cloak_model.specs.Run.{NoClash}
 use Rattle.completeness.specs.Asked.{IsBundleFile, OnlyLine, WantsMemory}
 
 abbrev pub refusal_of_lack : Lack → Refusal

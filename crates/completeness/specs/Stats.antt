@@ -2,13 +2,14 @@
 use Rattle.std.specs.Prelude.{ℕ, ◌≡◌, ◌⊎◌, List, Result, Ok, Err}
 use Rattle.cloak_base.specs.Random.{Random}
 use Rattle.cloak_model.specs.declared.image.Bundle.{Bundle}
-use Rattle.cloak_model.specs.Opening.{Lack, Opened, opening}
+use Rattle.cloak_model.specs.Opening.{Lack, RunEdge, opening}
 use Rattle.cloak_model.specs.Run.{run_of}
 use Rattle.io_traits.specs.Told.{Grows, SameFiles}
 use Rattle.command_words.specs.Command as spec
 use Rattle.command_parts.specs.declared.status.Status.{Status}
 use Rattle.command_parts.specs.Outside.{Outside, NothingRose}
-use Rattle.run_command.specs.Running.{NoClash, run_status}
+use Rattle.run_command.specs.Running.{run_status}
+use Rattle.cloak_model.specs.Run.{NoClash}
 use Rattle.stats_command.specs.Answering.{StatsAnswers}
 use Rattle.stats_command.specs.Showing.{run_lines}
 use Rattle.completeness.specs.Asked.{IsBundleFile, WantsMemory}
@@ -16,14 +17,14 @@ use Rattle.completeness.specs.Runs.{Lacks}
 use Rattle.command_parts.specs.Streams.{IsToldStream}
 
 -- No file was written. If no pages clashed in the run, its lines were shown, and the answer is its status.
-pub record ShowsCounts {S O : Type 0} (b : Bundle) (steps : ℕ) (o : Opened) (answer : Status)
+pub record ShowsCounts {S O : Type 0} (b : Bundle) (steps : ℕ) (o : RunEdge) (answer : Status)
     (before after : Outside S O) : Type 0 where
   pub held : SameFiles before.files.held after.files.held
   pub status : NoClash (run_of b steps o) → answer ≡ run_status (run_of b steps o)
   pub lines : NoClash (run_of b steps o) → Grows before.output.taken after.output.taken (run_lines b steps o)
 
 -- what the run results in, by how it opens, or why there is none
-abbrev pub ComesToCounts : {S O : Type 0} → Bundle → ℕ → Result Opened Lack → Status → Outside S O → Outside S O →
+abbrev pub ComesToCounts : {S O : Type 0} → Bundle → ℕ → Result RunEdge Lack → Status → Outside S O → Outside S O →
     Type 0
 ComesToCounts b steps (Err lack) answer before after = Lacks lack answer before after
 ComesToCounts b steps (Ok o) answer before after = ShowsCounts b steps o answer before after

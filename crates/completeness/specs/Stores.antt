@@ -9,7 +9,7 @@ use Rattle.command_words.specs.Command as spec
 use Rattle.command_parts.specs.declared.status.Status.{Status}
 use Rattle.command_parts.specs.Outside.{Outside, NothingRose}
 use Rattle.command_parts.specs.Storing.{AreFiles, StoreSources, secret_length, secret_of}
-use Rattle.run_command.specs.Running.{NoClash}
+use Rattle.cloak_model.specs.Run.{NoClash}
 use Rattle.store_command.specs.Answering.{StoreAnswers}
 use Rattle.store_command.specs.Leaving.{LeavesAll, OtherThanStored}
 use Rattle.completeness.specs.Asked.{WantsMemory}

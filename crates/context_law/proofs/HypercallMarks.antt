@@ -7,6 +7,7 @@ use Rattle.cloak_model.specs.DomainState.{Control}
 use Rattle.cloak_model.specs.Fork.{forked, child}
 use Rattle.cloak_model.specs.Hypercalls.{Stepped, with_slot, with_spaces, with_answer, answers_word, Hypercall, hypercall}
 use Rattle.cloak_model.specs.World.{World}
+use Rattle.cloak_model.specs.Script.{played}
 use Rattle.hypercall_kinds.specs.Kinds.{CallKind, Answers, MakesNew, MakesFile, Maps, Unmaps, Starts, BeginsCopy, Calls, Stops, Forks, Ends, EndsSpace, after}
 use Rattle.hypercall_kinds.proofs.ByKinds.{by_kinds}
 use Rattle.context_law.proofs.Marks.{OneMore, set_one, set_none, then_one, none_one}
@@ -41,5 +42,5 @@ module _ (h : Hypercall) (slot : ℕ) (c : Context) (d : Control) (w : World) wh
   kind_one Ends = none_one slot c.mark d.contexts _ (set_none d.contexts slot None refl)
   kind_one (EndsSpace is none ok) = none_one slot c.mark d.contexts _ (set_none d.contexts slot None refl)
 
-  pub hypercall_one : StepsOne slot c d.contexts (hypercall h slot c d w).answer
+  pub hypercall_one : StepsOne slot c d.contexts (played (hypercall h slot c d) w).answer
   hypercall_one = by_kinds (λ t. StepsOne slot c d.contexts t.answer) h slot c d w kind_one

@@ -1,6 +1,7 @@
 pub mod Marks
 pub mod Stores
 pub mod Others
+pub mod Answered
 pub mod InstructionMarks
 pub mod CopyMarks
 pub mod HypercallMarks

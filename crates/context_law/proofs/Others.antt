@@ -27,7 +27,7 @@ use Rattle.cloak_model.specs.Fork.{copies, private_numbers}
 use Rattle.cloak_model.specs.Hypercalls as hyper
 use Rattle.cloak_model.specs.Hypercalls.{Hypercall, New, ForkSpace, Exit, hypercall_of}
 use Rattle.cloak_model.specs.Resources.{page_at}
-use Rattle.script_fold.proofs.InstructionScripts.{IsOwn, own_page}
+use Rattle.script_fold.proofs.InstructionScripts.{IsOwnPage, own_page}
 use Rattle.latest_store.specs.Moves.{Move, Stores, Copies, Drops, latest_value}
 use Rattle.latest_store.specs.Deeds.{first_granted, both_granted, load_at, store_at, atomic_at, made_moves, file_moves, hypercall_moves, ecall_moves, effect_moves, atomic_moves, word_moves, fetched_moves, byte_moves, phase_moves, context_moves}
 use Rattle.context_law.specs.Inside.{stores_in}
@@ -91,12 +91,12 @@ module _ (e : ℕ) (word : WordPlace) (d : Control) (other : d.number ≢ e) whe
   own_other : (q : PageId) → q.domain ≡ d.number → q.domain ≢ e
   own_other q own is = other (sym own ∙ is)
 
-  store_misses : (va width value : ℕ) (place : Option PageId) → IsOwn d.number place →
+  store_misses : (va width value : ℕ) (place : Option PageId) → IsOwnPage d.number place →
       Misses e word (store_at va width value place)
   store_misses va width value None own = refl
   store_misses va width value (Some q) own = or_none _ (misses_domain e word q (va % 4096) width (own_other q own))
 
-  atomic_at_misses : (c : Context) (op : AtomicOp) (va operand : ℕ) (place : Option PageId) → IsOwn d.number place →
+  atomic_at_misses : (c : Context) (op : AtomicOp) (va operand : ℕ) (place : Option PageId) → IsOwnPage d.number place →
       Misses e word (atomic_at c op va operand place)
   atomic_at_misses c op va operand None own = refl
   atomic_at_misses c Lr va operand (Some q) own = refl
@@ -138,7 +138,7 @@ module _ (e : ℕ) (word : WordPlace) (d : Control) (other : d.number ≢ e) whe
   fetched_misses history c (Some q) answers =
       let value = latest_value history q (c.pc % 4096) 4 in word_misses c value (instruction value) answers
 
-  byte_misses : (va : ℕ) (place : Option PageId) (answers : List Item) → IsOwn d.number place →
+  byte_misses : (va : ℕ) (place : Option PageId) (answers : List Item) → IsOwnPage d.number place →
       Misses e word (byte_moves va place answers)
   byte_misses va place (item.Word domain byte ∷ item.Ok domain' ∷ []) own = store_misses va 1 byte place own
   byte_misses va place _ own = refl

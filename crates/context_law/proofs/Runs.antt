@@ -21,7 +21,7 @@ use Rattle.cloak_model.specs.Contexts.{Context, context_at, context_number, doma
 use Rattle.cloak_model.specs.DomainState.{Control, Domain, started_control, started_domain}
 use Rattle.cloak_model.specs.Halves.{inward_half}
 use Rattle.cloak_model.specs.Joint.{Moment, Turn, hart_in}
-use Rattle.cloak_model.specs.Opening.{Opened, started_joint, started_domains}
+use Rattle.cloak_model.specs.Opening.{RunEdge, started_joint, started_domains}
 use Rattle.cloak_model.specs.Parts.{Joint}
 use Rattle.cloak_model.specs.Run.{Run, turns_from, run_from, joint_after, first_moment, run_of}
 use Rattle.cloak_model.specs.StoredFiles.{FileContents}
@@ -92,7 +92,7 @@ StepMarks b from r n =
     MarksAfter (history_until b from n r) (joint_until n r).domains (context_of_step b r n)
     (items_of_turn (slice_get r.turns n)) (joint_until (suc n) r).domains
 
-run_step : (b : Bundle) (from : Beginning) (budget : ℕ) (o : Opened) → opening_from b from ≡ Ok o →
+run_step : (b : Bundle) (from : Beginning) (budget : ℕ) (o : RunEdge) → opening_from b from ≡ Ok o →
     let r = run_of b budget o in
     (n : ℕ) → suc n ≤ length r.turns → Agrees (history_until b from n r) (joint_until n r).memory.plain →
     StepMarks b from r n
@@ -213,7 +213,7 @@ record IsKnown (b : Bundle) (from : Beginning) (r : Run) : Type 0 where
   pub steps : (n : ℕ) → suc n ≤ length r.turns → Agrees (history_until b from n r) (joint_until n r).memory.plain →
       StepMarks b from r n
 
-run_known : (b : Bundle) (from : Beginning) (budget : ℕ) (o : Opened) → opening_from b from ≡ Ok o →
+run_known : (b : Bundle) (from : Beginning) (budget : ℕ) (o : RunEdge) → opening_from b from ≡ Ok o →
     IsKnown b from (run_of b budget o)
 unfolding run_of joint_after
 run_known b from budget o opens = record {

@@ -15,17 +15,20 @@ use Rattle.cloak_model.specs.Asking.{Told, answered, then_ask}
 use Rattle.cloak_model.specs.Calls.{Copy, buffer, byte_address, copy_in_step, copy_out_step, finish_call}
 use Rattle.cloak_model.specs.Contexts.{Context, context_at, set_word, in_phase, suspended, Resumed, resume_if, resume_at}
 use Rattle.cloak_model.specs.DomainState.{Control, Domain}
-use Rattle.cloak_model.specs.DomainStep.{DomainStepped, instruction_ended, copy_ended, after_write, phase_step, step_if, domain_step, interrupt_if, interrupt, answer_in, answer_taken, resume_told, resume_slot}
+use Rattle.cloak_model.specs.DomainStep.{domain_script, DomainStepped, instruction_ended, copy_ended, after_write, phase_step, step_if, domain_step, interrupt_if, interrupt, answer_in, answer_taken, resume_told, resume_slot}
 use Rattle.cloak_model.specs.Halves.{inward_half}
 use Rattle.cloak_model.specs.Hypercalls.{hypercall_of}
 use Rattle.cloak_model.specs.InsideStep.{AfterInstruction, instruction_inside}
 use Rattle.cloak_model.specs.World.{World, items_of}
+use Rattle.cloak_model.specs.Script.{played}
+use Rattle.cloak_model.proofs.Playing.{by_plain, by_copy_in, by_copy_out, by_ecall}
 use Rattle.latest_store.specs.Moves.{Move}
 use Rattle.latest_store.specs.Deeds.{both_granted, phase_moves, context_moves}
 use Rattle.latest_store.proofs.Moved.{Agrees}
 use Rattle.latest_store.proofs.Heard.{Heard, if_fetched}
 use Rattle.context_law.specs.Inside.{Reached, reserved_by, phase_reached, context_reached}
 use Rattle.context_law.proofs.Marks.{mark_of, mark_at, NoMore, OneMore, set_one, set_none, set_same, none_one, left_unwritten}
+use Rattle.context_law.proofs.Answered.{EndBy}
 use Rattle.context_law.proofs.Others.{Misses, misses_if, load_misses}
 use Rattle.context_law.proofs.InstructionMarks.{writes_word, if_reached, DoneByInstruction, instruction_deed}
 use Rattle.context_law.proofs.CopyMarks.{CopyDeed, copy_in_deed, copy_out_deed}
@@ -64,16 +67,18 @@ left_by (Some place) s k word is =
 -- An instruction.
 
 ended_one : (slot : ℕ) (d : Domain) (k : Context) (e : Ran) (w : World) →
-    OneMore slot k.mark d.control.contexts (instruction_ended slot d k e w).answer.domain.control.contexts
+    OneMore slot k.mark d.control.contexts (played (instruction_ended slot d k e) w).answer.domain.control.contexts
 unfolding instruction_ended
 ended_one slot d k (ran.Trap cause address) w =
     none_one slot k.mark d.control.contexts _ (set_none d.control.contexts slot (Some (suspended k)) refl)
-ended_one slot d k ran.Ecall w = hypercall_one (hypercall_of k) slot k d.control w
+ended_one slot d k ran.Ecall w =
+    by_ecall (λ t. OneMore slot k.mark d.control.contexts t.answer.domain.control.contexts) slot d k w
+    (hypercall_one (hypercall_of k) slot k d.control w)
 ended_one slot d k ran.Stopped w = same_one slot k.mark d.control.contexts
 ended_one slot d k _ w = set_one d.control.contexts slot (Some k)
 
 ended_world : (slot : ℕ) (d : Domain) (k : Context) (e : Ran) (w : World) → (e ≡ ran.Ecall → ⊥) →
-    (instruction_ended slot d k e w).world ≡ w
+    (played (instruction_ended slot d k e) w).world ≡ w
 unfolding instruction_ended
 ended_world slot d k ran.Ecall w other = absurd (other refl)
 ended_world slot d k _ w other = refl
@@ -89,13 +94,13 @@ module _ (slot : ℕ) (d : Domain) (c : Context) (there : context_at d.control.c
   own_mark k word at is = ap (mark_at d.control.contexts) at ∙ ap mark_of there ∙ is
 
   ended_stepping : (moves : List Item → List Move) (reached : Option Reached) (t : Told AfterInstruction) →
-      DoneByInstruction d.control.number c moves reached t →
+      EndBy d.control.number (DoneByInstruction d.control.number c moves reached) t →
       Stepping slot d (if_fetched moves) (if_reached reached)
-      (then_ask (instruction_ended slot d t.answer.context t.answer.ending)
+      (then_ask (played (instruction_ended slot d t.answer.context t.answer.ending))
       (λ s. answered (after_write t.answer.wrote s)) t.world)
   ended_stepping moves reached t deed =
       let n = d.control.number in
-      let u = instruction_ended slot d t.answer.context t.answer.ending t.world in
+      let u = played (instruction_ended slot d t.answer.context t.answer.ending) t.world in
       let one = ended_one slot d t.answer.context t.answer.ending t.world in
       elim (is_ecall t.answer.ending) [
         | inl call ↦ record {
@@ -104,8 +109,9 @@ module _ (slot : ℕ) (d : Domain) (c : Context) (there : context_at d.control.c
           marks = λ k word aligned is.
               let left = left_by t.answer.wrote u.answer k word is in
               elim (one k word left.was) [
-                | inl here ↦ inr (own_mark k word here.0 (sym (deed.same call) ∙ here.1), deed.none call _ word)
-                | inr before ↦ inr (before, deed.none call _ word)
+                | inl here ↦
+                    inr (own_mark k word here.0 (sym (deed.ends.same call) ∙ here.1), deed.ends.none call _ word)
+                | inr before ↦ inr (before, deed.ends.none call _ word)
               ];
         }
         | inr other ↦ record {
@@ -114,10 +120,10 @@ module _ (slot : ℕ) (d : Domain) (c : Context) (there : context_at d.control.c
               (ended_world slot d t.answer.context t.answer.ending t.world other) ∙ deed.told;
           marks = λ k word aligned is.
               let left = left_by t.answer.wrote u.answer k word is in
-              let unstored = deed.stores word aligned left.free in
+              let unstored = deed.ends.stores word aligned left.free in
               elim (one k word left.was) [
                 | inl here ↦
-                    elim (deed.mark word here.1) [
+                    elim (deed.ends.mark word here.1) [
                       | inl before ↦ inr (own_mark k word here.0 before, unstored)
                       | inr made ↦ inl (here.0, made)
                     ]
@@ -139,7 +145,7 @@ module _ (slot : ℕ) (d : Domain) (c : Context) (there : context_at d.control.c
   copied_one k _ = set_one d.control.contexts slot (Some k)
 
   copied_marks : (moves : List Item → List Move) (reached : List Item → Option Reached) (t : Told Copy)
-      (deed : CopyDeed d.control.number c moves t) (wrote : Option WordPlace) →
+      (deed : EndBy d.control.number (CopyDeed d.control.number c moves) t) (wrote : Option WordPlace) →
       ((word : WordPlace) → word.at % 4 ≡ 0 → writes_word word wrote ≡ false →
       Misses d.control.number word (moves deed.answers)) → (k : ℕ) (word : WordPlace) → word.at % 4 ≡ 0 →
       mark_at (after_write wrote (copy_ended slot d t.answer.context t.answer.ending)).domain.control.contexts k
@@ -148,49 +154,52 @@ module _ (slot : ℕ) (d : Domain) (c : Context) (there : context_at d.control.c
   copied_marks moves reached t deed wrote stores k word aligned is =
       let left = left_by wrote (copy_ended slot d t.answer.context t.answer.ending) k word is in
       elim (copied_one t.answer.context t.answer.ending k word left.was) [
-        | inl here ↦ inr (own_mark k word here.0 (sym deed.mark ∙ here.1), stores word aligned left.free)
+        | inl here ↦ inr (own_mark k word here.0 (sym deed.ends.mark ∙ here.1), stores word aligned left.free)
         | inr before ↦ inr (before, stores word aligned left.free)
       ]
 
   -- Each step.
 
+  abbrev Steps : Phase → List Move → Told DomainStepped → Type 0
+  Steps p history t = Stepping slot d (phase_moves p history d.control c) (phase_reached p history d.control c) t
+
   phase_stepping : (p : Phase) (history : List Move) (plain : PageId → List ℕ) (w : World) → Agrees history plain →
-      Heard d.control.number plain [] w →
-      Stepping slot d (phase_moves p history d.control c) (phase_reached p history d.control c)
-      (phase_step p slot c d w)
+      Heard d.control.number plain [] w → Steps p history (played (phase_step p slot c d) w)
   unfolding phase_step phase_moves
   phase_stepping Plain history plain w agrees heard =
-      ended_stepping _ _ (instruction_inside d.control.number d.control.resources c w)
-      (instruction_deed d.control plain c history w agrees heard)
+      by_plain (Steps Plain history) slot c d w
+      (ended_stepping _ _ (played (instruction_inside d.control.number d.control.resources c) w)
+      (instruction_deed d.control plain c history w agrees heard))
   phase_stepping (CopyIn done) history plain w agrees heard =
-      let t = copy_in_step d.control.number d.control.resources c done w in
+      let t = played (copy_in_step d.control.number d.control.resources c done) w in
       let deed = copy_in_deed d.control plain c done w heard in
-      record {
+      by_copy_in (Steps (CopyIn done) history) done slot c d w (record {
         answers = deed.answers;
         told = deed.told;
         marks = λ k word aligned is. copied_marks _ (λ answers. None) t deed None
             (λ word' aligned' free.
             misses_if d.control.number word' (both_granted deed.answers) _
             (load_misses d.control.number word' (byte_address (buffer c) done) 1 _)) k word aligned is;
-      }
+      })
   phase_stepping Waiting history plain w agrees heard = record {
     answers = [];
     told = heard.told;
     marks = λ k word aligned is. inr (set_same d.control.contexts slot c c there refl k word is, refl);
   }
   phase_stepping (CopyOut done total) history plain w agrees heard =
-      let t = copy_out_step d.control.number d.control.resources c done total w in
+      let t = played (copy_out_step d.control.number d.control.resources c done total) w in
       let deed = copy_out_deed d.control plain c done total w heard in
-      record {
+      by_copy_out (Steps (CopyOut done total) history) done total slot c d w (record {
         answers = deed.answers;
         told = deed.told;
         marks = λ k word aligned is.
-            copied_marks _ (λ answers. None) t deed t.answer.wrote deed.stores k word aligned is;
-      }
+            copied_marks _ (λ answers. None) t deed t.answer.wrote deed.ends.stores k word aligned is;
+      })
 
 step_if_stepping : (o : Option Context) (slot : ℕ) (d : Domain) (history : List Move) (plain : PageId → List ℕ)
     (w : World) → context_at d.control.contexts slot ≡ o → Agrees history plain → Heard d.control.number plain [] w →
-    Stepping slot d (context_moves o history d.control) (context_reached o history d.control) (step_if o slot d w)
+    Stepping slot d (context_moves o history d.control) (context_reached o history d.control)
+    (played (step_if o slot d) w)
 unfolding step_if context_moves
 step_if_stepping None slot d history plain w there agrees heard = record {
   answers = [];
@@ -204,7 +213,7 @@ pub step_stepping : (slot : ℕ) (d : Domain) (history : List Move) (plain : Pag
     Agrees history plain → Heard d.control.number plain [] w →
     Stepping slot d (context_moves (context_at d.control.contexts slot) history d.control)
     (context_reached (context_at d.control.contexts slot) history d.control) (domain_step slot d w)
-unfolding domain_step
+unfolding domain_step domain_script
 step_stepping slot d history plain w agrees heard = step_if_stepping _ slot d history plain w refl agrees heard
 
 -- An interrupt.

@@ -1,6 +1,6 @@
 -- Which words a move stores in: the one that was written in, and pages of its own domain.
 use Rattle.std.proofs.Common.{◌≡◌, ◌≢◌, ◌∙◌, ◌⊎◌, inl, inr, ℕ, ◌+◌, ◌/◌, ◌*◌, ◌%◌, ◌<◌, Bool, true, false, ◌&&◌, ◌||◌, refl, sym, ap, subst, arith, eq-eqb, ne_eqb}
-use Rattle.std.specs.Prelude.{◌==◌, nat_eq, nat_lt}
+use Rattle.std.specs.Prelude.{nat_eq, nat_lt}
 use Rattle.std.proofs.lemmas.Bool.{false≢true, and_parts, ltb-true, eqb-true}
 use Rattle.cloak_base.specs.declared.names.PageId.{PageId}
 use Rattle.cloak_model.specs.declared.context.WordPlace.{WordPlace}

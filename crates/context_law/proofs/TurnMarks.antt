@@ -27,7 +27,7 @@ use Rattle.cloak_model.specs.KernelStep.{ticked}
 use Rattle.cloak_model.specs.Parts.{Joint}
 use Rattle.cloak_model.specs.Resuming.{resume}
 use Rattle.cloak_model.proofs.ResumeParts.{by_root, by_context, by_domain}
-use Rattle.cloak_model.specs.World.{World, Cloak, Cloaked, items_of}
+use Rattle.cloak_model.specs.World.{World, MidStep, Cloaked, items_of}
 use Rattle.kernel_isolation.proofs.Numbers.{AreFrom, number_at}
 use Rattle.resource_map.proofs.Lists.{get_or-replicate_none}
 use Rattle.latest_store.specs.Moves.{Move}
@@ -282,7 +282,7 @@ due_marks true history j number h ctx found there own agrees =
 due_marks false history j number h ctx found there own agrees =
     let e = domain_of ctx in
     let slot = slot_of ctx in
-    let c : Cloak = cloak_of j.memory h e (pages_for found (context_at found.control.contexts slot)) in
+    let c : MidStep = cloak_of j.memory h e (pages_for found (context_at found.control.contexts slot)) in
     let heard : Heard found.control.number j.memory.plain [] (Cloaked c) =
     record { form = refl; regime = sym own; pages = refl; told = refl } in
     stepped_marks history j number h ctx found (domain_step slot found (Cloaked c)) there own

@@ -14,7 +14,7 @@ use Rattle.word_text.specs.Operands.{label}
 use Rattle.disassembly.specs.declared.lead.Course.{Course}
 use Rattle.disassembly.specs.declared.lead.Course.TheVariants.{To}
 use Rattle.disassembly.specs.Listing.{lead, is_to, is_led_to, text_by_lead, word_line, label_lines, lines_from, with_feed, listing}
-use Rattle.disassembly.specs.ReadingBack.{Fits, MeansWords, ReadsBack}
+use Rattle.disassembly.specs.ReadingBack.{Fits, MeansWords, AssemblesBack}
 use Rattle.disassembly.proofs.Words.{LineShape, LineRead}
 use Rattle.disassembly.proofs.Lines.{AreLines, AreAmong, AreWordsBelow, all_lines, first_read, label_reads, labels_found, lines_are_lines, lines_are_utf8, lines_before, mark_at, one_more_line, two_more_lines, rest_among}
 
@@ -137,7 +137,7 @@ items_read find base count has place (w ∷ ws) marked all among =
 
 -- ---- the whole text
 
-pub reads_back : (base : ℕ) (words : List ℕ) → AreWordsBelow words → Fits base words → ReadsBack base words
+pub reads_back : (base : ℕ) (words : List ℕ) → AreWordsBelow words → Fits base words → AssemblesBack base words
 unfolding listing assembled
 reads_back base words below fits =
     let count = length words in

@@ -24,8 +24,8 @@ pub record Fits (base : ℕ) (words : List ℕ) : Type 0 where
   pub addresses : base + 4 * length words ≤ 2 ^ 32
 
 -- The text of words means these words again.
-abbrev pub ReadsBack : (base : ℕ) → List ℕ → Type 0
-ReadsBack base words = IsUtf8 (listing base words) × MeansWords (listing base words) words
+abbrev pub AssemblesBack : (base : ℕ) → List ℕ → Type 0
+AssemblesBack base words = IsUtf8 (listing base words) × MeansWords (listing base words) words
 
 -- Of a file's bytes, of which there are some: this is the text of the words that they are, and the assembler makes these
 -- bytes of it again.

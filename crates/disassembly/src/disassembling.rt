@@ -4,7 +4,7 @@ ghost use Rattle.std.specs.Int.{w32, from_le_bytes};
 ghost use Rattle.std.specs.List.{flat_map};
 ghost use Rattle.cloak_model.specs.Bits.{word};
 ghost use Rattle.disassembly.specs.Disassembling.{HasFault};
-ghost use Rattle.disassembly.specs.ReadingBack.{Fits, IsDisassembled, ReadsBack};
+ghost use Rattle.disassembly.specs.ReadingBack.{Fits, IsDisassembled, AssemblesBack};
 
 use crate::fault::WordsFault;
 use crate::listing::listing;
@@ -48,7 +48,7 @@ fn words_of(alloc: Global, bytes: &[u8]) -> Result<Vec<u32>, NoMemory>
 /// The text of words means these words again.
 pub fn law_of_reading_back(base: u32, words: &[u32])
     requires { Fits base words.now }
-    ensures { ReadsBack base words.now }
+    ensures { AssemblesBack base words.now }
 {}
 
 /// The text of the words that a file's bytes are, of which the first stands at an address, or the file's fault.

@@ -1,5 +1,5 @@
 -- The plain step of a hart over a flat memory keeps the size of the disk.
-use Rattle.std.proofs.Common.{◌≡◌, ◌∙◌, ◌<◌, ℕ, ◌+◌, ◌*◌, ◌/◌, ◌%◌, ◌^◌, Bool, true, false, cond, ◌&&◌, nat_lt, nat_le, List, ◌++◌, length, take, drop, slice_index_or, [], Option, Some, None, Result, Ok, Err, refl, sym, ap, subst, arith, length-append, length-drop}
+use Rattle.std.proofs.Common.{◌≡◌, ◌∙◌, ◌<◌, ℕ, ◌+◌, ◌*◌, ◌/◌, ◌%◌, Bool, true, false, cond, ◌&&◌, nat_lt, nat_le, List, ◌++◌, length, take, drop, slice_index_or, [], Option, Some, None, Result, Ok, Err, refl, sym, ap, subst, arith, length-append, length-drop}
 use Rattle.std.specs.Prelude.{◌==◌, not}
 use Rattle.std.proofs.lemmas.Bool.{ltb-true}
 use Rattle.std.proofs.lemmas.List.{length-take}
@@ -17,13 +17,13 @@ use Rattle.rv_atomic.specs.declared.atomic.AtomicOp.TheVariants.{Lr, Sc}
 use Rattle.cloak_model.specs.declared.access.Access.{Access}
 use Rattle.cloak_model.specs.declared.outcome.Effect.{Effect}
 use Rattle.cloak_model.specs.declared.outcome.Effect.TheVariants as does
-use Rattle.cloak_model.specs.Ask.{ask_count, ask_frame, ask_inside, ask_led, ask_load, ask_store_at, ask_reserve, ask_store_conditional, ask_combine, ask_translate, ask_value, ask_unmark, loaded_at}
-use Rattle.cloak_model.specs.Asking.{Asking, Told, answered, then_ask}
+use Rattle.cloak_model.specs.Ask.{ask_count, ask_frame, ask_in_ram, ask_led, ask_load, ask_store_at, ask_reserve, ask_store_conditional, ask_combine, ask_translate, ask_value, loaded_at}
+use Rattle.cloak_model.specs.Asking.{Asking, Told, then_ask}
 use Rattle.cloak_model.specs.Csr.{interrupt_due, satp_of}
 use Rattle.cloak_model.specs.Effect.{effect, flag}
 use Rattle.cloak_model.specs.Hart.{Hart}
-use Rattle.cloak_model.specs.HartStep.{raised, stays, gone_on, with_word, system, illegal}
-use Rattle.cloak_model.specs.HostCalls.{SteppedKernel, ecall, ecall_in, ends, halt_call, host_answers, host_call, is_transfer, over, put_call, read_block, read_call, resumed, timer_call, with_block, write_block, write_call}
+use Rattle.cloak_model.specs.HartStep.{raised, stays, gone_on, with_word, system}
+use Rattle.cloak_model.specs.HostCalls.{SteppedKernel, ecall, ecall_in, ends, host_call, is_transfer, read_block, read_call, with_block, write_block, write_call}
 use Rattle.cloak_model.specs.KernelStep.{access, atomic_access, atomic_executed, carried_out, ends_reservation, executed, extended, instruction_step, is_ecall, kernel_step, misaligned, or_trap, released, ticked}
 use Rattle.cloak_model.specs.Memory.{Seen}
 use Rattle.cloak_model.specs.Walk.{Walk, walk}
@@ -34,15 +34,15 @@ use Rattle.reservation_law.proofs.Plain.{both_are}
 
 -- A load changes nothing of a flat memory.
 
-inside_flat : (a : Access) (found : Walk) (s : Seen) → (ask_inside a found (Flat s)).world ≡ Flat s
-unfolding ask_inside
+inside_flat : (a : Access) (found : Walk) (s : Seen) → (ask_in_ram a found (Flat s)).world ≡ Flat s
+unfolding ask_in_ram
 inside_flat a (Err cause) s = refl
 inside_flat a (Ok walked) s = refl
 
 translate_flat : (satp : ℕ) (a : Access) (s : Seen) → (ask_translate satp a (Flat s)).world ≡ Flat s
 unfolding ask_translate
 translate_flat satp a s =
-    ap (λ (told : Told Walk). (ask_inside a told.answer told.world).world) (ask_walk-flat satp a s)
+    ap (λ (told : Told Walk). (ask_in_ram a told.answer told.world).world) (ask_walk-flat satp a s)
     ∙ inside_flat a (walk s.ram satp a) s
 
 loaded_flat : (satp : ℕ) (a : Access) (width : ℕ) (found : Result ℕ ℕ) (s : Seen) →

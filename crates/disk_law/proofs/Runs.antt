@@ -1,5 +1,5 @@
 -- The disk of a run keeps its size.
-use Rattle.std.proofs.Common.{◌≡◌, ◌∙◌, ℕ, zero, suc, List, [], ◌∷◌, length, Option, Some, None, Ok, refl, ap}
+use Rattle.std.proofs.Common.{◌≡◌, ◌∙◌, ℕ, zero, suc, List, length, Option, Some, None, Ok, refl, ap}
 use Rattle.std.specs.List.{AllByRecursion}
 use Rattle.std.proofs.lemmas.List.Elements.{All-from_recursion}
 use Rattle.cloak_base.specs.declared.causes.Stop.{Stop}
@@ -7,9 +7,9 @@ use Rattle.cloak_model.specs.declared.image.Bundle.{Bundle}
 use Rattle.cloak_model.specs.declared.image.KernelImage.{KernelImage}
 use Rattle.cloak_model.specs.Beginning.{Beginning, opening_from}
 use Rattle.cloak_model.specs.Joint.{Moment, Turn, after_turn, joint_step, stop_of}
-use Rattle.cloak_model.specs.Opening.{Opened, started_kernel}
+use Rattle.cloak_model.specs.Opening.{RunEdge, started_kernel}
 use Rattle.cloak_model.specs.Parts.{Joint, KernelPart}
-use Rattle.cloak_model.specs.Run.{Run, closing, first_moment, joint_after, run_of, turns_from, unless_stopped}
+use Rattle.cloak_model.specs.Run.{closing, first_moment, joint_after, run_of, turns_from, unless_stopped}
 use Rattle.kernel_isolation.proofs.Isolated.{of_opened}
 use Rattle.kernel_isolation.proofs.Opened.{is_opened}
 use Rattle.reservation_law.proofs.Moments.{IsOrderly, step_orderly}
@@ -23,7 +23,7 @@ started_disk : (image : KernelImage) → (started_kernel image).disk ≡ image.d
 unfolding started_kernel
 started_disk image = refl
 
-opened_disk : (b : Bundle) (from : Beginning) (o : Opened) → opening_from b from ≡ Ok o → HasDiskOf b o.joint
+opened_disk : (b : Bundle) (from : Beginning) (o : RunEdge) → opening_from b from ≡ Ok o → HasDiskOf b o.joint
 opened_disk b from o opens =
     let opened = is_opened b from o opens in
     ap (λ (p : KernelPart). length p.disk) opened.part
@@ -52,19 +52,19 @@ steps_keep n (suc budget) m orderly here =
     (steps_keep n budget (after_turn m t) (step_orderly m orderly) next) in
     record { each = (next, rest.each); last = rest.last }
 
-run_keeps : (b : Bundle) (from : Beginning) (o : Opened) → opening_from b from ≡ Ok o → (steps : ℕ) →
+run_keeps : (b : Bundle) (from : Beginning) (o : RunEdge) → opening_from b from ≡ Ok o → (steps : ℕ) →
     StepsKeep (length b.kernel.disk) o.joint (turns_from steps (first_moment b o.joint))
 run_keeps b from o opens steps =
     steps_keep (length b.kernel.disk) steps (first_moment b o.joint) (opened_orderly b from o opens)
     (opened_disk b from o opens)
 
-pub disk_stays : (b : Bundle) (from : Beginning) (o : Opened) → opening_from b from ≡ Ok o → (steps : ℕ) →
+pub disk_stays : (b : Bundle) (from : Beginning) (o : RunEdge) → opening_from b from ≡ Ok o → (steps : ℕ) →
     HasDiskOf b (joint_after o.joint (turns_from steps (first_moment b o.joint)))
 disk_stays b from o opens steps = (run_keeps b from o opens steps).last
 
 -- The run.
 
-run_of_keeps : (b : Bundle) (from : Beginning) (steps : ℕ) (o : Opened) → opening_from b from ≡ Ok o →
+run_of_keeps : (b : Bundle) (from : Beginning) (steps : ℕ) (o : RunEdge) → opening_from b from ≡ Ok o →
     KeepsDisk b (run_of b steps o)
 unfolding run_of closing
 run_of_keeps b from steps o opens =

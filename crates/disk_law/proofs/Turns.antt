@@ -6,13 +6,11 @@ use Rattle.cloak_model.specs.declared.inside.Went.{Went}
 use Rattle.cloak_model.specs.declared.inside.Went.TheVariants as went
 use Rattle.cloak_model.specs.declared.item.Item.{Item}
 use Rattle.cloak_model.specs.declared.outcome.Kernel.{Kernel}
-use Rattle.cloak_model.specs.declared.outcome.Kernel.TheVariants.{Stay, Resume}
+use Rattle.cloak_model.specs.declared.outcome.Kernel.TheVariants.{Resume}
 use Rattle.cloak_model.specs.Ahead.{made_after, settle_touched, settled_step, with_shown}
 use Rattle.cloak_model.specs.Cloaking.{CloakedMemory, seen_in}
-use Rattle.cloak_model.specs.Contexts.{Admitted, context_at, domain_of, slot_of}
-use Rattle.cloak_model.specs.DomainAlone.{runs_on}
+use Rattle.cloak_model.specs.Contexts.{Admitted, domain_of, slot_of}
 use Rattle.cloak_model.specs.DomainState.{Control, Domain}
-use Rattle.cloak_model.specs.Csr.{interrupt_due}
 use Rattle.cloak_model.specs.Hart.{Hart}
 use Rattle.cloak_model.specs.Joint.{Moment, Turn, after_domain_step, after_interrupt, after_kernel_step, after_outside, answers_violation, by_interrupt, by_running, cloak_outside, domain_ended, domain_met, end_domain, ends_asked, ends_once, ends_resumed, hart_in, inside_step, interrupt_ended, joint_step, next_hart, outside_ended, outside_step, step_before_end, turn_of}
 use Rattle.cloak_model.specs.KernelStep.{ticked}
@@ -20,7 +18,7 @@ use Rattle.cloak_model.specs.Memory.{Seen, filled}
 use Rattle.cloak_model.specs.Parts.{Joint}
 use Rattle.cloak_model.specs.Resuming.{resume}
 use Rattle.cloak_model.proofs.ResumeParts.{by_context, by_domain, by_root}
-use Rattle.cloak_model.specs.World.{World, Cloak, items_of}
+use Rattle.cloak_model.specs.World.{World, MidStep, items_of}
 use Rattle.settling_ahead.proofs.Laws.{shown_touched}
 use Rattle.reservation_law.proofs.Keeping.{AreWhole, whole_set}
 use Rattle.reservation_law.proofs.Sizes.{ArePages, touched_pages}
@@ -71,7 +69,7 @@ settled_whole h disk m whole =
     subst (λ (s : Seen). AreWhole s.ram) (sym (shown_touched h disk m))
     (shown_whole (settle_touched h disk m).ciphers (seen_in m) (touched_pages h disk m) whole)
 
-settled_keeps : (h : Hart) (disk : List ℕ) (c : Cloak) → AreWhole c.memory.ram →
+settled_keeps : (h : Hart) (disk : List ℕ) (c : MidStep) → AreWhole c.memory.ram →
     length (settled_step h disk c).answer.disk ≡ length disk
 unfolding settled_step made_after
 settled_keeps h disk c whole =

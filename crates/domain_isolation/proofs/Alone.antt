@@ -1,7 +1,7 @@
 -- The program alone: how it takes the items of one step.
 use Rattle.std.proofs.lemmas.Bool.{false≢true}
 use Rattle.std.proofs.Common.{◌≡◌, ◌∙◌, ◌-◌, ◌%◌, true, false, cond, suc, ℕ, Bool, List, [], ◌∷◌, ◌++◌, None, refl, ap, sym, subst, append_assoc, append-nil, eq-eqb, arith, length, if◌then◌else◌, Option, Some, ◌⊎◌, ◌≢◌}
-use Rattle.std.specs.Prelude.{◌||◌, ◌==◌, slice_index}
+use Rattle.std.specs.Prelude.{◌==◌, slice_index}
 use Rattle.std.specs.List.{list_any}
 use Rattle.cloak_model.specs.declared.answer.Answer.{Answer}
 use Rattle.cloak_model.specs.declared.answer.Answer.TheVariants as told
@@ -13,13 +13,13 @@ use Rattle.cloak_model.specs.Asking.{Told}
 use Rattle.cloak_model.specs.AskPages.{answer_item}
 use Rattle.cloak_model.specs.Contexts.{domain_of, slot_of}
 use Rattle.cloak_model.specs.DomainState.{Domain}
-use Rattle.cloak_model.specs.DomainStep.{DomainStepped, interrupt, resume_slot}
+use Rattle.cloak_model.specs.DomainStep.{domain_script, domain_step, DomainStepped, interrupt, resume_slot}
 use Rattle.cloak_model.specs.DomainAlone as alone
 use Rattle.cloak_model.specs.DomainAlone.{DomainAlone, DomainPlace, Between, Other, Running, Done, Stopped, Over, Wants, tried, try_with, handed_of, is_stopped, domain_taken, take_domain_item, domain_takes, take_domain_step, domain_step_ended, domain_step_begun, slot_on, place_for, take_answer, answered_by, made_by, take_timer, take_resume, resumed_by, is_granted, with_control}
-use Rattle.script_fold.proofs.Scripts.{played}
+use Rattle.cloak_model.specs.Script.{played}
 use Rattle.script_fold.proofs.StepScripts.{step_scripted}
 use Rattle.domain_isolation.proofs.Answers.{alone_with, IsServing}
-use Rattle.domain_isolation.proofs.Played.{answers_of, answer_items, last_stopped, played_alone, played_short}
+use Rattle.domain_isolation.proofs.Played.{answers_of, answer_items, last_stopped, last_any, played_alone, played_short}
 use Rattle.domain_isolation.proofs.Ignoring.{item_taken}
 
 -- the machine alone with this part, at this place, with no item unfit
@@ -156,32 +156,34 @@ timer_rests d schedule p k slot stops =
 abbrev pub part_in : Domain → World → DomainPart
 part_in d w = record { domain = d; plain = domain_pages d.control.number (plain_of w) }
 
+-- and after a step of it
+abbrev pub part_after : ℕ → Domain → World → DomainPart
+part_after slot d w =
+    let t = played (domain_script slot d) w in
+    record { domain = t.answer.domain; plain = domain_pages d.control.number (plain_of t.world) }
+
 -- with all its answers a step is over
 tried_all : (slot : ℕ) (d : Domain) (w : World) → IsServing d.control.number w →
-    let t = played (step_scripted slot d).script w in
-    try_with slot (answers_of (step_scripted slot d).script w) (part_in d w)
-    ≡ Over (record { domain = t.answer.domain; plain = domain_pages d.control.number (plain_of t.world) })
-unfolding try_with tried
+    try_with slot (answers_of (domain_script slot d) w) (part_in d w) ≡ Over (part_after slot d w)
+unfolding try_with tried domain_step
 tried_all slot d w serving =
-    let s = (step_scripted slot d).script in
+    let s = domain_script slot d in
     let all = answers_of s w in
     let n = d.control.number in
     ap (λ (t : Told DomainStepped). tried t.answer.domain (handed_of t.world))
-    ((step_scripted slot d).plays (alone_with n (plain_of w) all)
-    ∙ ap (λ (l : List Answer). played s (alone_with n (plain_of w) l)) (sym (append-nil all))
-    ∙ played_alone s w serving [])
+    (ap (λ (l : List Answer). played s (alone_with n (plain_of w) l)) (sym (append-nil all))
+    ∙ played_alone n s (step_scripted slot d).own w serving [])
 
 -- with a front of them it wants more
 tried_front : (slot : ℕ) (d : Domain) (w : World) → IsServing d.control.number w →
     (front : List Answer) (a : Answer) (more : List Answer) →
-    front ++ a ∷ more ≡ answers_of (step_scripted slot d).script w → try_with slot front (part_in d w) ≡ Wants
-unfolding try_with tried
+    front ++ a ∷ more ≡ answers_of (domain_script slot d) w → try_with slot front (part_in d w) ≡ Wants
+unfolding try_with tried domain_step
 tried_front slot d w serving front a more is =
-    let s = (step_scripted slot d).script in
+    let s = domain_script slot d in
     let start = alone_with d.control.number (plain_of w) front in
-    let stuck = played_short s w serving front a more is in
-    ap (λ (t : Told DomainStepped). tried t.answer.domain (handed_of t.world)) ((step_scripted slot d).plays start)
-    ∙ ap (λ (v : World). tried (played s start).answer.domain (handed_of v)) stuck.1
+    let stuck = played_short d.control.number s (step_scripted slot d).own w serving front a more is in
+    ap (λ (v : World). tried (played s start).answer.domain (handed_of v)) stuck.1
 
 answer_taken : (n : ℕ) (schedule : List ℕ) (p : DomainPart) (k slot : ℕ) (before : List Answer) (a : Answer) →
     take_domain_item n schedule (alone_at p k (Running slot before)) (answer_item n a)
@@ -202,108 +204,57 @@ over_rests p k true stops stop = record {
 }
 over_rests p k false stops stop = record { steps = k; place = Between; is = refl; between = λ goes. refl }
 
-or_later : (a b : Bool) → b ≡ true → (a || b) ≡ true
-or_later true b is = refl
-or_later false b is = is
+-- its answers, one by one, up to the last
+answers_taken : (schedule : List ℕ) (k slot : ℕ) (d : Domain) (w : World) → IsServing d.control.number w →
+    (before : List Answer) (a : Answer) (after : List Answer) →
+    before ++ a ∷ after ≡ answers_of (domain_script slot d) w →
+    domain_taken d.control.number schedule (alone_at (part_in d w) k (Running slot before))
+    (answer_items d.control.number (a ∷ after))
+    ≡ alone_at (part_after slot d w) k (if last_stopped (a ∷ after) then Stopped else Done)
+unfolding domain_taken answered_by
+answers_taken schedule k slot d w serving before a [] is =
+    let p = part_in d w in
+    answer_taken d.control.number schedule p k slot before a
+    ∙ ap (λ (r : alone.Tried). answered_by slot before a r (alone_at p k (Running slot before)))
+    (ap (λ (l : List Answer). try_with slot l p) is ∙ tried_all slot d w serving)
+answers_taken schedule k slot d w serving before a (b ∷ after) is =
+    let n = d.control.number in
+    let p = part_in d w in
+    let rest = append_assoc before (a ∷ []) (b ∷ after) ∙ is in
+    ap (λ (u : DomainAlone). domain_taken n schedule u (answer_items n (b ∷ after)))
+    (answer_taken n schedule p k slot before a
+    ∙ ap (λ (r : alone.Tried). answered_by slot before a r (alone_at p k (Running slot before)))
+    (tried_front slot d w serving (before ++ a ∷ []) b after rest))
+    ∙ answers_taken schedule k slot d w serving (before ++ a ∷ []) b after rest
 
 -- after the last answer, which stops
 pub answers_open : (schedule : List ℕ) (k slot : ℕ) (d : Domain) (w : World) → IsServing d.control.number w →
-    (before after : List Answer) → before ++ after ≡ answers_of (step_scripted slot d).script w →
-    last_stopped after ≡ true →
-    let t = played (step_scripted slot d).script w in
-    StoppedAt (domain_taken d.control.number schedule (alone_at (part_in d w) k (Running slot before))
-    (answer_items d.control.number after))
-    (record { domain = t.answer.domain; plain = domain_pages d.control.number (plain_of t.world) })
-unfolding domain_taken answered_by
-answers_open schedule k slot d w serving before [] is last = absurd (false≢true last)
-answers_open schedule k slot d w serving before (a ∷ []) is last =
-    let t = played (step_scripted slot d).script w in
-    let p : DomainPart = record { domain = t.answer.domain; plain = domain_pages d.control.number (plain_of t.world) } in
-    let n = d.control.number in
-    let s = alone_at (part_in d w) k (Running slot before) in
-    let over : try_with slot (before ++ a ∷ []) (part_in d w) ≡ Over p = ap
-    (λ (l : List Answer). try_with slot l (part_in d w)) is ∙ tried_all slot d w serving in
-    record {
-      steps = k;
-      is = answer_taken n schedule (part_in d w) k slot before a
-          ∙ ap (λ (r : alone.Tried). answered_by slot before a r s) over
-          ∙ ap (λ (b : Bool). alone_at p k (if b then Stopped else Done)) last;
-    }
-answers_open schedule k slot d w serving before (a ∷ b ∷ after) is last =
-    let t = played (step_scripted slot d).script w in
-    let p : DomainPart = record { domain = t.answer.domain; plain = domain_pages d.control.number (plain_of t.world) } in
-    let n = d.control.number in
-    let s = alone_at (part_in d w) k (Running slot before) in
-    let rest : (before ++ a ∷ []) ++ b ∷ after ≡ answers_of (step_scripted slot d).script w = append_assoc before
-    (a ∷ []) (b ∷ after) ∙ is in
-    let taken : take_domain_item n schedule s (answer_item n a) ≡ alone_at (part_in d w) k
-    (Running slot (before ++ a ∷ [])) =
-    answer_taken n schedule (part_in d w) k slot before a
-    ∙ ap (λ (r : alone.Tried). answered_by slot before a r s)
-    (tried_front slot d w serving (before ++ a ∷ []) b after rest) in
-    subst (λ (u : DomainAlone). StoppedAt (domain_taken n schedule u (answer_items n (b ∷ after))) p) (sym taken)
-    (answers_open schedule k slot d w serving (before ++ a ∷ []) (b ∷ after) rest last)
+    (all : List Answer) → all ≡ answers_of (domain_script slot d) w → last_stopped all ≡ true →
+    StoppedAt (domain_taken d.control.number schedule (alone_at (part_in d w) k (Running slot []))
+    (answer_items d.control.number all)) (part_after slot d w)
+answers_open schedule k slot d w serving [] is last = absurd (false≢true last)
+answers_open schedule k slot d w serving (a ∷ after) is last = record {
+  steps = k;
+  is = answers_taken schedule k slot d w serving [] a after is
+      ∙ ap (λ (b : Bool). alone_at (part_after slot d w) k (if b then Stopped else Done)) last;
+}
 
--- its answers, one by one
+-- after all of them
 pub answers_rest : (schedule : List ℕ) (k slot : ℕ) (d : Domain) (w : World) → IsServing d.control.number w →
-    (stops : Bool) (before after : List Answer) →
-    before ++ after ≡ answers_of (step_scripted slot d).script w → (list_any is_stopped after ≡ true → stops ≡ true) →
-    let t = played (step_scripted slot d).script w in
-    RestsAt (ended (domain_taken d.control.number schedule (alone_at (part_in d w) k (Running slot before))
-    (answer_items d.control.number after)))
-    (record { domain = t.answer.domain; plain = domain_pages d.control.number (plain_of t.world) }) stops
-unfolding domain_taken domain_step_ended answered_by made_by
-answers_rest schedule k slot d w serving stops before [] is stop =
-    let t = played (step_scripted slot d).script w in
-    let p : DomainPart = record {
-      domain = t.answer.domain;
-      plain = domain_pages d.control.number
-          (plain_of t.world);
-    } in
-    let all : before ≡ answers_of (step_scripted slot d).script w = sym (append-nil before) ∙ is in
-    let over : try_with slot before (part_in d w) ≡ Over p = ap
-    (λ (l : List Answer). try_with slot l (part_in d w)) all ∙ tried_all slot d w serving in
-    record {
-      steps = k;
-      place = Between;
-      is = ap (λ (r : alone.Tried). made_by r
-          (alone_at (part_in d w) k (Running slot before))) over;
-      between = λ goes. refl;
-    }
-answers_rest schedule k slot d w serving stops before (a ∷ []) is stop =
-    let t = played (step_scripted slot d).script w in
-    let p : DomainPart = record {
-      domain = t.answer.domain;
-      plain = domain_pages d.control.number
-          (plain_of t.world);
-    } in
-    let n = d.control.number in
-    let s = alone_at (part_in d w) k (Running slot before) in
-    let over : try_with slot (before ++ a ∷ []) (part_in d w) ≡ Over p = ap
-    (λ (l : List Answer). try_with slot l (part_in d w)) is ∙ tried_all slot d w serving in
-    let taken : take_domain_item n schedule s (answer_item n a) ≡ alone_at p k
-    (if is_stopped a then Stopped else Done) =
-    answer_taken n schedule (part_in d w) k slot before a
-    ∙ ap (λ (r : alone.Tried). answered_by slot before a r s) over in
-    subst (λ (u : DomainAlone). RestsAt (ended u) p stops) (sym taken)
-    (over_rests p k (is_stopped a) stops (λ stopped. stop (ap (λ (b : Bool). b || false) stopped)))
-answers_rest schedule k slot d w serving stops before (a ∷ b ∷ after) is stop =
-    let t = played (step_scripted slot d).script w in
-    let p : DomainPart = record {
-      domain = t.answer.domain;
-      plain = domain_pages d.control.number
-          (plain_of t.world);
-    } in
-    let n = d.control.number in
-    let s = alone_at (part_in d w) k (Running slot before) in
-    let rest : (before ++ a ∷ []) ++ b ∷ after ≡ answers_of (step_scripted slot d).script w = append_assoc before
-    (a ∷ []) (b ∷ after) ∙ is in
-    let taken : take_domain_item n schedule s (answer_item n a) ≡ alone_at (part_in d w) k
-    (Running slot (before ++ a ∷ [])) =
-    answer_taken n schedule (part_in d w) k slot before a
-    ∙ ap (λ (r : alone.Tried). answered_by slot before a r s)
-    (tried_front slot d w serving (before ++ a ∷ []) b after rest) in
-    subst (λ (u : DomainAlone). RestsAt (ended (domain_taken n schedule u (answer_items n (b ∷ after)))) p stops)
-    (sym taken)
-    (answers_rest schedule k slot d w serving stops (before ++ a ∷ []) (b ∷ after) rest
-    (λ any. stop (or_later (is_stopped a) _ any)))
+    (stops : Bool) (all : List Answer) → all ≡ answers_of (domain_script slot d) w →
+    (list_any is_stopped all ≡ true → stops ≡ true) →
+    RestsAt (ended (domain_taken d.control.number schedule (alone_at (part_in d w) k (Running slot []))
+    (answer_items d.control.number all))) (part_after slot d w) stops
+unfolding domain_taken domain_step_ended made_by
+answers_rest schedule k slot d w serving stops [] is stop = record {
+  steps = k;
+  place = Between;
+  is = ap (λ (r : alone.Tried). made_by r (alone_at (part_in d w) k (Running slot [])))
+      (ap (λ (l : List Answer). try_with slot l (part_in d w)) is ∙ tried_all slot d w serving);
+  between = λ goes. refl;
+}
+answers_rest schedule k slot d w serving stops (a ∷ after) is stop =
+    let p = part_after slot d w in
+    subst (λ (u : DomainAlone). RestsAt (ended u) p stops)
+    (sym (answers_taken schedule k slot d w serving [] a after is))
+    (over_rests p k (last_stopped (a ∷ after)) stops (λ last. stop (last_any (a ∷ after) last)))

@@ -10,7 +10,7 @@ use Rattle.cloak_base.specs.declared.names.PageId.{PageId}
 use Rattle.cloak_base.specs.Pages.{zero_page, same_page, is_of, page_in}
 use Rattle.cloak_model.specs.declared.answer.Answer.{Answer}
 use Rattle.cloak_model.specs.declared.answer.Answer.TheVariants as told
-use Rattle.cloak_model.specs.Cloaking.{Offer, Ready, Mismatch, Missed}
+use Rattle.cloak_model.specs.Cloaking.{OfferEnd, Ready, Mismatch, Missed}
 use Rattle.cloak_model.specs.Memory.{with_value_in}
 use Rattle.cloak_model.specs.PageMoves.{copy_pages, drop_pages}
 use Rattle.cloak_model.specs.Parts.{domain_pages}
@@ -18,7 +18,8 @@ use Rattle.cloak_model.specs.World.{World, Flat, Cloaked, Alone, Handed, plain_o
 use Rattle.cloak_model.specs.Asking.{Told, Asking}
 use Rattle.cloak_model.specs.AskPages.{inside_access, replies, if_drawn, ask_inside_address, offered_by, ask_offer, reached, reach_by_table, get_at, got, get_by_table, put_at, stored_inside, put_by_table, clear_from, is_for_access, is_for_value, is_for_clearing, of_width, next_answer, ask_reach, ask_read, ask_write, ask_get, ask_put, ask_clear, ask_copy, ask_forget}
 use Rattle.cloak_model.specs.Ask.{opened}
-use Rattle.script_fold.proofs.Scripts.{Question, Reach, Get, Put, Clear, Change, Write, Copy, Forget, asked, changed}
+use Rattle.cloak_model.specs.Script.{Question, Reach, Get, Put, Clear, Change, Write, Copy, Forget, asked, changed}
+use Rattle.script_fold.proofs.Scripts.{Alters}
 use Rattle.domain_isolation.proofs.Steady.{is_cloaked, Replied, replied_reach, replied_get, replied_put, replied_clear}
 
 -- a program that runs alone, with the pages of this domain and these answers
@@ -52,7 +53,7 @@ record ForValue (width : ℕ) (a : Answer) : Type 0 where
   pub kind : is_for_value a ≡ true
   pub narrow : of_width width a ≡ a
 
-offered_has : (q : PageId) (va : ℕ) (kind : Kind) (g : ℕ) (o : Offer) (w : World) →
+offered_has : (q : PageId) (va : ℕ) (kind : Kind) (g : ℕ) (o : OfferEnd) (w : World) →
     ForAccess (offered_by q va kind g o w).answer
 unfolding offered_by replies
 offered_has q va kind g Ready w = refl
@@ -134,7 +135,7 @@ unfolding next_answer
 next_fit is_fit a rest h fits = rw fits refl
 
 -- A question answered by the joint machine is answered so to the program alone.
-pub record Answered {d : ℕ} (question : Question d) (w : World) : Type 0 where
+pub record Answered (d : ℕ) (question : Question) (w : World) : Type 0 where
   pub replied : Replied w (asked question w)
   pub same : (rest : List Answer) →
       asked question (alone_with d (plain_of w) ((asked question w).answer ∷ rest))
@@ -150,11 +151,11 @@ taken d is_fit t w rest fits plain =
     ∙ ap (λ (pages : PageId → List ℕ). let u : Told Answer =
     record { answer = t.answer; world = alone_with d pages rest } in u) (sym plain)
 
-pub question_answered : {d : ℕ} (question : Question d) (w : World) → is_cloaked w ≡ true → Answered question w
+pub question_answered : (d : ℕ) (question : Question) (w : World) → is_cloaked w ≡ true → Answered d question w
 unfolding ask_reach ask_get ask_put ask_clear
-question_answered question (Flat ram) cloaked = absurd (false≢true cloaked)
-question_answered question (Alone h) cloaked = absurd (false≢true cloaked)
-question_answered {d} (Reach q own va kind) (Cloaked c) cloaked =
+question_answered d question (Flat ram) cloaked = absurd (false≢true cloaked)
+question_answered d question (Alone h) cloaked = absurd (false≢true cloaked)
+question_answered d (Reach q va kind) (Cloaked c) cloaked =
     let t = reach_by_table q va kind (Cloaked c) in
     let r = replied_reach q va kind (Cloaked c) refl in
     record {
@@ -162,7 +163,7 @@ question_answered {d} (Reach q own va kind) (Cloaked c) cloaked =
       same = λ rest. taken d is_for_access t (Cloaked c) rest
           (reach_has q va kind (Cloaked c)) r.plain;
     }
-question_answered {d} (Get va width) (Cloaked c) cloaked =
+question_answered d (Get va width) (Cloaked c) cloaked =
     let t = get_by_table va width (Cloaked c) in
     let r = replied_get va width (Cloaked c) refl in
     let has = get_has va width (Cloaked c) in
@@ -178,7 +179,7 @@ question_answered {d} (Get va width) (Cloaked c) cloaked =
                 (plain_of t.world) rest;
           } in x) has.narrow;
     }
-question_answered {d} (Put va width value at) (Cloaked c) cloaked =
+question_answered d (Put va width value) (Cloaked c) cloaked =
     let t = put_by_table va width value (Cloaked c) in
     let r = replied_put va width value (Cloaked c) refl in
     record {
@@ -186,13 +187,13 @@ question_answered {d} (Put va width value at) (Cloaked c) cloaked =
       same = λ rest. taken d is_for_access t (Cloaked c) rest
           (put_has va width value (Cloaked c)) r.plain;
     }
-question_answered {d} (Clear marked) (Cloaked c) cloaked =
-    let t = clear_from d marked 0 _ (Cloaked c) in
-    let r = replied_clear d marked 0 _ (Cloaked c) refl in
+question_answered d (Clear domain marked) (Cloaked c) cloaked =
+    let t = clear_from domain marked 0 _ (Cloaked c) in
+    let r = replied_clear domain marked 0 _ (Cloaked c) refl in
     record {
       replied = r;
       same = λ rest. taken d is_for_clearing t (Cloaked c) rest
-          (clear_has d marked 0 _ (Cloaked c)) r.plain;
+          (clear_has domain marked 0 _ (Cloaked c)) r.plain;
     }
 
 -- A program alone that found no answer is stuck.
@@ -202,22 +203,22 @@ stuck_with plain = Alone (record { plain = plain; answers = []; unfit = true })
 abbrev pub IsStuck : World → Type 0
 IsStuck w = (plain : ℕ → ℕ → List ℕ) × (w ≡ stuck_with plain)
 
-pub question_missing : {d : ℕ} (question : Question d) (plain : PageId → List ℕ) →
+pub question_missing : (d : ℕ) (question : Question) (plain : PageId → List ℕ) →
     IsStuck (asked question (alone_with d plain [])).world
 unfolding ask_reach ask_get ask_put ask_clear next_answer
-question_missing {d} (Reach q own va kind) plain = (domain_pages d plain, refl)
-question_missing {d} _ plain = (domain_pages d plain, refl)
+question_missing d (Reach q va kind) plain = (domain_pages d plain, refl)
+question_missing d _ plain = (domain_pages d plain, refl)
 
-pub question_stuck : {d : ℕ} (question : Question d) (plain : ℕ → ℕ → List ℕ) →
+pub question_stuck : (question : Question) (plain : ℕ → ℕ → List ℕ) →
     IsStuck (asked question (stuck_with plain)).world
 unfolding ask_reach ask_get ask_put ask_clear next_answer
-question_stuck (Reach q own va kind) plain = (plain, refl)
+question_stuck (Reach q va kind) plain = (plain, refl)
 question_stuck _ plain = (plain, refl)
 
-pub change_stuck : {d : ℕ} (change : Change d) (plain : ℕ → ℕ → List ℕ) →
+pub change_stuck : (change : Change) (plain : ℕ → ℕ → List ℕ) →
     IsStuck (changed change (stuck_with plain)).world
 unfolding ask_write ask_copy ask_forget
-change_stuck (Write q own at width value) plain = (_, refl)
+change_stuck (Write q at width value) plain = (_, refl)
 change_stuck _ plain = (_, refl)
 
 -- A read, and a change, of the program's own pages.
@@ -230,21 +231,28 @@ read_same d q at width w answers own =
     subst (λ (n : ℕ). ask_read q at width (alone_with n (plain_of w) answers) ≡
     record { answer = (ask_read q at width w).answer; world = alone_with n (plain_of w) answers }) own refl
 
-pub change_same : {d : ℕ} (change : Change d) (w : World) (answers : List Answer) → is_cloaked w ≡ true →
+pub change_same : (d : ℕ) (change : Change) → Alters d change → (w : World) (answers : List Answer) →
+    is_cloaked w ≡ true →
     changed change (alone_with d (plain_of w) answers) ≡
     record { answer = tt; world = alone_with d (plain_of (changed change w).world) answers }
 unfolding ask_write ask_copy ask_forget copy_pages drop_pages
-change_same change (Flat ram) answers cloaked = absurd (false≢true cloaked)
-change_same change (Alone h) answers cloaked = absurd (false≢true cloaked)
-change_same (Write q own at width value) (Cloaked c) answers cloaked =
+change_same d change own (Flat ram) answers cloaked = absurd (false≢true cloaked)
+change_same d change own (Alone h) answers cloaked = absurd (false≢true cloaked)
+change_same d (Write q at width value) own (Cloaked c) answers cloaked =
     subst (λ (n : ℕ). ask_write q at width value (alone_with n (plain_of (Cloaked c)) answers) ≡
     record {
       answer = tt;
       world = alone_with n (plain_of
           (ask_write q at width value (Cloaked c)).world) answers;
     }) own refl
-change_same (Copy from to) (Cloaked c) answers cloaked = refl
-change_same (Forget resource) (Cloaked c) answers cloaked = refl
+change_same d (Copy domain from to) own (Cloaked c) answers cloaked =
+    subst (λ (n : ℕ). ask_copy domain from to (alone_with n (plain_of (Cloaked c)) answers) ≡
+    record { answer = tt; world = alone_with n (plain_of (ask_copy domain from to (Cloaked c)).world) answers }) own
+    refl
+change_same d (Forget domain resource) own (Cloaked c) answers cloaked =
+    subst (λ (n : ℕ). ask_forget domain resource (alone_with n (plain_of (Cloaked c)) answers) ≡
+    record { answer = tt; world = alone_with n (plain_of (ask_forget domain resource (Cloaked c)).world) answers }) own
+    refl
 
 -- What a change leaves: all but the pages of its domain.
 pub record LeavesOthers (d : ℕ) (w v : World) : Type 0 where
@@ -279,12 +287,12 @@ never_of : (d e n : ℕ) → e ≢ d → (resource page : ℕ) →
 unfolding is_of
 never_of d e n other resource page = other_and e d _ other
 
-pub change_leaves : {d : ℕ} (change : Change d) (w : World) → is_cloaked w ≡ true →
+pub change_leaves : (d : ℕ) (change : Change) → Alters d change → (w : World) → is_cloaked w ≡ true →
     LeavesOthers d w (changed change w).world
 unfolding ask_write ask_copy ask_forget copy_pages drop_pages
-change_leaves change (Flat ram) cloaked = absurd (false≢true cloaked)
-change_leaves change (Alone h) cloaked = absurd (false≢true cloaked)
-change_leaves {d} (Write q own at width value) (Cloaked c) cloaked = record {
+change_leaves d change own (Flat ram) cloaked = absurd (false≢true cloaked)
+change_leaves d change own (Alone h) cloaked = absurd (false≢true cloaked)
+change_leaves d (Write q at width value) own (Cloaked c) cloaked = record {
   regime = refl;
   form = refl;
   items = refl;
@@ -292,18 +300,19 @@ change_leaves {d} (Write q own at width value) (Cloaked c) cloaked = record {
   others = λ e other. other_pages e c.memory.plain (λ p. with_value_in (c.memory.plain q) at width value)
       (λ p. same_page p q) (never_same_page d e q own other);
 }
-change_leaves {d} (Copy from to) (Cloaked c) cloaked = record {
+change_leaves d (Copy domain from to) own (Cloaked c) cloaked = record {
   regime = refl;
   form = refl;
   items = refl;
   violation = refl;
-  others = λ e other. other_pages e c.memory.plain (λ p. c.memory.plain (page_in from p)) (is_of d to)
-      (never_of d e to other);
+  others = λ e other. other_pages e c.memory.plain (λ p. c.memory.plain (page_in from p)) (is_of domain to)
+      (never_of domain e to (λ same. other (same ∙ own)));
 }
-change_leaves {d} (Forget resource) (Cloaked c) cloaked = record {
+change_leaves d (Forget domain resource) own (Cloaked c) cloaked = record {
   regime = refl;
   form = refl;
   items = refl;
   violation = refl;
-  others = λ e other. other_pages e c.memory.plain (λ p. zero_page) (is_of d resource) (never_of d e resource other);
+  others = λ e other. other_pages e c.memory.plain (λ p. zero_page) (is_of domain resource)
+      (never_of domain e resource (λ same. other (same ∙ own)));
 }

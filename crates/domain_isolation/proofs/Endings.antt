@@ -1,5 +1,5 @@
 -- The end of a domain after a step, and what the program alone makes of it.
-use Rattle.std.proofs.Common.{◌≡◌, ◌≢◌, ◌∙◌, inl, inr, suc, ◌+◌, ◌<◌, true, false, cond, ℕ, Bool, List, [], ◌∷◌, ◌++◌, length, Option, Some, None, refl, ap, sym, subst, eq-eqb, ne_eqb, append-nil, if◌then◌else◌}
+use Rattle.std.proofs.Common.{◌≡◌, ◌≢◌, ◌∙◌, inl, inr, suc, ◌<◌, true, false, cond, ℕ, Bool, List, [], ◌∷◌, ◌++◌, length, Option, Some, None, refl, ap, sym, subst, eq-eqb, ne_eqb, append-nil, if◌then◌else◌}
 use Rattle.std.specs.Prelude.{◌==◌, ◌||◌, is_some, slice_get}
 use Rattle.std.specs.List.{AllByRecursion}
 use Rattle.std.proofs.lemmas.List.Elements.{filter-append}
@@ -13,7 +13,7 @@ use Rattle.cloak_model.specs.Contexts.{domain_of}
 use Rattle.cloak_model.specs.DomainAlone.{DomainAlone, DomainPlace, Between, Other, Done, Stopped, handed_of, domain_taken, take_domain_item, domain_takes, take_ended, ended_part, domain_gone, domain_step_ended, slot_on, place_for}
 use Rattle.cloak_model.specs.DomainState.{Domain}
 use Rattle.cloak_model.specs.Ending.{settled_for, ask_end, cloak_for, handed_for, ended_domain}
-use Rattle.cloak_model.specs.Fork.{ask_forgets}
+use Rattle.cloak_model.specs.Fork.{forget_each}
 use Rattle.cloak_model.specs.Halves.{is_inward, inward_half}
 use Rattle.cloak_model.specs.Joint.{Turn, hart_in, turn_of, stop_of, domain_met, end_domain, refuses, ends_once, ends_resumed, ends_asked, answers_violation}
 use Rattle.cloak_model.specs.Opening.{numbers_below}
@@ -27,7 +27,8 @@ use Rattle.domain_isolation.proofs.InOrder.{same_some, decided, InOrder, order_e
 use Rattle.domain_isolation.proofs.InsideSteps.{memory_plain, turn_alone}
 use Rattle.domain_isolation.proofs.JointSteps.{HoldsPart, StepAlone}
 use Rattle.script_fold.proofs.Endings.{keeps_settled_for}
-use Rattle.script_fold.proofs.Scripts.{Forget}
+use Rattle.cloak_model.specs.Script.{Forget}
+use Rattle.cloak_model.specs.Script.{played}
 use Rattle.domain_isolation.proofs.Steady.{is_cloaked, Steady, steady_opens}
 
 -- Its pages.
@@ -38,12 +39,13 @@ pub record EndLeaves (d : ℕ) (w v : World) : Type 0 where
   pub items : (e : ℕ) → inward_half e (items_of v) ≡ inward_half e (items_of w)
   pub others : (e : ℕ) → e ≢ d → domain_pages e (plain_of v) ≡ domain_pages e (plain_of w)
 
-forgets_leave : (d : ℕ) (numbers : List ℕ) (w : World) → is_cloaked w ≡ true → EndLeaves d w (ask_forgets d numbers w).world
-unfolding ask_forgets
+forgets_leave : (d : ℕ) (numbers : List ℕ) (w : World) → is_cloaked w ≡ true →
+    EndLeaves d w (played (forget_each d numbers) w).world
+unfolding forget_each
 forgets_leave d [] w cloaked = record { form = cloaked; items = λ e. refl; others = λ e other. refl }
 forgets_leave d (n ∷ numbers) w cloaked =
     let v = (ask_forget d n w).world in
-    let one : LeavesOthers d w v = change_leaves {d = d} (Forget n) w cloaked in
+    let one : LeavesOthers d w v = change_leaves d (Forget d n) refl w cloaked in
     let rest = forgets_leave d numbers v (one.form ∙ cloaked) in
     record {
       form = rest.form;
@@ -52,13 +54,14 @@ forgets_leave d (n ∷ numbers) w cloaked =
     }
 
 forgets_same : (d : ℕ) (numbers : List ℕ) (w : World) → is_cloaked w ≡ true →
-    (ask_forgets d numbers (alone_with d (plain_of w) [])).world ≡ alone_with d (plain_of (ask_forgets d numbers w).world) []
-unfolding ask_forgets
+    (played (forget_each d numbers) (alone_with d (plain_of w) [])).world
+    ≡ alone_with d (plain_of (played (forget_each d numbers) w).world) []
+unfolding forget_each
 forgets_same d [] w cloaked = refl
 forgets_same d (n ∷ numbers) w cloaked =
     let v = (ask_forget d n w).world in
-    ap (λ (told : _). (ask_forgets d numbers told.world).world) (change_same {d = d} (Forget n) w [] cloaked)
-    ∙ forgets_same d numbers v ((change_leaves {d = d} (Forget n) w cloaked).form ∙ cloaked)
+    ap (λ (told : _). (played (forget_each d numbers) told.world).world) (change_same d (Forget d n) refl w [] cloaked)
+    ∙ forgets_same d numbers v ((change_leaves d (Forget d n) refl w cloaked).form ∙ cloaked)
 
 -- the memory of the joint machine after a domain's end
 abbrev pub end_world : ℕ → CloakedMemory → World
@@ -86,7 +89,8 @@ end_same d m =
     let w = Cloaked (cloak_for m d) in
     let v = settled_for d 0 (length m.ram) w in
     let s = keeps_settled_for Steady steady_opens.settles d 0 (length m.ram) w in
-    ap (λ (pages : PageId → List ℕ). (handed_of (ask_forgets d (numbers_below 16) (alone_with d pages [])).world).plain)
+    ap (λ (pages : PageId → List ℕ).
+    (handed_of (played (forget_each d (numbers_below 16)) (alone_with d pages [])).world).plain)
     (sym s.plain)
     ∙ ap (λ (x : World). (handed_of x).plain) (forgets_same d (numbers_below 16) v s.form)
 

@@ -22,18 +22,17 @@ use Rattle.cloak_model.specs.Cloaking.{CloakedMemory}
 use Rattle.cloak_model.specs.KernelStep.{ticked}
 use Rattle.cloak_model.specs.Leaving.{leave}
 use Rattle.cloak_model.specs.World.{World, Cloaked, plain_of, items_of, violation_of, is_missed}
-use Rattle.cloak_model.specs.Asking.{Told}
 use Rattle.cloak_model.specs.AskPages.{answer_item}
 use Rattle.cloak_model.specs.Contexts.{Context, context_at, domain_of, slot_of}
 use Rattle.cloak_model.specs.DomainState.{Domain}
 use Rattle.cloak_model.specs.Hypercalls.{Stepped}
-use Rattle.cloak_model.specs.DomainStep.{DomainStepped, interrupt, interrupt_if}
+use Rattle.cloak_model.specs.DomainStep.{domain_script, domain_step, interrupt, interrupt_if}
 use Rattle.cloak_model.specs.Parts.{Joint, DomainPart, domain_pages}
 use Rattle.cloak_model.specs.Joint.{Turn, quiet, hart_in, with_hart, cloak_of, memory_of, domain_ended, with_domain, after_domain_step, pages_for, interrupt_ended, after_interrupt, by_interrupt, inside_step, turn_of, stop_without_miss, by_running, left, not_running}
 use Rattle.cloak_model.specs.DomainAlone.{DomainAlone, Running, domain_taken, place_for, is_stopped, runs_on}
 use Rattle.domain_isolation.proofs.Ignoring.{half_taken, taken_half}
 use Rattle.script_fold.proofs.Runs.{MovesSlot, slot_kept, slot_left, has_left, runs_in}
-use Rattle.script_fold.proofs.Scripts.{played}
+use Rattle.cloak_model.specs.Script.{played}
 use Rattle.script_fold.proofs.StepScripts.{of_domain, step_scripted}
 use Rattle.domain_isolation.proofs.Steady.{is_cloaked, is_halted}
 use Rattle.domain_isolation.proofs.Answers.{IsServing}
@@ -267,30 +266,33 @@ played_alone_so : (d count : ℕ) (schedule : List ℕ) (k n : ℕ) (p : DomainP
     runs_in n old.control.contexts (slot_of ctx) ≡ true → violation_of w ≡ None →
     IsServing old.control.number w → items_of w ≡ [] → plain_of w ≡ j.memory.plain →
     StepAlone d count schedule k n p (Some ctx) (after_domain_step j n h (domain_of ctx)
-    (played (step_scripted (slot_of ctx) old).script w))
+    (played (domain_script (slot_of ctx) old) w))
 unfolding after_domain_step
 played_alone_so d count schedule k n p j h ctx old w order has is runs kept here quietly serving none plain =
     let e = domain_of ctx in
     let slot = slot_of ctx in
     let number : old.control.number ≡ e = order.numbers e old is in
     let S = step_scripted slot old in
-    let told = played S.script w in
+    let script = domain_script slot old in
+    let own_number = old.control.number in
+    let told = played script w in
     let new = told.answer.domain in
     let v = told.world in
     let g = told.answer.went in
-    let after = played_serving S.script w serving in
-    let answers = answers_of S.script w in
+    let after = played_serving own_number script S.own w serving in
+    let answers = answers_of script w in
     let m = memory_of v j.memory in
     let t = domain_ended (with_step e new m j) n h e v g in
     let q : DomainPart = record { domain = old; plain = domain_pages e j.memory.plain } in
     let plain' : t.joint.memory.plain ≡ plain_of v = ended_plain (with_step e new m j) n h e v g
     ∙ memory_plain v j.memory after.form in
-    let half = λ (x : ℕ). ended_items x (with_step e new m j) n h e v g ∙ played_items S.script w serving x
+    let half = λ (x : ℕ). ended_items x (with_step e new m j) n h e v g
+    ∙ played_items own_number script S.own w serving x
     ∙ ap (λ (l : List Item). inward_half x l ++ inward_half x (answer_items old.control.number answers)) none in
     let moves : MovesSlot slot (has_left g) old.control new.control = played_ends
-    (of_domain slot old) S.script w S.ends in
+    (of_domain slot old) script w S.ends in
     let stops : list_any is_stopped answers ≡ true → is_cut t ≡ true =
-    λ any. let halts = played_stopped (of_domain slot old) S.script w S.ends serving any in
+    λ any. let halts = played_stopped own_number (of_domain slot old) script S.own w S.ends serving.form any in
     ended_stops (with_step e new m j) n h e v g (memory_missed v j.memory after.form) halts.stopped halts.halted in
     let told_so : (P : DomainAlone → DomainPart → Type 0) →
     P (domain_taken old.control.number schedule (alone_at (part_in old w) (suc k) (Running slot []))
@@ -321,14 +323,15 @@ played_alone_so d count schedule k n p j h ctx old w order has is runs kept here
     (ended_order count j m n h v ctx old new g order is runs kept moves)
     (λ other. (
       half d ∙ answers_elsewhere old.control.number d answers (λ same. other (same ∙ number)),
-      ap (domain_pages d) plain' ∙ played_others S.script w serving d (λ same. other (same ∙ number))
+      ap (domain_pages d) plain'
+          ∙ played_others own_number script S.own w serving d (λ same. other (same ∙ number))
           ∙ ap (domain_pages d) plain,
     ))
     (told_so (λ s part. RestsAt (ended s) part (is_cut t))
-    (answers_rest schedule (suc k) slot old w serving (is_cut t) [] answers refl stops))
+    (answers_rest schedule (suc k) slot old w serving (is_cut t) answers refl stops))
     (λ some. told_so StoppedAt
-    (answers_open schedule (suc k) slot old w serving [] answers refl
-    (played_met (of_domain slot old) S.script w S.ends serving quietly
+    (answers_open schedule (suc k) slot old w serving answers refl
+    (played_met own_number (of_domain slot old) script S.own w S.ends serving quietly
     (ended_met (with_step e new m j) n h e v g some))))
     (subst (AllByRecursion IsOfStep) (sym (half e))
     (half_of_step e (answer_items old.control.number answers) (answers_of_step old.control.number answers)))
@@ -338,17 +341,15 @@ by_interrupt_alone : (due : Bool) (d count : ℕ) (schedule : List ℕ) (k n : �
     slice_get j.domains (domain_of ctx) ≡ Some old → inside_at j.harts n ≡ Some ctx → h.inside ≡ inside_at j.harts n →
     runs_in n old.control.contexts (slot_of ctx) ≡ true →
     StepAlone d count schedule k n p (Some ctx) (by_interrupt due j n h (domain_of ctx) (slot_of ctx) old)
-unfolding by_interrupt interrupt
+unfolding by_interrupt interrupt domain_step
 by_interrupt_alone true d count schedule k n p j h ctx old order has is runs kept here =
     interrupt_if_alone d count schedule k n p j h ctx old
     (context_at old.control.contexts (slot_of ctx)) order has is runs kept here refl
 by_interrupt_alone false d count schedule k n p j h ctx old order has is runs kept here =
     let e = domain_of ctx in
     let w = Cloaked (cloak_of j.memory h e (pages_for old (context_at old.control.contexts (slot_of ctx)))) in
-    subst (λ (told : Told DomainStepped). StepAlone d count schedule k n p (Some ctx) (after_domain_step j n h e told))
-    (sym ((step_scripted (slot_of ctx) old).plays w))
-    (played_alone_so d count schedule k n p j h ctx old w order has is runs kept here refl
-    (record { form = refl; regime = sym (order.numbers e old is) }) refl refl)
+    played_alone_so d count schedule k n p j h ctx old w order has is runs kept here refl
+    (record { form = refl; regime = sym (order.numbers e old is) }) refl refl
 
 -- a hart leaves a context that does not run on it
 gone_alone : (d count : ℕ) (schedule : List ℕ) (k n : ℕ) (p : DomainPart) (j : Joint) (h : Hart) (ctx : ℕ) →

@@ -15,7 +15,7 @@ use Rattle.cloak_model.specs.Bundle.{IsInGrammar}
 use Rattle.cloak_model.specs.Halves.{inward_half}
 use Rattle.cloak_model.specs.Exchange.{steps_items}
 use Rattle.cloak_model.specs.Record.{IsOfStep}
-use Rattle.cloak_model.specs.Opening.{Lack, Opened}
+use Rattle.cloak_model.specs.Opening.{Lack, RunEdge}
 use Rattle.cloak_model.specs.Parts.{Joint, DomainPart, domain_part}
 use Rattle.cloak_model.specs.Joint.{Moment, Turn, joint_step, stop_of, hart_in, turn_of, answers_violation}
 use Rattle.cloak_model.specs.Run.{Run, unless_stopped, turns_from, joint_after, closing, first_moment, run_of, exchange}
@@ -167,7 +167,7 @@ fronts (suc budget) d count schedule is k j s p n order has rests =
 
 -- a run of a bundle from a beginning, as it was opened
 pub record RunsOf (b : Bundle) (from : Beginning) (budget : ℕ) (r : Run) : Type 0 where
-  pub opened : Opened
+  pub opened : RunEdge
   pub is_opened : OpensOver b from opened
   pub is : run_of b budget opened ≡ r
 
@@ -175,7 +175,7 @@ run_value : Run → Result Run Lack → Run
 run_value d (Ok r) = r
 run_value d (Err lack) = d
 
-runs_of : (b : Bundle) (from : Beginning) (budget : ℕ) (r : Run) (made : Result Opened Lack) →
+runs_of : (b : Bundle) (from : Beginning) (budget : ℕ) (r : Run) (made : Result RunEdge Lack) →
     opening_from b from ≡ made → result_map_both (run_of b budget) (λ lack. lack) made ≡ Ok r → RunsOf b from budget r
 unfolding run_value
 runs_of b from budget r (Err lack) is made = absurd cc
@@ -201,7 +201,7 @@ unfolding domain_step_ended
 starts_between p = refl
 
 -- the front of the run: after the opening's items
-pub run_after : (b : Bundle) (d : ℕ) (p : Program) (from : Beginning) (budget : ℕ) (o : Opened) → IsInGrammar b →
+pub run_after : (b : Bundle) (d : ℕ) (p : Program) (from : Beginning) (budget : ℕ) (o : RunEdge) → IsInGrammar b →
     OpensOver b from o → slice_get b.programs d ≡ Some p →
     Fronts d b.kernel.schedule 0 o.joint (turns_from budget (first_moment b o.joint))
     (domain_taken d b.kernel.schedule (opened_with_part (part_from d from p)) o.items)

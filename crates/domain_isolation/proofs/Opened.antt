@@ -16,11 +16,11 @@ use Rattle.cloak_model.specs.Halves.{inward_half}
 use Rattle.cloak_model.specs.Beginning.{Beginning, Fresh, Stored}
 use Rattle.cloak_model.specs.Cloaking.{CloakedMemory, settle}
 use Rattle.cloak_model.specs.PageMoves.{place, place_with}
-use Rattle.cloak_model.specs.World.{Cloak}
+use Rattle.cloak_model.specs.World.{MidStep}
 use Rattle.cloak_model.specs.Contexts.{Context, started_contexts, new_context}
 use Rattle.cloak_model.specs.DomainState.{Domain, started_control, started_domain}
 use Rattle.cloak_model.specs.Parts.{Joint, DomainPart, domain_pages}
-use Rattle.cloak_model.specs.Opening.{started_harts, started_kernel, started_memory, started_domains, started_joint, program_page, numbers_below, is_placed, place_pages, place_programs, Opened}
+use Rattle.cloak_model.specs.Opening.{started_harts, started_kernel, started_memory, started_domains, started_joint, program_page, numbers_below, is_placed, place_pages, place_programs, RunEdge}
 use Rattle.cloak_model.specs.Joint.{hart_in, cloak_outside}
 use Rattle.cloak_model.specs.Run.{settled_below, closing}
 use Rattle.cloak_model.specs.DomainAlone.{started_page, started_part, with_files, part_from, is_hart}
@@ -236,7 +236,7 @@ shown_half : (d : ℕ) (ram : List (List ℕ)) (frames : List ℕ) →
 shown_half d ram [] = refl
 shown_half d ram (f ∷ frames) = shown_half d ram frames
 
-pub opened_half : (b : Bundle) (from : Beginning) (o : Opened) (d : ℕ) → OpensOver b from o → inward_half d o.items ≡ []
+pub opened_half : (b : Bundle) (from : Beginning) (o : RunEdge) (d : ℕ) → OpensOver b from o → inward_half d o.items ≡ []
 opened_half b from o d opened =
     ap (inward_half d) opened.items ∙ shown_half d opened.memory.ram
     (filter (is_placed b.programs) (numbers_below (length opened.memory.ram)))
@@ -252,7 +252,7 @@ bare_order b m = record {
       absurd (false≢true (sym ((domains_idle 0 d b.programs domain found).idle hart slot) ∙ on));
 }
 
-pub opened_order : (b : Bundle) (from : Beginning) (o : Opened) → OpensOver b from o →
+pub opened_order : (b : Bundle) (from : Beginning) (o : RunEdge) → OpensOver b from o →
     InOrder b.kernel.harts o.joint.harts o.joint.domains
 opened_order b from o opened =
     let bare : Joint = started_joint b opened.memory in
@@ -264,7 +264,7 @@ opened_zeros : (b : Bundle) (keys : Keys) (stream : Random) (e : ℕ) →
 unfolding started_memory
 opened_zeros b keys stream e = refl
 
-bare_has : (b : Bundle) (from : Beginning) (o : Opened) (d : ℕ) (p : Program) (opened : OpensOver b from o) →
+bare_has : (b : Bundle) (from : Beginning) (o : RunEdge) (d : ℕ) (p : Program) (opened : OpensOver b from o) →
     slice_get b.programs d ≡ Some p → HoldsPart d (started_joint b opened.memory) (started_part d p)
 unfolding started_joint
 bare_has b from o d p opened found =
@@ -284,7 +284,7 @@ unfolding with_files
 part_is d (Fresh stream) p = refl
 part_is d (Stored keys stream files) p = refl
 
-pub opened_has : (b : Bundle) (from : Beginning) (o : Opened) (d : ℕ) (p : Program) → OpensOver b from o →
+pub opened_has : (b : Bundle) (from : Beginning) (o : RunEdge) (d : ℕ) (p : Program) → OpensOver b from o →
     slice_get b.programs d ≡ Some p → HoldsPart d o.joint (part_from d from p)
 opened_has b from o d p opened found =
     subst (HoldsPart d o.joint) (part_is d from p)
@@ -293,11 +293,11 @@ opened_has b from o d p opened found =
 
 -- The closing.
 
-record LeavesDomain (d : ℕ) (c c' : Cloak) : Type 0 where
+record LeavesDomain (d : ℕ) (c c' : MidStep) : Type 0 where
   pub plain : c'.memory.plain ≡ c.memory.plain
   pub half : inward_half d c'.items ≡ inward_half d c.items
 
-settles_below : (d n : ℕ) (c : Cloak) → LeavesDomain d c (settled_below n c)
+settles_below : (d n : ℕ) (c : MidStep) → LeavesDomain d c (settled_below n c)
 unfolding settled_below
 settles_below d zero c = record { plain = refl; half = refl }
 settles_below d (suc n) c =

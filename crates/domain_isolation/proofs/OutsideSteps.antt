@@ -17,7 +17,7 @@ use Rattle.cloak_model.specs.Halves.{is_inward, inward_half}
 use Rattle.cloak_model.specs.Record.{IsOfStep}
 use Rattle.cloak_model.specs.Cloaking.{CloakedMemory, AfterSettling, settle, seen_in}
 use Rattle.cloak_model.specs.Ahead.{is_owed, settle_found, settle_while, settle_touched, made_after, settled_step}
-use Rattle.cloak_model.specs.World.{Cloak, Flat, items_of}
+use Rattle.cloak_model.specs.World.{MidStep, Flat, items_of}
 use Rattle.cloak_model.specs.Contexts.{Admitted, context_at, domain_of, slot_of, admit}
 use Rattle.cloak_model.specs.DomainState.{Domain}
 use Rattle.cloak_model.specs.DomainStep.{resume_slot}
@@ -51,17 +51,17 @@ touched_plain : (h : Hart) (disk : List ℕ) (m : CloakedMemory) → (settle_tou
 unfolding settle_touched
 touched_plain h disk m = while_plain _ _ m
 
-settled_step_plain : (h : Hart) (disk : List ℕ) (c : Cloak) (m : CloakedMemory) →
+settled_step_plain : (h : Hart) (disk : List ℕ) (c : MidStep) (m : CloakedMemory) →
     (memory_of (settled_step h disk c).world m).plain ≡ c.memory.plain
 unfolding settled_step made_after
 settled_step_plain h disk c m = touched_plain h disk c.memory
 
-settled_step_items : (d : ℕ) (h : Hart) (disk : List ℕ) (c : Cloak) →
+settled_step_items : (d : ℕ) (h : Hart) (disk : List ℕ) (c : MidStep) →
     inward_half d (items_of (settled_step h disk c).world) ≡ inward_half d c.items
 unfolding settled_step made_after
 settled_step_items d h disk c = ciphers_told d c.items (settle_touched h disk c.memory).ciphers
 
-settled_step_inside : (h : Hart) (disk : List ℕ) (c : Cloak) →
+settled_step_inside : (h : Hart) (disk : List ℕ) (c : MidStep) →
     let a = (settled_step h disk c).answer in a.hart.inside ≡ inside_after a.ending h.inside
 unfolding settled_step made_after
 settled_step_inside h disk c = kernel_step_inside h disk (Flat (seen_in (settle_touched h disk c.memory).memory))

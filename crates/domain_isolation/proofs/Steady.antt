@@ -17,7 +17,7 @@ use Rattle.cloak_model.specs.declared.item.Item.{Item}
 use Rattle.cloak_model.specs.Events.{Event}
 use Rattle.cloak_model.specs.Ledger.{vector_of}
 use Rattle.cloak_model.specs.Halves.{is_inward, inward_half}
-use Rattle.cloak_model.specs.Cloaking.{CloakedMemory, AfterSettling, AfterOffer, Offer, Ready, Mismatch, Missed, settle, settle_if, settle_owed, settle_frame_if, owing_frame, owes, owed_in, compared, unless_missed, offer}
+use Rattle.cloak_model.specs.Cloaking.{CloakedMemory, AfterSettling, AfterOffer, OfferEnd, Ready, Mismatch, Missed, settle, settle_if, settle_owed, settle_frame_if, owing_frame, owes, owed_in, compared, unless_missed, offer}
 use Rattle.cloak_model.specs.World.{World, Flat, Cloaked, Alone, plain_of, regime_of, items_of, violation_of, is_missed, noted, stored_at, settled, written, cipher_items}
 use Rattle.cloak_model.specs.Asking.{Told, Asking}
 use Rattle.cloak_model.specs.Ask.{opened}
@@ -264,7 +264,7 @@ replied_drawn : (ask : Asking Answer) (w : World) → is_cloaked w ≡ true → 
 unfolding if_drawn
 replied_drawn ask w cloaked next = replied_if_drawn (is_missed w) ask w refl cloaked next
 
-replied_offered : (q : PageId) (va : ℕ) (kind : Kind) (g : ℕ) (o : Offer) (w : World) → is_cloaked w ≡ true →
+replied_offered : (q : PageId) (va : ℕ) (kind : Kind) (g : ℕ) (o : OfferEnd) (w : World) → is_cloaked w ≡ true →
     (o ≡ Missed → is_missed w ≡ true) → Replied w (offered_by q va kind g o w)
 unfolding offered_by replies
 replied_offered q va kind g Ready w cloaked marked =

@@ -8,7 +8,7 @@ use Rattle.cloak_machine.specs.Standing.{StandsForMoment}
 use Rattle.cloak_model.specs.declared.image.Bundle.{Bundle}
 use Rattle.cloak_model.specs.Exchange.{Piece, Emits}
 use Rattle.cloak_model.specs.Joint.{Moment}
-use Rattle.cloak_model.specs.Opening.{Opened}
+use Rattle.cloak_model.specs.Opening.{RunEdge}
 use Rattle.cloak_model.specs.Run.{Run, closing, first_moment, last_stop, run_of, turns_from}
 use Rattle.frozen_state.specs.Continuing.{first_pieces}
 use Rattle.command_parts.specs.declared.status.Status.{Status}
@@ -20,7 +20,7 @@ use Rattle.frozen_commands.specs.Freezing.{WritesFirst, due_if, is_stopped}
 
 -- nothing more was given once the outlet failed, whether a step would have stopped the run or not
 front_if : {E : Type 0} {gave : E → E → List Piece → Type 0} {failed : Bool} {e f : E} {machine : Machine}
-    {stopped : Option Stop} (stops : Bool) (b : Bundle) (steps : ℕ) (o : Opened) →
+    {stopped : Option Stop} (stops : Bool) (b : Bundle) (steps : ℕ) (o : RunEdge) →
     BeginsRun gave failed e f machine stopped b o (turns_from steps (first_moment b o.joint)) → failed ≡ true →
     ((ps : List Piece) → Emits gave f f ps) → Emits gave e f (due_if stops (run_of b steps o))
 unfolding run_of first_pieces
@@ -29,7 +29,7 @@ front_if {E} {gave} {failed} {e} {f} {machine} {stopped} true b steps o begins b
 front_if {E} {gave} {failed} {e} {f} {machine} {stopped} false b steps o begins broken none = begins.emits
 
 pub first_front : {E : Type 0} {gave : E → E → List Piece → Type 0} {failed : Bool} {e f : E} {machine : Machine}
-    {stopped : Option Stop} (b : Bundle) (steps : ℕ) (o : Opened) →
+    {stopped : Option Stop} (b : Bundle) (steps : ℕ) (o : RunEdge) →
     BeginsRun gave failed e f machine stopped b o (turns_from steps (first_moment b o.joint)) → failed ≡ true →
     ((ps : List Piece) → Emits gave f f ps) → WritesFirst gave e f first.Failed b (run_of b steps o)
 first_front {E} {gave} {failed} {e} {f} {machine} {stopped} b steps o begins broken none =
@@ -37,7 +37,7 @@ first_front {E} {gave} {failed} {e} {f} {machine} {stopped} b steps o begins bro
 
 -- no step stopped the run
 pub first_reached : {E : Type 0} {gave : E → E → List Piece → Type 0} {failed : Bool} {e f : E} {machine : Machine}
-    {stopped : Option Stop} (b : Bundle) (steps : ℕ) (o : Opened) →
+    {stopped : Option Stop} (b : Bundle) (steps : ℕ) (o : RunEdge) →
     BeginsRun gave failed e f machine stopped b o (turns_from steps (first_moment b o.joint)) → failed ≡ false →
     stopped ≡ None → WritesFirst gave e f (first.Reached machine) b (run_of b steps o)
 unfolding run_of first_pieces
@@ -52,7 +52,7 @@ first_reached {E} {gave} {failed} {e} {f} {machine} {stopped} b steps o begins w
 
 -- a step stopped it
 pub first_ended : {E : Type 0} {gave : E → E → List Piece → Type 0} {failed : Bool} {e f h : E} {machine : Machine}
-    {stopped : Option Stop} {cause : Stop} {given : Status} (b : Bundle) (steps : ℕ) (o : Opened) →
+    {stopped : Option Stop} {cause : Stop} {given : Status} (b : Bundle) (steps : ℕ) (o : RunEdge) →
     BeginsRun gave failed e f machine stopped b o (turns_from steps (first_moment b o.joint)) → failed ≡ false →
     stopped ≡ Some cause →
     ((m : Moment) → StandsForMoment machine m → EndsRun gave f h given cause m.steps (closing m.joint)) →

@@ -9,7 +9,7 @@ use Rattle.cloak_base.specs.declared.causes.Stop.TheVariants as stop
 use Rattle.cloak_machine.specs.declared.machine.Machine.{Machine}
 use Rattle.cloak_model.specs.Beginning.{Fresh}
 use Rattle.cloak_model.specs.Exchange.{Piece, recorded, shown, recorded_bytes, shown_bytes}
-use Rattle.cloak_model.specs.Opening.{Lack, Opened}
+use Rattle.cloak_model.specs.Opening.{Lack, RunEdge}
 use Rattle.cloak_model.specs.Run.{Run, due, first_moment, joint_after, joint_run, most_steps, run_of, turns_from}
 use Rattle.command_words.specs.Command as spec
 use Rattle.frozen_state.specs.declared.frozen.Frozen.{Frozen}
@@ -30,7 +30,8 @@ use Rattle.command_parts.specs.Refusing.{Refuses}
 use Rattle.command_parts.proofs.FaultFacts.{raised, risen}
 use Rattle.run_command.specs.Outlet.{WroteAll, WroteFront, pieces_left}
 use Rattle.run_command.specs.Recording.{GrowsSome}
-use Rattle.run_command.specs.Running.{IsStatusOfStop, NoClashYet, run_status, status_of, unless_refused}
+use Rattle.run_command.specs.Running.{IsStatusOfStop, run_status, status_of, unless_refused}
+use Rattle.cloak_model.specs.Run.{NoClashYet}
 use Rattle.run_command.proofs.BegunFacts.{AreLow, AtPieces, HasBegunRecord, at_pieces, fault_since, front_of_text, grows_from}
 use Rattle.run_command.proofs.Lawful.{is_lawful}
 use Rattle.frozen_commands.specs.declared.first.First.{First}
@@ -92,7 +93,7 @@ runs : {S O : Type 0} {names : spec.FreezeNames} {steps : ℕ} {randomness : spe
     {before : Outside S O} (asks : Asks names steps randomness prepared before) →
     joint_run asks.is.sources.bundle asks.is.sources.stream steps ≡ Ok (run_for asks)
 runs {S} {O} {names} {steps} {randomness} {prepared} {before} asks =
-    ap (λ (opened : Result Opened Lack). result_map_both (run_of asks.is.sources.bundle steps) (λ lack. lack) opened)
+    ap (λ (opened : Result RunEdge Lack). result_map_both (run_of asks.is.sources.bundle steps) (λ lack. lack) opened)
     asks.is.opens
 
 reaches : {S O : Type 0} {names : spec.FreezeNames} {steps : ℕ} {randomness : spec.Randomness} {prepared : PreparedFreeze}

@@ -14,7 +14,8 @@ use Rattle.cloak_model.specs.Report.{report}
 use Rattle.cloak_model.specs.Run.{any_refused, cause_of, closing, joint_after, last_stop, turns_from, turns_pieces}
 use Rattle.frozen_state.specs.Continuing.{due_after, next_moment, pieces_after, run_on, without_past}
 use Rattle.command_parts.specs.declared.status.Status.{Status}
-use Rattle.run_command.specs.Running.{EndsRun, NoClash, NoClashYet, RunsSteps, last_pieces, moment_behind, status_of}
+use Rattle.run_command.specs.Running.{EndsRun, RunsSteps, last_pieces, moment_behind, status_of}
+use Rattle.cloak_model.specs.Run.{NoClash, NoClashYet}
 use Rattle.run_command.proofs.RunFacts.{emits_as}
 use Rattle.cloaked_side.proofs.Emitting.{emits_then}
 use Rattle.joint_machine.proofs.Clashed.{closing_unclashed}

@@ -9,7 +9,7 @@ use Rattle.cloak_model.specs.declared.image.Bundle.{Bundle}
 use Rattle.cloak_model.specs.Beginning.{Fresh}
 use Rattle.cloak_model.specs.Bundle.{IsInGrammar}
 use Rattle.cloak_model.specs.Joint.{Turn}
-use Rattle.cloak_model.specs.Opening.{Opened}
+use Rattle.cloak_model.specs.Opening.{RunEdge}
 use Rattle.cloak_model.specs.Parts.{Joint}
 use Rattle.cloak_model.specs.Run.{Run, first_moment, joint_after, joint_run, last_stop, most_steps, run_of, turns_from}
 use Rattle.frozen_law.specs.Missed.{NoneStopped}
@@ -30,7 +30,8 @@ use Rattle.io_traits.specs.declared.shelf.Shelf as shelves
 use Rattle.command_parts.specs.declared.status.Status.{Status}
 use Rattle.command_parts.specs.Freezing.{FreezeSources}
 use Rattle.command_parts.specs.Outside.{Outside}
-use Rattle.run_command.specs.Running.{NoClashYet, moment_behind}
+use Rattle.run_command.specs.Running.{moment_behind}
+use Rattle.cloak_model.specs.Run.{NoClashYet}
 use Rattle.thaw_law.proofs.TwoParts.{runs_go_on}
 use Rattle.frozen_commands.specs.declared.freezing.ForSaving.{ForSaving}
 use Rattle.frozen_commands.specs.FreezeAnswering.{IsState}
@@ -42,7 +43,7 @@ none_left None is = refl
 none_left (Some cause) is = absurd (let clash : true ≡ false = is in cc)
 
 -- all of its steps were made
-pub all_made : (b : Bundle) (steps : ℕ) (o : Opened) → is_stopped (run_of b steps o) ≡ false →
+pub all_made : (b : Bundle) (steps : ℕ) (o : RunEdge) → is_stopped (run_of b steps o) ≡ false →
     length (run_of b steps o).turns ≡ steps
 unfolding run_of
 all_made b steps o goes =

@@ -23,7 +23,8 @@ use Rattle.command_parts.specs.Refusing.{Refuses}
 use Rattle.command_parts.specs.Thawing.{ThawSources}
 use Rattle.command_parts.proofs.FaultFacts.{raised}
 use Rattle.run_command.specs.Outlet.{WroteAll, WroteFront, pieces_left}
-use Rattle.run_command.specs.Running.{IsStatusOfStop, NoClash, status_of}
+use Rattle.run_command.specs.Running.{IsStatusOfStop, status_of}
+use Rattle.cloak_model.specs.Run.{NoClash}
 use Rattle.run_command.proofs.BegunFacts.{AreLow, HasBegunRecord, at_pieces, fault_since, grows_from}
 use Rattle.frozen_commands.specs.ThawAnswering.{HasThawed, KeepsThawedFiles, ThawAnswers, Thaws}
 use Rattle.frozen_commands.specs.Thawing.{IsThawed, RecordsRest}

@@ -20,7 +20,8 @@ use Rattle.command_parts.specs.NoRun.{IsRefused, LineFailed}
 use Rattle.command_parts.specs.Outside.{FilesOutside, NothingRose, Outside, Raised}
 use Rattle.run_command.specs.Answering.{IsLawful}
 use Rattle.run_command.specs.Recording.{FailedSome, GrowsSome}
-use Rattle.run_command.specs.Running.{IsStatusOfStop, NoClashYet, run_status}
+use Rattle.run_command.specs.Running.{IsStatusOfStop, run_status}
+use Rattle.cloak_model.specs.Run.{NoClashYet}
 use Rattle.frozen_commands.specs.declared.freezing.PreparedFreeze.{PreparedFreeze}
 use Rattle.frozen_commands.specs.Freezing.{PreparesFrozen, due_frozen, is_stopped, last_joint}
 use Rattle.frozen_commands.specs.Saving.{lacking_line}

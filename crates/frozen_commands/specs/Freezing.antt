@@ -3,7 +3,7 @@ use Rattle.std.specs.Prelude.{ℕ, ◌≡◌, ◌<◌, true, false, is_some, Boo
 use Rattle.sha2.specs.Sha256.{sha256}
 use Rattle.cloak_model.specs.declared.image.Bundle.{Bundle}
 use Rattle.cloak_model.specs.Exchange.{Piece, Emits}
-use Rattle.cloak_model.specs.Opening.{Opened, opening}
+use Rattle.cloak_model.specs.Opening.{RunEdge, opening}
 use Rattle.cloak_model.specs.Parts.{Joint}
 use Rattle.cloak_model.specs.Run.{Run, due, first_moment, joint_after, last_stop}
 use Rattle.cloak_machine.specs.Standing.{StandsForMoment, placings_of}
@@ -57,7 +57,7 @@ pub record IsPrepared (names : spec.FreezeNames) (randomness : spec.Randomness) 
     (prepared : PreparedFreeze) : Type 0 where
   pub sources : FreezeSources
   pub asks : AsksFrozen names randomness held sources
-  pub opened : Opened
+  pub opened : RunEdge
   pub opens : opening sources.bundle sources.stream ≡ Ok opened
   pub stands : StandsForMoment prepared.machine (first_moment sources.bundle opened.joint)
   pub placings : placings_of prepared.machine ≡ map placing sources.bundle.programs

@@ -15,7 +15,8 @@ use Rattle.command_parts.specs.NoRun.{IsRefused, LineFailed}
 use Rattle.command_parts.specs.Outside.{FilesOutside, NothingRose, Outside, Raised}
 use Rattle.command_parts.specs.Thawing.{AsksThawed, ThawSources}
 use Rattle.run_command.specs.Recording.{FailedSome, GrowsSome}
-use Rattle.run_command.specs.Running.{IsStatusOfStop, NoClash, run_status}
+use Rattle.run_command.specs.Running.{IsStatusOfStop, run_status}
+use Rattle.cloak_model.specs.Run.{NoClash}
 use Rattle.cloak_machine.specs.declared.machine.Machine.{Machine}
 use Rattle.frozen_commands.specs.Thawing.{PreparesThawed}
 use Rattle.frozen_commands.specs.Writing.{BeginsNoRecord, HasWritten, IsCutOff}

@@ -3,13 +3,13 @@ ghost use Rattle.std.specs.Prelude.{◌≡◌, ◌≤◌, Ok, map};
 ghost use Rattle.cloak_model.specs.declared.image.Bundle.{Bundle};
 ghost use Rattle.cloak_model.specs.Beginning.{Beginning, opening_from};
 ghost use Rattle.cloak_model.specs.Exchange.{EmitsSome};
-ghost use Rattle.cloak_model.specs.Opening.{Opened};
+ghost use Rattle.cloak_model.specs.Opening.{RunEdge};
 ghost use Rattle.cloak_model.specs.Run.{first_moment, joint_after, most_steps, run_of, turns_from};
 ghost use Rattle.cloak_machine.specs.Standing.{StandsForMoment, placings_of, steps_made};
 ghost use Rattle.joint_machine.specs.Placings.{placing};
 ghost use Rattle.command_parts.specs.Outside.{outside};
 ghost use Rattle.run_command.specs.Outlet.{Gave};
-ghost use Rattle.run_command.specs.Running.{NoClashYet};
+ghost use Rattle.cloak_model.specs.Run.{NoClashYet};
 ghost use Rattle.frozen_commands.specs.Freezing.{EndsAsSome, RecordsFirst, WritesFirst, WritesSome, is_failed};
 
 use cloak_machine::Machine;
@@ -42,7 +42,7 @@ fn write_first<S: Shelf, O: Sink>(
     ensures emits_some { EmitsSome (Gave S.Shelf O.Sink) outlet.old outlet.new }
     ensures failed { outlet.new.pen.failed ≡ is_failed result }
     ensures some_stop { EndsAsSome result }
-    ensures writes { (b : Bundle) (from : Beginning) (o : Opened) → opening_from b from ≡ Ok o →
+    ensures writes { (b : Bundle) (from : Beginning) (o : RunEdge) → opening_from b from ≡ Ok o →
         placings_of machine ≡ map placing b.programs → StandsForMoment machine (first_moment b o.joint) →
         NoClashYet (joint_after o.joint (turns_from steps (first_moment b o.joint))) →
         WritesFirst (Gave S.Shelf O.Sink) outlet.old outlet.new result b (run_of b steps o) }
@@ -76,7 +76,7 @@ pub(crate) fn record_first<S: Shelf, O: Sink>(
     ensures some { WritesSome name.now result
         (outside S.Shelf O.Sink shelf.old out.old) (outside S.Shelf O.Sink shelf.new out.new) }
     ensures some_stop { EndsAsSome result }
-    ensures records { (b : Bundle) (from : Beginning) (o : Opened) → opening_from b from ≡ Ok o →
+    ensures records { (b : Bundle) (from : Beginning) (o : RunEdge) → opening_from b from ≡ Ok o →
         placings_of machine ≡ map placing b.programs → StandsForMoment machine (first_moment b o.joint) →
         NoClashYet (joint_after o.joint (turns_from steps (first_moment b o.joint))) →
         RecordsFirst name.now (outside S.Shelf O.Sink shelf.old out.old) (outside S.Shelf O.Sink shelf.new out.new)

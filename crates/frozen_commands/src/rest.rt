@@ -8,7 +8,8 @@ ghost use Rattle.cloak_machine.specs.Standing.{StandsForMoment, steps_made};
 ghost use Rattle.frozen_state.specs.Continuing.{next_moment, run_on};
 ghost use Rattle.command_parts.specs.Outside.{outside};
 ghost use Rattle.run_command.specs.Outlet.{Gave};
-ghost use Rattle.run_command.specs.Running.{IsStatusOfStop, NoClash};
+ghost use Rattle.run_command.specs.Running.{IsStatusOfStop};
+ghost use Rattle.cloak_model.specs.Run.{NoClash};
 ghost use Rattle.frozen_commands.specs.Thawing.{RecordsRest, RestAnswers, WritesRest, WritesSomeRest};
 
 use cloak_base::Stop;

@@ -6,7 +6,7 @@ use Rattle.cloak_base.specs.Random.{Random}
 use Rattle.cloak_base.specs.declared.names.PageId.{PageId}
 use Rattle.cloak_model.specs.declared.image.Bundle.{Bundle}
 use Rattle.cloak_model.specs.declared.item.Item.{Item}
-use Rattle.cloak_model.specs.AskPages.{ask_clear, ask_copy, ask_forget}
+use Rattle.cloak_model.specs.AskPages.{ask_copy, ask_forget}
 use Rattle.cloak_model.specs.Beginning.{Beginning, opening_from}
 use Rattle.cloak_model.specs.Cloaking.{CloakedMemory, AfterSettling, AfterOffer, Ready, Mismatch, owed_in, settle_owed, settle_if, settle, settle_frame_if, owing_frame, owes, with_owed, with_comparison, taken, compared, unless_missed, offer}
 use Rattle.cloak_model.specs.DomainState.{Domain}
@@ -14,7 +14,7 @@ use Rattle.cloak_model.specs.DomainStep.{domain_step}
 use Rattle.cloak_model.specs.Events.{Event}
 use Rattle.cloak_model.specs.Joint.{Moment, joint_step}
 use Rattle.cloak_model.specs.Ledger.{Keys, vector_of}
-use Rattle.cloak_model.specs.Opening.{Opened, started_joint, started_ledger, started_memory}
+use Rattle.cloak_model.specs.Opening.{RunEdge, started_joint, started_ledger, started_memory}
 use Rattle.cloak_model.specs.PageMoves.{copy_pages, drop_pages, place_with}
 use Rattle.cloak_model.specs.Parts.{Joint}
 use Rattle.cloak_model.specs.Run.{Run, run_from}
@@ -25,7 +25,7 @@ use Rattle.kernel_isolation.proofs.FilesAdded.{IsGiven, given_keeps}
 use Rattle.kernel_isolation.proofs.Opened.{is_opened}
 use Rattle.kernel_isolation.proofs.Turns.{IsSteady, turn_is_alone}
 use Rattle.script_fold.proofs.Folding.{step_keeps}
-use Rattle.script_fold.proofs.Questions.{Kept, settles_of, replies_of, keeps_clear}
+use Rattle.script_fold.proofs.Questions.{Kept, settles_of}
 use Rattle.script_fold.proofs.ByQuestions.{kept_by}
 use Rattle.script_fold.proofs.Endings.{keeps_end}
 use Rattle.kernel_isolation.proofs.Shown.{either}
@@ -94,50 +94,50 @@ offer_count n q g write m here =
 abbrev CountIn : ℕ → World → Type 0
 CountIn n w = InWorld (HasCount n) w
 
-record Counts (w v : World) : Type 0 where
+record CountsOwed (w v : World) : Type 0 where
   pub by : (n : ℕ) → CountIn n w → CountIn n v
 
-same : (w : World) → Counts w w
+same : (w : World) → CountsOwed w w
 same w = record { by = λ n here. here }
 
-settled_world : (f : ℕ) (w : World) → Counts w (settled f w)
+settled_world : (f : ℕ) (w : World) → CountsOwed w (settled f w)
 settled_world f (Flat seen) = same (Flat seen)
 settled_world f (Cloaked c) = record { by = λ n here. settle_count n f c.memory here }
 settled_world f (Alone h) = same (Alone h)
 
-stored_world : (pa width value : ℕ) (w : World) → Counts w (stored_at pa width value w)
+stored_world : (pa width value : ℕ) (w : World) → CountsOwed w (stored_at pa width value w)
 stored_world pa width value (Flat seen) = record { by = λ n here. tt }
 stored_world pa width value (Cloaked c) = record { by = λ n here. here }
 stored_world pa width value (Alone h) = same (Alone h)
 
-noted_world : (events : List Event) (w : World) → Counts w (noted events w)
+noted_world : (events : List Event) (w : World) → CountsOwed w (noted events w)
 noted_world events (Flat seen) = same (Flat seen)
 noted_world events (Cloaked c) = record { by = λ n here. here }
 noted_world events (Alone h) = same (Alone h)
 
-written_world : (i : Item) (w : World) → Counts w (written i w)
+written_world : (i : Item) (w : World) → CountsOwed w (written i w)
 written_world i (Flat seen) = same (Flat seen)
 written_world i (Cloaked c) = record { by = λ n here. here }
 written_world i (Alone h) = same (Alone h)
 
-plain_world : (domain : ℕ) (plain : PageId → List ℕ) (w : World) → Counts w (with_plain domain plain w)
+plain_world : (domain : ℕ) (plain : PageId → List ℕ) (w : World) → CountsOwed w (with_plain domain plain w)
 plain_world domain plain (Flat seen) = same (Flat seen)
 plain_world domain plain (Cloaked c) = record { by = λ n here. here }
 plain_world domain plain (Alone h) = record { by = λ n here. tt }
 
-copy_world : (d from to : ℕ) (w : World) → Counts w (ask_copy d from to w).world
+copy_world : (d from to : ℕ) (w : World) → CountsOwed w (ask_copy d from to w).world
 unfolding ask_copy copy_pages
 copy_world d from to (Flat seen) = same (Flat seen)
 copy_world d from to (Cloaked c) = record { by = λ n here. here }
 copy_world d from to (Alone h) = record { by = λ n here. tt }
 
-forget_world : (d n : ℕ) (w : World) → Counts w (ask_forget d n w).world
+forget_world : (d n : ℕ) (w : World) → CountsOwed w (ask_forget d n w).world
 unfolding ask_forget drop_pages
 forget_world d n (Flat seen) = same (Flat seen)
 forget_world d n (Cloaked c) = record { by = λ k here. here }
 forget_world d n (Alone h) = record { by = λ k here. tt }
 
-changes : Kept Counts
+changes : Kept CountsOwed
 changes = record {
   same = same;
   chained = λ u v w p q. record { by = λ n here. q.by n (p.by n here) };
@@ -152,12 +152,8 @@ changes = record {
   unfit = λ h. record { by = λ n here. tt };
 }
 
-program_step : (slot : ℕ) (d : Domain) (w : World) → Counts w (domain_step slot d w).world
-program_step slot d w = step_keeps Counts slot d (kept_by Counts changes copy_world forget_world d.control.number) w
-
-pub clear_count : (domain : ℕ) (marked : List Bool) (n : ℕ) (w : World) → CountIn n w →
-    CountIn n (ask_clear domain marked w).world
-clear_count domain marked n w here = (keeps_clear Counts (replies_of Counts changes) domain marked w).by n here
+program_step : (slot : ℕ) (d : Domain) (w : World) → CountsOwed w (domain_step slot d w).world
+program_step slot d w = step_keeps CountsOwed slot d (kept_by CountsOwed changes copy_world forget_world d.control.number) w
 
 count_carries : (n : ℕ) → Carries (HasCount n) (HasCount n)
 count_carries n = record {
@@ -166,7 +162,7 @@ count_carries n = record {
   stepped = λ slot was c places here. (program_step slot was (Cloaked c)).by n here;
   seen = λ s m here. here;
   rooted = λ root m here. here;
-  ended = λ d m here. (keeps_end Counts (settles_of Counts changes) forget_world d _).by n here;
+  ended = λ d m here. (keeps_end CountsOwed (settles_of CountsOwed changes) forget_world d _).by n here;
 }
 
 -- The run.
@@ -201,7 +197,7 @@ joint_count n b m here = here
 given_count : (n : ℕ) (f : FileContents) (x y : Joint) → IsGiven f x y → JointCount n x → JointCount n y
 given_count n f x y given here = ap length (given_keeps f x y given).memory.owed ∙ here
 
-opened_frames : (b : Bundle) (from : Beginning) (o : Opened) → opening_from b from ≡ Ok o →
+opened_frames : (b : Bundle) (from : Beginning) (o : RunEdge) → opening_from b from ≡ Ok o →
     HasFrames b.kernel.frames o.joint
 opened_frames b from o opens =
     let n = b.kernel.frames in

@@ -12,7 +12,7 @@ use Rattle.cloak_model.specs.Bundle.{IsProgramIn, IsInGrammar}
 use Rattle.cloak_model.specs.Cloaking.{CloakedMemory}
 use Rattle.cloak_model.specs.Joint.{Moment, Turn, joint_step, after_turn, stop_of}
 use Rattle.cloak_model.specs.Ledger.{Keys, vector_of}
-use Rattle.cloak_model.specs.Opening.{Opened, started_joint, started_ledger, started_memory, place_pages, place_programs}
+use Rattle.cloak_model.specs.Opening.{RunEdge, started_joint, started_ledger, started_memory, place_pages, place_programs}
 use Rattle.cloak_model.specs.PageMoves.{place, place_with}
 use Rattle.cloak_model.specs.Parts.{Joint}
 use Rattle.cloak_model.specs.Run.{Run, run_from, run_of, turns_from, first_moment, joint_after}
@@ -136,7 +136,7 @@ joint_few : (n : ℕ) (b : Bundle) (m : CloakedMemory) → AreFew n m → AreFew
 unfolding started_joint
 joint_few n b m few = few
 
-opened_few : (b : Bundle) (from : Beginning) (o : Opened) → IsInGrammar b → opening_from b from ≡ Ok o → IsFew 0 o.joint
+opened_few : (b : Bundle) (from : Beginning) (o : RunEdge) → IsInGrammar b → opening_from b from ≡ Ok o → IsFew 0 o.joint
 opened_few b from o grammar opens =
     let over = opens_over b from o opens in
     let keeps = added_keep (files_of from) (started_joint b over.memory) o.joint over.added in
@@ -157,7 +157,7 @@ opened_few b from o grammar opens =
 abbrev FewAtAll : Run → Type 0
 FewAtAll r = (n : ℕ) → IsFew n (joint_until n r)
 
-run_few : (b : Bundle) (budget : ℕ) (o : Opened) → IsFew 0 o.joint → FewAtAll (run_of b budget o)
+run_few : (b : Bundle) (budget : ℕ) (o : RunEdge) → IsFew 0 o.joint → FewAtAll (run_of b budget o)
 unfolding run_of
 run_few b budget o here n =
     let same : 0 + n ≡ n = omega arith in

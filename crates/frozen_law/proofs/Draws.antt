@@ -1,13 +1,10 @@
 -- Draws, and frames that are owed a page: settling takes none more of both together, and an offer one.
-use Rattle.std.proofs.Common.{◌≡◌, ℕ, zero, suc, ◌+◌, ◌-◌, ◌^◌, ◌≤◌, Bool, true, false, List, [], ◌∷◌, slice_set, slice_index_or, Option, Some, None, IfSome, Result, Ok, Err, refl, ap, arith}
+use Rattle.std.proofs.Common.{◌≡◌, ℕ, zero, suc, ◌+◌, ◌-◌, ◌^◌, ◌≤◌, Bool, List, [], ◌∷◌, slice_set, slice_index_or, Option, Some, None, refl, ap, arith}
 use Rattle.std.specs.Str.{bytes_eq}
 use Rattle.std.proofs.Math.Nat.{min-le_left}
 use Rattle.cloak_base.specs.Random.{Random}
 use Rattle.cloak_base.specs.declared.names.PageId.{PageId}
-use Rattle.cloak_model.specs.declared.answer.Answer.{Answer}
-use Rattle.cloak_model.specs.declared.answer.Answer.TheVariants as told
 use Rattle.cloak_model.specs.declared.item.Item.{Item}
-use Rattle.cloak_model.specs.declared.resource.MapFault.{MapFault}
 use Rattle.cloak_model.specs.AskPages.{ask_write, ask_copy, ask_forget}
 use Rattle.cloak_model.specs.Cloaking.{CloakedMemory, AfterSettling, AfterOffer, Ready, Mismatch, owed_in, settle_owed, settle_if, settle, settle_frame_if, owing_frame, owes, with_owed, with_comparison, taken, compared, unless_missed, offer}
 use Rattle.cloak_model.specs.Contexts.{Context}
@@ -15,18 +12,17 @@ use Rattle.cloak_model.specs.DomainState.{Control, Domain}
 use Rattle.cloak_model.specs.DomainStep.{domain_step}
 use Rattle.cloak_model.specs.Ending.{ask_end}
 use Rattle.cloak_model.specs.Events.{Event}
-use Rattle.cloak_model.specs.Fork.{marked, ask_copies, fork, end_context}
-use Rattle.cloak_model.proofs.ForkParts.{fork_cleared, fork_if, end_cleared, end_if}
-use Rattle.cloak_model.specs.Hypercalls.{Hypercall, ForkSpace, Exit, hypercall, fork_call, exit_call}
+use Rattle.cloak_model.specs.Fork.{marked, copies, copy_each}
+use Rattle.cloak_model.specs.Hypercalls.{Hypercall, hypercall}
 use Rattle.cloak_model.specs.Ledger.{vector_of}
 use Rattle.cloak_model.specs.PageMoves.{copy_pages, drop_pages}
-use Rattle.cloak_model.specs.Resources.{Resources, page_at}
 use Rattle.cloak_model.specs.World.{World, Flat, Cloaked, Alone, noted, stored_at, settled, written}
+use Rattle.cloak_model.specs.Script.{played}
 use Rattle.kernel_isolation.proofs.Shown.{either}
-use Rattle.frozen_law.proofs.Ends.{forgets_keep, end_keeps}
+use Rattle.frozen_law.proofs.Ends.{hypercall_keeps, end_keeps}
 use Rattle.frozen_law.proofs.Memories.{InWorld}
 use Rattle.frozen_law.proofs.Questions.{Kept, reach_keeps, clear_keeps}
-use Rattle.frozen_law.proofs.Walks.{AreOf, Stores, step_keeps}
+use Rattle.frozen_law.proofs.Walks.{AnyPage, any_page, Stores, step_keeps}
 
 -- How many frames are owed a page.
 
@@ -178,9 +174,6 @@ adds_then a b u v w first second = record {
   by = λ n few. wide_in (n + a + b) (n + (a + b)) w (omega arith) (second.by (n + a) (first.by n few));
 }
 
-abbrev AnyPage : PageId → Type 0
-AnyPage q = Unit {0}
-
 changes : Kept AnyPage Adds
 changes = record {
   same = adds_none;
@@ -202,61 +195,20 @@ stores q own va kind at width value w is ok =
 
 -- Hypercalls.
 
-adds_copies : (d : ℕ) (list : List (ℕ × ℕ)) (w : World) → Adds 0 w (ask_copies d list w).world
-unfolding ask_copies
+adds_copies : (d : ℕ) (list : List (ℕ × ℕ)) (w : World) → Adds 0 w (played (copy_each d list) w).world
+unfolding copy_each
 adds_copies d [] w = adds_none w
 adds_copies d (copy ∷ rest) w =
     adds_then 0 0 _ _ _ (adds_copy d copy.0 copy.1 w) (adds_copies d rest (ask_copy d copy.0 copy.1 w).world)
 
-adds_fork_cleared : (d : ℕ) (c : Context) (slot new : ℕ) (r : Resources) (contexts : List (Option Context)) (a : Answer)
-    (w : World) → Adds 0 w (fork_cleared d c slot new r contexts a w).world
-adds_fork_cleared d c slot new r contexts told.Ok w = adds_copies d _ w
-adds_fork_cleared d c slot new r contexts _ w = adds_none w
-
-adds_fork_if : (fits : Result (Unit {0}) MapFault) (d : ℕ) (c : Context) (r : Resources)
-    (contexts : List (Option Context)) (w : World) → Adds 0 w (fork_if fits d c r contexts w).world
-adds_fork_if (Err fault) d c r contexts w = adds_none w
-adds_fork_if (Ok fits) d c r contexts w =
-    adds_then 0 0 _ _ _ (clear_keeps AnyPage Adds changes d (marked c.space r) w)
-    (adds_fork_cleared d c _ _ r contexts _ _)
-
-adds_fork : (d : ℕ) (c : Context) (r : Resources) (contexts : List (Option Context)) (w : World) →
-    Adds 0 w (fork d c r contexts w).world
-unfolding fork
-adds_fork d c r contexts w = adds_fork_if _ d c r contexts w
-
-adds_end_cleared : (d slot space : ℕ) (r : Resources) (contexts : List (Option Context)) (a : Answer) (w : World) →
-    Adds 0 w (end_cleared d slot space r contexts a w).world
-adds_end_cleared d slot space r contexts told.Ok w = forgets_keep AnyPage Adds changes adds_forget d _ w
-adds_end_cleared d slot space r contexts _ w = adds_none w
-
-adds_end_if : (others : Bool) (d slot space : ℕ) (r : Resources) (contexts : List (Option Context)) (w : World) →
-    Adds 0 w (end_if others d slot space r contexts w).world
-adds_end_if true d slot space r contexts w = adds_none w
-adds_end_if false d slot space r contexts w =
-    adds_then 0 0 _ _ _ (clear_keeps AnyPage Adds changes d (marked space r) w)
-    (adds_end_cleared d slot space r contexts _ _)
-
-adds_end_context : (d slot space : ℕ) (r : Resources) (contexts : List (Option Context)) (w : World) →
-    Adds 0 w (end_context d slot space r contexts w).world
-unfolding end_context
-adds_end_context d slot space r contexts w = adds_end_if _ d slot space r contexts w
-
 adds_hypercall : (d : Control) (h : Hypercall) (slot : ℕ) (c : Context) (w : World) →
-    Adds 0 w (hypercall h slot c d w).world
-unfolding hypercall fork_call exit_call
-adds_hypercall d ForkSpace slot c w = adds_fork d.number c d.resources d.contexts w
-adds_hypercall d Exit slot c w = adds_end_context d.number slot c.space d.resources d.contexts w
-adds_hypercall d _ slot c w = adds_none w
+    Adds 0 w (played (hypercall h slot c d) w).world
+adds_hypercall d h slot c w =
+    hypercall_keeps AnyPage Adds changes adds_forget d (λ x v ok.
+    adds_then 0 0 _ _ _ (clear_keeps AnyPage Adds changes d.number (marked x.space d.resources) v)
+    (adds_copies d.number (copies x.space d.resources) _)) h slot c w
 
 -- The step, and the end of a domain.
-
-any_some : (o : Option PageId) → IfSome o AnyPage
-any_some None = tt
-any_some (Some q) = tt
-
-any_page : (domain : ℕ) (r : Resources) (space : ℕ) → AreOf AnyPage domain r space
-any_page domain r space va = any_some (page_at domain r space va)
 
 pub step_few : (n slot : ℕ) (d : Domain) (w : World) → FewIn n w → FewIn (n + 2) (domain_step slot d w).world
 step_few n slot d w few =

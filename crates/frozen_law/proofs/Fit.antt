@@ -1,6 +1,6 @@
 -- What is recorded of pages is enough to go on with them: the laws of records, of whole pages, and of those of which
 -- none is recorded, at each moment from which a run goes on.
-use Rattle.std.proofs.Common.{◌≡◌, ◌∙◌, ℕ, ◌<◌, true, false, length, Some, None, sym, ap, inl, inr}
+use Rattle.std.proofs.Common.{◌≡◌, ◌∙◌, length, Some, None, sym, ap, inl, inr}
 use Rattle.std.proofs.lemmas.Bool.{false≢true, cases_lt}
 use Rattle.std.proofs.lemmas.List.{get_or_past}
 use Rattle.cloak_base.specs.declared.names.PageId.{PageId}

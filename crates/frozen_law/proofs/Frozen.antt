@@ -1,6 +1,6 @@
 -- A state with which a run is frozen is in range, and its machine can go on: what the laws say, field by field.
 use Rattle.std.proofs.Common.{◌≡◌, ◌∙◌, inl, inr, ℕ, zero, suc, ◌+◌, ◌%◌, ◌<◌, ◌≤◌, nat_le, bit_and, true, false, List, [], ◌∷◌, length, map, slice_get, slice_index_or, Option, Some, None, IfSome, Ok, refl, sym, ap, subst, arith, eq-eqb}
-use Rattle.std.specs.Prelude.{◌==◌, ◌&&◌, IsSomeAnd, slice_index, option_map, option_and_then}
+use Rattle.std.specs.Prelude.{◌==◌, IsSomeAnd, slice_index, option_map, option_and_then}
 use Rattle.std.specs.List.{AllByRecursion}
 use Rattle.std.proofs.lemmas.Bool.{cases_lt, lt-ltb, le-leb}
 use Rattle.std.proofs.lemmas.List.{get_or_past, length-map}

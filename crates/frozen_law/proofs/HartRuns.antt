@@ -29,7 +29,7 @@ use Rattle.cloak_model.specs.Hart.{Hart, started}
 use Rattle.cloak_model.specs.Hypercalls.{Stepped}
 use Rattle.cloak_model.specs.Joint.{Moment, Turn, next_hart, cloak_outside, outside_ended, after_outside, outside_step, domain_ended, after_domain_step, interrupt_ended, after_interrupt, by_interrupt, by_running, inside_step, turn_of, end_domain, step_before_end, joint_step}
 use Rattle.cloak_model.specs.KernelStep.{ticked}
-use Rattle.cloak_model.specs.Opening.{Opened, started_harts, started_kernel, started_joint}
+use Rattle.cloak_model.specs.Opening.{RunEdge, started_harts, started_kernel, started_joint}
 use Rattle.cloak_model.specs.Parts.{Joint}
 use Rattle.cloak_model.specs.Record.{IsWord}
 use Rattle.cloak_model.specs.Resuming.{resume}
@@ -173,7 +173,7 @@ started_joint_fits b m grammar = harts_fit b.kernel.entry b.kernel.harts grammar
 given_fits : (f : FileContents) (x y : Joint) → IsGiven f x y → JointFits x → JointFits y
 given_fits f x y given all = subst AllFit (sym (given_keeps f x y given).harts) all
 
-opened_fits : (b : Bundle) (from : Beginning) → IsInGrammar b → (o : Opened) → opening_from b from ≡ Ok o →
+opened_fits : (b : Bundle) (from : Beginning) → IsInGrammar b → (o : RunEdge) → opening_from b from ≡ Ok o →
     JointFits o.joint
 opened_fits b from grammar = begins JointFits b from (λ m. started_joint_fits b m grammar) given_fits
 

@@ -25,16 +25,18 @@ use Rattle.cloak_model.specs.Calls.{copy_in_step, copy_out_step}
 use Rattle.cloak_model.specs.Cloaking.{CloakedMemory}
 use Rattle.cloak_model.specs.Contexts.{Context, context_at}
 use Rattle.cloak_model.specs.DomainState.{Control, Domain}
-use Rattle.cloak_model.specs.DomainStep.{DomainStepped, instruction_ended, copy_ended, after_write, phase_step, step_if, domain_step}
+use Rattle.cloak_model.specs.DomainStep.{domain_script, DomainStepped, instruction_ended, copy_ended, after_write, phase_step, step_if, domain_step}
 use Rattle.cloak_model.specs.Events.{Event}
 use Rattle.cloak_model.specs.Files.{file_resource}
-use Rattle.cloak_model.specs.Fork.{marked, private_numbers, copies, ask_copies, ask_forgets, forked, forked_resources}
+use Rattle.cloak_model.specs.Fork.{marked, private_numbers, copies, copy_each, forget_each, forked, forked_resources}
 use Rattle.cloak_model.specs.Hypercalls.{Stepped, Hypercall, hypercall, hypercall_of}
 use Rattle.cloak_model.specs.InsideStep.{instruction_inside}
 use Rattle.cloak_model.specs.Ledger.{Ledger}
 use Rattle.cloak_model.specs.PageMoves.{drop_pages}
 use Rattle.cloak_model.specs.Resources.{Resources, resource_at, new_resource, map_region, unmap_region, is_private_to, without_space, drop_space}
 use Rattle.cloak_model.specs.World.{World, Flat, Cloaked, Alone, noted, stored_at, settled, written}
+use Rattle.cloak_model.specs.Script.{played}
+use Rattle.cloak_model.proofs.Playing.{by_plain, by_copy_in, by_copy_out, by_ecall}
 use Rattle.hypercall_kinds.specs.Kinds.{cleared, CallKind, MakesNew, MakesFile, Maps, Unmaps, Stops, Forks, EndsSpace, after}
 use Rattle.hypercall_kinds.proofs.ByKinds.{by_kinds}
 use Rattle.kernel_isolation.proofs.Settlings.{HasPlaces}
@@ -43,9 +45,8 @@ use Rattle.resource_map.proofs.Copies.{marked_all}
 use Rattle.resource_map.proofs.Lists.{get_or-map_all, inside_from_some}
 use Rattle.resource_map.proofs.Places.{any-places}
 use Rattle.chain_law.proofs.Zeros.{keeps_places, settle_fresh, offer_offered}
-use Rattle.chain_law.proofs.ZeroWorlds.{NoneOwedIn}
+use Rattle.chain_law.proofs.ZeroWorlds.{clear_clears, NoneOwedIn}
 use Rattle.frozen_law.specs.Held.{IsHeldBy}
-use Rattle.frozen_law.proofs.Cleared.{clear_clears}
 use Rattle.frozen_law.proofs.HeldCopies.{closed_all, fork_stay}
 use Rattle.frozen_law.proofs.HeldPages.{IsKind, pages_held, HeldStay, new_stay, file_stay, map_stay, unmap_stay}
 use Rattle.frozen_law.proofs.Memories.{InWorld}
@@ -150,8 +151,8 @@ module _ (P : PageId → Type 0) where
   IsClosedAt d copy = (q : PageId) → is_of d copy.1 q ≡ true → P (page_in copy.0 q) → P q
 
   pub copies_in : (d : ℕ) (list : List (ℕ × ℕ)) (w : World) → All (IsClosedAt d) list → OfIn P w →
-      OfIn P (ask_copies d list w).world
-  unfolding ask_copies
+      OfIn P (played (copy_each d list) w).world
+  unfolding copy_each
   copies_in d [] w all of = of
   copies_in d (copy ∷ rest) w all of =
       copies_in d rest (ask_copy d copy.0 copy.1 w).world (All-tail (IsClosedAt d) copy rest all)
@@ -175,13 +176,13 @@ forget_owes d n (Cloaked c) resource none = none
 forget_owes d n _ resource none = tt
 
 pub forgets_in : (P : PageId → Type 0) (d : ℕ) (numbers : List ℕ) (w : World) → All (λ n. NoneOwedIn d n w) numbers →
-    OfIn P w → OfIn (λ q. P q × IsApart d numbers q) (ask_forgets d numbers w).world
-unfolding ask_forgets
+    OfIn P w → OfIn (λ q. P q × IsApart d numbers q) (played (forget_each d numbers) w).world
+unfolding forget_each
 forgets_in P d [] w none of = wide_in P (λ q. P q × IsApart d [] q) w (λ q here. (here, (λ own. All-nil _))) of
 forgets_in P d (n ∷ numbers) w none of =
     let v : World = (ask_forget d n w).world in
     wide_in (λ q. Without P d n q × IsApart d numbers q) (λ q. P q × IsApart d (n ∷ numbers) q)
-    (ask_forgets d numbers v).world
+    (played (forget_each d numbers) v).world
     (λ q here. (
       here.0.0,
       (λ own. All-cons (λ (k : ℕ). q.resource ≢ k) n numbers (here.0.1 own) (here.1 own)),
@@ -277,7 +278,7 @@ module _ (Other : PageId → Type 0) (d : Control) (sound : IsSound d.resources)
         let clear = clear_clears d.number (marked c.space r) w (places_know Was w knows) ok in
         let marks = marked_all c.space r in
         wide_in (λ q. Was q × IsApart d.number numbers q) (Kind (drop_space c.space r))
-        (ask_forgets d.number numbers (cleared c d w).world).world
+        (played (forget_each d.number numbers) (cleared c d w).world).world
         (λ q here. record {
           own = λ same. dropped_held c.space r q (here.1 same) (here.0.own same);
           other = here.0.other;
@@ -286,7 +287,7 @@ module _ (Other : PageId → Type 0) (d : Control) (sound : IsSound d.resources)
         of_cleared)
     kind_holds _ = of
 
-    hypercall_holds : Holds (hypercall h slot c d w)
+    hypercall_holds : Holds (played (hypercall h slot c d) w)
     hypercall_holds = by_kinds Holds h slot c d w kind_holds
 
 -- The step.
@@ -302,9 +303,10 @@ module _ (Other : PageId → Type 0) (d : Domain) (sound : IsSound d.control.res
   StepHolds t = OfIn (Mine t.answer.domain.control.resources) t.world
 
   ended_holds : (slot : ℕ) (c : Context) (e : Ran) (w : World) → InWorld (KnowsOf Now) w →
-      StepHolds (instruction_ended slot d c e w)
+      StepHolds (played (instruction_ended slot d c e) w)
   unfolding instruction_ended
-  ended_holds slot c ran.Ecall w knows = hypercall_holds Other d.control sound (hypercall_of c) slot c w knows
+  ended_holds slot c ran.Ecall w knows =
+      by_ecall StepHolds slot d c w (hypercall_holds Other d.control sound (hypercall_of c) slot c w knows)
   ended_holds slot c _ w knows = of_knows Now w knows
 
   copied_same : (slot : ℕ) (c : Context) (e : Copied) →
@@ -327,34 +329,38 @@ module _ (Other : PageId → Type 0) (d : Domain) (sound : IsSound d.control.res
   wrote_holds (Some place) s w of = of
 
   phase_holds : (phase : Phase) (slot : ℕ) (c : Context) (w : World) → InWorld (KnowsOf Now) w →
-      StepHolds (phase_step phase slot c d w)
+      StepHolds (played (phase_step phase slot c d) w)
   unfolding phase_step
   phase_holds Plain slot c w knows =
-      let t = instruction_inside d.control.number d.control.resources c w in
+      let t = played (instruction_inside d.control.number d.control.resources c) w in
       let there = (instruction_keeps Now (Learns Now) (changes Now) (stores Now) d.control.number d.control.resources c w
       (pages_held d.control.number d.control.resources Other sound c.space)).by knows in
-      let s = instruction_ended slot d t.answer.context t.answer.ending t.world in
-      wrote_holds t.answer.wrote s.answer s.world (ended_holds slot t.answer.context t.answer.ending t.world there)
+      let s = played (instruction_ended slot d t.answer.context t.answer.ending) t.world in
+      by_plain StepHolds slot c d w
+      (wrote_holds t.answer.wrote s.answer s.world (ended_holds slot t.answer.context t.answer.ending t.world there))
   phase_holds (CopyIn done) slot c w knows =
-      let t = copy_in_step d.control.number d.control.resources c done w in
-      same_holds _ t.world (copied_same slot t.answer.context t.answer.ending)
+      let t = played (copy_in_step d.control.number d.control.resources c done) w in
+      by_copy_in StepHolds done slot c d w
+      (same_holds _ t.world (copied_same slot t.answer.context t.answer.ending)
       (of_knows Now t.world
       ((copy_in_keeps Now (Learns Now) (changes Now) (stores Now) d.control.number d.control.resources c done w
-      (pages_held d.control.number d.control.resources Other sound c.space)).by knows))
+      (pages_held d.control.number d.control.resources Other sound c.space)).by knows)))
   phase_holds Waiting slot c w knows = of_knows Now w knows
   phase_holds (CopyOut done total) slot c w knows =
-      let t = copy_out_step d.control.number d.control.resources c done total w in
-      wrote_holds t.answer.wrote (copy_ended slot d t.answer.context t.answer.ending) t.world
+      let t = played (copy_out_step d.control.number d.control.resources c done total) w in
+      by_copy_out StepHolds done total slot c d w
+      (wrote_holds t.answer.wrote (copy_ended slot d t.answer.context t.answer.ending) t.world
       (same_holds _ t.world (copied_same slot t.answer.context t.answer.ending)
       (of_knows Now t.world
       ((copy_out_keeps Now (Learns Now) (changes Now) (stores Now) d.control.number d.control.resources c done total w
-      (pages_held d.control.number d.control.resources Other sound c.space)).by knows)))
+      (pages_held d.control.number d.control.resources Other sound c.space)).by knows))))
 
-  step_if_holds : (o : Option Context) (slot : ℕ) (w : World) → InWorld (KnowsOf Now) w → StepHolds (step_if o slot d w)
+  step_if_holds : (o : Option Context) (slot : ℕ) (w : World) → InWorld (KnowsOf Now) w →
+      StepHolds (played (step_if o slot d) w)
   unfolding step_if
   step_if_holds None slot w knows = of_knows Now w knows
   step_if_holds (Some c) slot w knows = phase_holds c.phase slot c w knows
 
   pub step_holds : (slot : ℕ) (w : World) → InWorld (KnowsOf Now) w → StepHolds (domain_step slot d w)
-  unfolding domain_step
+  unfolding domain_step domain_script
   step_holds slot w knows = step_if_holds (context_at d.control.contexts slot) slot w knows

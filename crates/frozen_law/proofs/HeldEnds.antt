@@ -1,5 +1,5 @@
 -- After the end of a domain none of its pages is owed or recorded.
-use Rattle.std.proofs.Common.{◌≡◌, ◌≢◌, ◌∙◌, inl, inr, ℕ, zero, suc, ◌+◌, ◌-◌, ◌<◌, Bool, true, false, cond, [], ◌∷◌, ◌++◌, length, slice_index_or, Option, Some, None, refl, sym, ap, subst, arith}
+use Rattle.std.proofs.Common.{◌≡◌, ◌≢◌, ◌∙◌, inl, inr, ℕ, zero, suc, ◌+◌, ◌-◌, ◌<◌, true, false, [], ◌∷◌, ◌++◌, length, slice_index_or, Option, Some, None, refl, sym, ap, subst, arith}
 use Rattle.std.specs.Prelude.{All, IsSome, IsSomeAnd}
 use Rattle.std.proofs.lemmas.Bool.{cases_lt}
 use Rattle.std.proofs.lemmas.List.{get_or-replicate, get_or_append_left, get_or-append_right, length-append}
@@ -10,15 +10,14 @@ use Rattle.cloak_model.specs.Cloaking.{CloakedMemory}
 use Rattle.cloak_model.specs.Ending.{all_marked, settled_for, ask_end, cloak_for}
 use Rattle.cloak_model.specs.Opening.{numbers_below}
 use Rattle.cloak_model.specs.Resources.{Resources, resource_at}
-use Rattle.cloak_model.specs.World.{World, Cloaked, settled}
+use Rattle.cloak_model.specs.World.{World, MidStep, Cloaked, settled}
 use Rattle.kernel_isolation.proofs.Settlings.{HasPlaces}
 use Rattle.resource_map.proofs.Lists.{inside_from_some}
 use Rattle.frozen_law.specs.Held.{IsHeldBy}
-use Rattle.frozen_law.proofs.Cleared.{cleared_world}
-use Rattle.chain_law.proofs.ZeroWorlds.{ClearBelow, marked_below}
-use Rattle.frozen_law.proofs.Counts.{HasCount, settle_count}
+use Rattle.chain_law.proofs.ZeroWorlds.{Stay, kept, ClearBelow, marked_below, cleared_world, owed_low}
+use Rattle.script_fold.proofs.Endings.{keeps_settled_for}
+use Rattle.script_fold.proofs.Questions.{settles_of}
 use Rattle.frozen_law.proofs.HeldCalls.{OfIn, IsApart, forgets_in}
-use Rattle.frozen_law.proofs.Memories.{InWorld}
 use Rattle.frozen_law.proofs.Owned.{PagesAreOf, settle_of}
 
 -- The numbers below 16.
@@ -52,38 +51,13 @@ module _ (P : PageId → Type 0) where
   settled_in f (Cloaked c) of = settle_of P f c.memory of
   settled_in f _ of = tt
 
-  either_in : (b : Bool) (w v : World) → OfIn P w → OfIn P v → OfIn P (cond b v w)
-  either_in true w v here there = there
-  either_in false w v here there = here
-
-  marked_in : (d f : ℕ) (w : World) → OfIn P w → OfIn P (settled_if_marked d all_marked f w)
-  unfolding settled_if_marked
-  marked_in d f w of = either_in _ w (settled f w) of (settled_in f w of)
-
   settled_for_in : (d f n : ℕ) (w : World) → OfIn P w → OfIn P (settled_for d f n w)
-  unfolding settled_for
-  settled_for_in d f zero w of = of
-  settled_for_in d f (suc n) w of =
-      settled_for_in d (f + 1) n (settled_if_marked d all_marked f w) (marked_in d f w of)
-
-settled_count : (n f : ℕ) (w : World) → InWorld (HasCount n) w → InWorld (HasCount n) (settled f w)
-settled_count n f (Cloaked c) here = settle_count n f c.memory here
-settled_count n f _ here = tt
-
-either_count : (n : ℕ) (b : Bool) (w v : World) → InWorld (HasCount n) w → InWorld (HasCount n) v →
-    InWorld (HasCount n) (cond b v w)
-either_count n true w v here there = there
-either_count n false w v here there = here
-
-marked_count : (n d f : ℕ) (w : World) → InWorld (HasCount n) w → InWorld (HasCount n) (settled_if_marked d all_marked f w)
-unfolding settled_if_marked
-marked_count n d f w here = either_count n _ w (settled f w) here (settled_count n f w here)
-
-settled_for_count : (n d f k : ℕ) (w : World) → InWorld (HasCount n) w → InWorld (HasCount n) (settled_for d f k w)
-unfolding settled_for
-settled_for_count n d f zero w here = here
-settled_for_count n d f (suc k) w here =
-    settled_for_count n d (f + 1) k (settled_if_marked d all_marked f w) (marked_count n d f w here)
+  settled_for_in d f n w =
+      keeps_settled_for (λ v x. OfIn P v → OfIn P x) (record {
+        same = λ v of. of;
+        chained = λ u v x first second of. second (first of);
+        settled = settled_in;
+      }) d f n w
 
 settled_for_below : (d f n : ℕ) (w : World) → ClearBelow f d all_marked w →
     ClearBelow (f + n) d all_marked (settled_for d f n w)
@@ -105,10 +79,11 @@ pub end_of : (P : PageId → Type 0) (d : ℕ) (m : CloakedMemory) → HasPlaces
 unfolding ask_end
 end_of P d m places of =
     let n = length m.ram in
-    let w : World = Cloaked (cloak_for m d) in
+    let c : MidStep = cloak_for m d in
+    let w : World = Cloaked c in
     let v : World = settled_for d 0 n w in
-    let count : length m.ledger.owed ≡ 0 + length m.ram = omega (arith, places) in
-    let clear = cleared_world d all_marked (0 + n) v (settled_for_count (0 + n) d 0 n w count)
+    let clear = cleared_world d all_marked (0 + n) v
+    (owed_low c v (keeps_settled_for Stay (settles_of Stay kept) d 0 n w) places)
     (settled_for_below d 0 n w (λ f low. absurd (omega (arith, low)))) in
     let long = count_below 16 in
     forgets_in P d (numbers_below 16) v

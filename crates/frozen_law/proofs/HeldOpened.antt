@@ -18,7 +18,7 @@ use Rattle.cloak_model.specs.Cloaking.{CloakedMemory}
 use Rattle.cloak_model.specs.DomainState.{Domain, started_control, started_domain, with_resources}
 use Rattle.cloak_model.specs.Files.{holds_file, file_found, file_resource}
 use Rattle.cloak_model.specs.Ledger.{Keys, vector_of}
-use Rattle.cloak_model.specs.Opening.{Opened, started_joint, started_ledger, started_memory, started_domains, place_pages, place_programs}
+use Rattle.cloak_model.specs.Opening.{RunEdge, started_joint, started_ledger, started_memory, started_domains, place_pages, place_programs}
 use Rattle.cloak_model.specs.PageMoves.{place, place_with}
 use Rattle.cloak_model.specs.Parts.{Joint}
 use Rattle.cloak_model.specs.Resources.{Resources, Mapped, resource_at, pages_of, all_pages, first_free, refused, made_at, new_resource, started_resources}
@@ -226,7 +226,7 @@ given_holds f x y given of =
 
 -- The run.
 
-opened_holds : (b : Bundle) (from : Beginning) (o : Opened) → opening_from b from ≡ Ok o → JointHolds o.joint
+opened_holds : (b : Bundle) (from : Beginning) (o : RunEdge) → opening_from b from ≡ Ok o → JointHolds o.joint
 opened_holds b from o opens =
     let over = opens_over b from o opens in
     let held : PageId → Type 0 = IsHeldIn (started_domains 0 b.programs) in
@@ -235,7 +235,7 @@ opened_holds b from o opens =
     files_keep JointHolds given_holds (files_of from) (started_joint b over.memory) o.joint over.added
     (joint_holds b over.memory placed)
 
-opened_fits : (b : Bundle) (from : Beginning) → IsInGrammar b → (o : Opened) → opening_from b from ≡ Ok o → Fits o.joint
+opened_fits : (b : Bundle) (from : Beginning) → IsInGrammar b → (o : RunEdge) → opening_from b from ≡ Ok o → Fits o.joint
 opened_fits b from grammar o opens = record {
   steady = (is_opened b from o opens).steady;
   keep = opened_keep b from grammar o opens;

@@ -26,7 +26,7 @@ use Rattle.cloak_model.specs.Parts.{Joint}
 use Rattle.cloak_model.specs.Resources.{Resources}
 use Rattle.cloak_model.specs.Resuming.{resume}
 use Rattle.cloak_model.proofs.ResumeParts.{with_roots, by_root, by_context, by_domain}
-use Rattle.cloak_model.specs.World.{World, Cloak, Flat, Cloaked, seen_of}
+use Rattle.cloak_model.specs.World.{World, MidStep, Flat, Cloaked, seen_of}
 use Rattle.domain_isolation.proofs.InOrder.{decided}
 use Rattle.kernel_isolation.proofs.Accounts.{is_joint, IsJointWorld, ram_seen}
 use Rattle.kernel_isolation.proofs.Ends.{end_shows}
@@ -264,7 +264,7 @@ unfolding by_interrupt interrupt
 due_good true j number h d slot was there own keeps here =
     left_good j number h d was _ there own (interrupt_same _ slot was.control) (interrupt_kept slot was.control keeps) here
 due_good false j number h d slot was there own keeps here =
-    let c : Cloak = cloak_of j.memory h d (pages_for was (context_at was.control.contexts slot)) in
+    let c : MidStep = cloak_of j.memory h d (pages_for was (context_at was.control.contexts slot)) in
     let w : World = Cloaked c in
     let kind : PageId → Type 0 = IsKind was.control.number was.control.resources (IsHeldIn j.domains) in
     told_good j number h d was (domain_step slot was w) there own

@@ -12,7 +12,6 @@ pub mod Marks
 pub mod Draws
 pub mod DrawRuns
 pub mod MissedRuns
-pub mod Cleared
 pub mod Records
 pub mod RecordSteps
 pub mod RecordRuns

@@ -17,7 +17,7 @@ use Rattle.cloak_model.specs.Joint.{Moment, joint_step, memory_of}
 use Rattle.cloak_model.specs.KernelStep.{kernel_step}
 use Rattle.cloak_model.specs.Ledger.{Keys, vector_of}
 use Rattle.cloak_model.specs.Memory.{Seen, stored, filled, with_mark}
-use Rattle.cloak_model.specs.Opening.{Opened, started_joint, started_kernel, started_memory}
+use Rattle.cloak_model.specs.Opening.{RunEdge, started_joint, started_kernel, started_memory}
 use Rattle.cloak_model.specs.PageMoves.{copy_pages, drop_pages, place_with}
 use Rattle.cloak_model.specs.Parts.{Joint}
 use Rattle.cloak_model.specs.Run.{Run, run_from}
@@ -231,7 +231,7 @@ joint_count n b m here = here
 given_count : (n : ℕ) (f : FileContents) (x y : Joint) → IsGiven f x y → JointCount n x → JointCount n y
 given_count n f x y given here = ap length (given_keeps f x y given).memory.marks ∙ here
 
-opened_places : (b : Bundle) (from : Beginning) (o : Opened) → opening_from b from ≡ Ok o →
+opened_places : (b : Bundle) (from : Beginning) (o : RunEdge) → opening_from b from ≡ Ok o →
     HasPlacesOf b.kernel.harts o.joint
 opened_places b from o opens =
     let n = b.kernel.harts in

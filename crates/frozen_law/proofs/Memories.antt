@@ -23,7 +23,7 @@ use Rattle.cloak_model.specs.Memory.{Seen, with_mark}
 use Rattle.cloak_model.specs.Parts.{Joint}
 use Rattle.cloak_model.specs.Resuming.{resume}
 use Rattle.cloak_model.proofs.ResumeParts.{with_roots, by_root, by_context, by_domain}
-use Rattle.cloak_model.specs.World.{World, Cloak, Flat, Cloaked, Alone, seen_of}
+use Rattle.cloak_model.specs.World.{World, MidStep, Flat, Cloaked, Alone, seen_of}
 use Rattle.kernel_isolation.proofs.Settlings.{HasPlaces}
 use Rattle.limit_law.proofs.Endings.{answers_keep}
 
@@ -36,7 +36,7 @@ InWorld P _ = Unit {0}
 pub record Carries (P Q : CloakedMemory → Type 0) : Type 0 where
   pub settled : (f : ℕ) (m : CloakedMemory) → P m → P (settle f m).memory
   pub later : (m : CloakedMemory) → P m → Q m
-  pub stepped : (slot : ℕ) (was : Domain) (c : Cloak) → HasPlaces c.memory → P c.memory →
+  pub stepped : (slot : ℕ) (was : Domain) (c : MidStep) → HasPlaces c.memory → P c.memory →
       InWorld Q (domain_step slot was (Cloaked c)).world
   pub seen : (s : Seen) (m : CloakedMemory) → Q m → Q (with_seen s m)
   pub rooted : (root : SpaceId → Option ℕ) (m : CloakedMemory) → Q m → Q (with_roots root m)
@@ -46,7 +46,7 @@ pub record Carries (P Q : CloakedMemory → Type 0) : Type 0 where
 pub record Moves (P Q : CloakedMemory → Type 0) : Type 0 where
   pub settled : (f : ℕ) (m : CloakedMemory) → P m → P (settle f m).memory
   pub later : (m : CloakedMemory) → P m → Q m
-  pub stepped : (slot : ℕ) (was : Domain) (c : Cloak) → HasPlaces c.memory → P c.memory → (m : CloakedMemory) → Q m →
+  pub stepped : (slot : ℕ) (was : Domain) (c : MidStep) → HasPlaces c.memory → P c.memory → (m : CloakedMemory) → Q m →
       Q (memory_of (domain_step slot was (Cloaked c)).world m)
   pub made : (h : Hart) (disk : List ℕ) (m : CloakedMemory) → Q m →
       Q (with_seen (seen_of (kernel_step h disk (Flat (seen_in m))).world) m)

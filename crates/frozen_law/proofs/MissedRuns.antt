@@ -1,11 +1,10 @@
 -- While a run goes on, no draw was missing.
-use Rattle.std.proofs.Common.{◌≡◌, ◌∙◌, ℕ, zero, suc, ◌<◌, false, List, [], ◌∷◌, length, take, Option, Some, None, refl, arith}
+use Rattle.std.proofs.Common.{◌≡◌, ℕ, zero, suc, ◌<◌, false, List, [], ◌∷◌, length, take, Option, Some, None, refl, arith}
 use Rattle.cloak_base.specs.declared.causes.Stop.{Stop}
-use Rattle.cloak_base.specs.declared.causes.Stop.TheVariants as stop
 use Rattle.cloak_model.specs.declared.image.Bundle.{Bundle}
 use Rattle.cloak_model.specs.Beginning.{opening_from}
 use Rattle.cloak_model.specs.Joint.{Moment, Turn, joint_step, after_turn, stop_of}
-use Rattle.cloak_model.specs.Opening.{Opened}
+use Rattle.cloak_model.specs.Opening.{RunEdge}
 use Rattle.cloak_model.specs.Parts.{Joint}
 use Rattle.cloak_model.specs.Run.{Run, run_of, unless_stopped, turns_from, first_moment, joint_after, last_stop}
 use Rattle.kernel_isolation.proofs.Isolated.{of_opened}
@@ -35,7 +34,7 @@ goes (suc budget) (suc n) s m none less =
 abbrev GoesAll : Run → Type 0
 GoesAll r = (n : ℕ) → n < length r.turns → NoneStopped n r
 
-run_goes : (b : Bundle) (budget : ℕ) (o : Opened) → GoesAll (run_of b budget o)
+run_goes : (b : Bundle) (budget : ℕ) (o : RunEdge) → GoesAll (run_of b budget o)
 unfolding run_of
 run_goes b budget o n less = goes budget n None (first_moment b o.joint) refl less
 
@@ -55,7 +54,7 @@ none_missed s j (t ∷ turns) tells is =
 abbrev DrawnAll : Run → Type 0
 DrawnAll r = (n : ℕ) → NoneStopped n r → (joint_after r.opened.joint (take n r.turns)).memory.ledger.missed ≡ false
 
-run_drawn : (b : Bundle) (budget : ℕ) (o : Opened) → JointDrawn o.joint → DrawnAll (run_of b budget o)
+run_drawn : (b : Bundle) (budget : ℕ) (o : RunEdge) → JointDrawn o.joint → DrawnAll (run_of b budget o)
 unfolding run_of
 run_drawn b budget o drawn n is = none_missed None o.joint _ (λ none. drawn) is
 

@@ -1,6 +1,6 @@
 -- What each change of a world does, each question of a program does, with a count of the pages that are offered: a
 -- question for a page offers one at most, and it is one of a kind; no other question offers any.
-use Rattle.std.proofs.Common.{true, ℕ, Bool, List, Ok, Err, ◌+◌, ◌≤◌, ◌++◌, ◌∷◌, Result, Some, if◌then◌else◌, arith}
+use Rattle.std.proofs.Common.{true, ℕ, Bool, List, Ok, Err, ◌+◌, ◌≤◌, ◌++◌, Result, Some, arith}
 use Rattle.std.proofs.lemmas.Bool.{cond_both}
 use Rattle.cloak_base.specs.declared.causes.Violation.TheVariants as violation
 use Rattle.cloak_base.specs.declared.names.Kind.{Kind}
@@ -9,9 +9,9 @@ use Rattle.cloak_model.specs.declared.answer.Answer.{Answer}
 use Rattle.cloak_model.specs.declared.item.Item.{Item}
 use Rattle.cloak_model.specs.Asking.{Told, Asking}
 use Rattle.cloak_model.specs.AskPages.{is_store, replies, if_drawn, ask_inside_address, offered_by, offer_events, ask_offer, reached, reach_by_table, put_at, settled_if_marked, ask_reach, ask_get, ask_put, ask_clear}
-use Rattle.cloak_model.specs.Cloaking.{Offer, Ready, Mismatch, Missed, offer}
+use Rattle.cloak_model.specs.Cloaking.{OfferEnd, Ready, Mismatch, Missed, offer}
 use Rattle.cloak_model.specs.Events.{Event}
-use Rattle.cloak_model.specs.World.{World, Cloak, Flat, Cloaked, Alone, noted, stored_at, settled, Handed, written, cipher_items, is_missed}
+use Rattle.cloak_model.specs.World.{World, MidStep, Flat, Cloaked, Alone, noted, stored_at, settled, Handed, written, cipher_items, is_missed}
 use Rattle.script_fold.proofs.Questions.{Opens, Replies, opens_by, keeps_inside_address, keeps_if_marked, keeps_next_answer, keeps_get, keeps_stored, keeps_clear}
 
 -- What holds of a world and of that after it, if at most this many pages were offered in between, all of this kind.
@@ -23,14 +23,14 @@ pub record Kept (P : PageId → Type 0) (R : ℕ → World → World → Type 0)
   pub stored_at : (pa width value : ℕ) (w : World) → R 0 w (stored_at pa width value w)
   pub noted : (events : List Event) (w : World) → R 0 w (noted events w)
   pub written : (i : Item) (w : World) → R 0 w (written i w)
-  pub offered : (q : PageId) → P q → (g : ℕ) (write : Bool) (c : Cloak) →
+  pub offered : (q : PageId) → P q → (g : ℕ) (write : Bool) (c : MidStep) →
       let o = offer q g write c.memory in
       R 1 (Cloaked c) (Cloaked (record c {
         memory = o.memory;
         items = c.items ++ cipher_items o.ciphers;
         events = c.events ++ offer_events q g c.memory o.answer;
       }))
-  pub mismatched : (q : PageId) (g : ℕ) (c : Cloak) →
+  pub mismatched : (q : PageId) (g : ℕ) (c : MidStep) →
       R 0 (Cloaked c) (Cloaked (record c { violation = Some (violation.Page q (record { 0 = g })) }))
   pub told : (h : Handed) (rest : List Answer) → R 0 (Alone h) (Alone (record h { answers = rest }))
   pub unfit : (h : Handed) → R 0 (Alone h) (Alone (record h { unfit = true }))
@@ -40,7 +40,7 @@ module _ (P : PageId → Type 0) (R : ℕ → World → World → Type 0) (k : K
   one w v here = k.wider 0 1 w v (omega arith) here
 
   -- what no offer is made in
-  none_opens : Opens (R 0)
+  pub none_opens : Opens (R 0)
   none_opens =
       opens_by (R 0)
       (record { same = k.same; chained = λ u v w first second. k.chained 0 0 u v w first second; settled = k.settled })
@@ -58,7 +58,7 @@ module _ (P : PageId → Type 0) (R : ℕ → World → World → Type 0) (k : K
 
   -- pages
 
-  offered_keeps : (q : PageId) (va : ℕ) (kind : Kind) (g : ℕ) (o : Offer) (w : World) →
+  offered_keeps : (q : PageId) (va : ℕ) (kind : Kind) (g : ℕ) (o : OfferEnd) (w : World) →
       R 0 w (offered_by q va kind g o w).world
   unfolding offered_by
   offered_keeps q va kind g Ready w = k.chained 0 0 _ _ _ (k.noted _ w) (replies_keeps _ _)

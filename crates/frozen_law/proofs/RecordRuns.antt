@@ -11,7 +11,7 @@ use Rattle.cloak_model.specs.Chain.{cbc}
 use Rattle.cloak_model.specs.Cloaking.{CloakedMemory}
 use Rattle.cloak_model.specs.Joint.{Moment, joint_step}
 use Rattle.cloak_model.specs.Ledger.{Keys, domain_key, key_of, vector_of}
-use Rattle.cloak_model.specs.Opening.{Opened, started_joint, started_ledger, started_memory}
+use Rattle.cloak_model.specs.Opening.{RunEdge, started_joint, started_ledger, started_memory}
 use Rattle.cloak_model.specs.PageMoves.{place, place_with}
 use Rattle.cloak_model.specs.Parts.{Joint}
 use Rattle.cloak_model.specs.StoredFiles.{PageContent, FileContents, IsSealedIfShown, HasSealedPages}
@@ -142,7 +142,7 @@ files_sealed b (Fresh stream) keys rest is has = All-nil (HasSealedPages keys)
 files_sealed b (Stored handed stream files) keys rest is has =
     subst (λ (k : Keys). All (HasSealedPages k) files) (sym has.are) is.sealed
 
-opened_tell : (b : Bundle) (from : Beginning) (o : Opened) → IsBeginning b from → opening_from b from ≡ Ok o →
+opened_tell : (b : Bundle) (from : Beginning) (o : RunEdge) → IsBeginning b from → opening_from b from ≡ Ok o →
     RecordsTell o.joint.memory
 opened_tell b from o is opens =
     let over = opens_over b from o opens in
@@ -155,7 +155,7 @@ opened_tell b from o is opens =
       tell = joint_tell keys b over.memory placed;
     })).tell.1
 
-opened_fits : (b : Bundle) (from : Beginning) → IsBeginning b from → (o : Opened) → opening_from b from ≡ Ok o →
+opened_fits : (b : Bundle) (from : Beginning) → IsBeginning b from → (o : RunEdge) → opening_from b from ≡ Ok o →
     Fits o.joint
 opened_fits b from is o opens =
     record { steady = (is_opened b from o opens).steady; tell = opened_tell b from o is opens }

@@ -1,5 +1,5 @@
 -- What is recorded of pages tells their newest bytes, after each step of a program.
-use Rattle.std.proofs.Common.{◌≡◌, ◌∙◌, ◌<◌, ◌+◌, ℕ, zero, suc, Bool, true, false, ◌&&◌, cond, List, [], ◌∷◌, zip, length, Option, Some, None, IfSome, Result, Ok, Err, refl, sym}
+use Rattle.std.proofs.Common.{◌≡◌, ◌∙◌, ◌<◌, ◌+◌, ℕ, Bool, true, false, ◌&&◌, cond, List, [], ◌∷◌, zip, length, Result, Ok, Err, refl, sym}
 use Rattle.std.specs.Prelude.{All}
 use Rattle.std.proofs.lemmas.Bool.{false≢true, ltb-true}
 use Rattle.std.proofs.lemmas.List.{length-set}
@@ -11,34 +11,31 @@ use Rattle.cloak_base.specs.declared.names.PageId.{PageId}
 use Rattle.cloak_model.specs.declared.answer.Answer.{Answer}
 use Rattle.cloak_model.specs.declared.answer.Answer.TheVariants as told
 use Rattle.cloak_model.specs.declared.item.Item.{Item}
-use Rattle.cloak_model.specs.declared.resource.MapFault.{MapFault}
 use Rattle.cloak_model.specs.Asking.{Told, Asking}
-use Rattle.cloak_model.specs.AskPages.{replies, if_drawn, ask_inside_address, offered_by, ask_offer, reached, reach_by_table, settled_if_marked, next_answer, ask_reach, ask_write, ask_copy, ask_forget}
-use Rattle.cloak_model.specs.Cloaking.{CloakedMemory, Offer, Ready, Mismatch, Missed}
+use Rattle.cloak_model.specs.AskPages.{replies, if_drawn, ask_inside_address, offered_by, ask_offer, reached, reach_by_table, next_answer, ask_reach, ask_write, ask_copy, ask_forget}
+use Rattle.cloak_model.specs.Cloaking.{CloakedMemory, OfferEnd, Ready, Mismatch, Missed}
 use Rattle.cloak_model.specs.Contexts.{Context}
 use Rattle.cloak_model.specs.DomainState.{Control, Domain}
 use Rattle.cloak_model.specs.DomainStep.{domain_step}
-use Rattle.cloak_model.specs.Ending.{all_marked, settled_for, ask_end}
+use Rattle.cloak_model.specs.Ending.{ask_end}
 use Rattle.cloak_model.specs.Events.{Event}
-use Rattle.cloak_model.specs.Fork.{marked, private_numbers, free_numbers, ask_copies, ask_forgets, fork, end_context}
-use Rattle.cloak_model.proofs.ForkParts.{fork_cleared, fork_if, end_cleared, end_if}
-use Rattle.cloak_model.specs.Hypercalls.{Hypercall, ForkSpace, Exit, hypercall, fork_call, exit_call}
+use Rattle.cloak_model.specs.Fork.{marked, private_numbers, free_numbers, copies, copy_each}
 use Rattle.cloak_model.specs.Memory.{is_in_ram}
-use Rattle.cloak_model.specs.Opening.{numbers_below}
 use Rattle.cloak_model.specs.PageMoves.{copy_pages, drop_pages}
-use Rattle.cloak_model.specs.Resources.{Resources, page_at}
 use Rattle.cloak_model.specs.World.{World, Handed, Flat, Cloaked, Alone, is_missed, ram_of, noted, stored_at, settled, written}
+use Rattle.cloak_model.specs.Script.{played}
+use Rattle.hypercall_kinds.specs.Kinds.{cleared}
+use Rattle.script_fold.proofs.Endings.{keeps_end}
 use Rattle.kernel_isolation.proofs.Leading.{leads_inside}
 use Rattle.kernel_isolation.proofs.Settlings.{HasPlaces}
 use Rattle.chain_law.proofs.Zeros.{keeps_places, settle_fresh, offer_offered}
-use Rattle.chain_law.proofs.ZeroWorlds.{NoneOwedIn, MarkedClear, copy_owes}
+use Rattle.chain_law.proofs.ZeroWorlds.{clear_clears, NoneOwedIn, MarkedClear, copy_owes}
 use Rattle.frozen_law.specs.Records.{RecordsTell}
-use Rattle.frozen_law.proofs.Cleared.{clear_clears}
-use Rattle.frozen_law.proofs.Ends.{forgets_keep}
+use Rattle.frozen_law.proofs.Ends.{hypercall_keeps}
 use Rattle.frozen_law.proofs.Memories.{InWorld}
 use Rattle.frozen_law.proofs.Questions.{Kept, address_keeps, reach_keeps, clear_keeps}
 use Rattle.frozen_law.proofs.Records.{IsOwed, settle_tell, offer_tell, offer_owes, newest_tell, copy_tell, drop_tell}
-use Rattle.frozen_law.proofs.Walks.{AreOf, Stores, step_keeps}
+use Rattle.frozen_law.proofs.Walks.{AnyPage, any_page, Stores, step_keeps}
 use Rattle.chain_law.proofs.ZeroSteps.{IsMarked, private_marked}
 
 -- The changes of a world.
@@ -82,9 +79,6 @@ learns_written i (Flat seen) = learns_none (Flat seen)
 learns_written i (Cloaked c) = record { by = λ knows. knows }
 learns_written i (Alone h) = learns_none (Alone h)
 
-abbrev AnyPage : PageId → Type 0
-AnyPage q = Unit {0}
-
 changes : Kept AnyPage Learns
 changes = record {
   same = learns_none;
@@ -125,7 +119,7 @@ owed_replies q a w owed is = owed_written q _ w (owed is)
 stopped_ok : told.Stopped ≡ told.Ok → ⊥
 stopped_ok is = cc
 
-owed_offered : (q : PageId) (va : ℕ) (kind : Kind) (g : ℕ) (o : Offer) (w : World) → (o ≡ Ready → OwedIn q w) →
+owed_offered : (q : PageId) (va : ℕ) (kind : Kind) (g : ℕ) (o : OfferEnd) (w : World) → (o ≡ Ready → OwedIn q w) →
     OwedIfOk q (offered_by q va kind g o w)
 unfolding offered_by
 owed_offered q va kind g Ready w owed = owed_replies q told.Ok _ (λ is. owed_noted q _ w (owed refl))
@@ -220,8 +214,8 @@ learns_forget d n (Cloaked c) = record { by = λ knows. (knows.0, drop_tell d n 
 learns_forget d n (Alone h) = record { by = λ knows. tt }
 
 learns_copies : (domain : ℕ) (marks : List Bool) (numbers free : List ℕ) (w : World) → All (IsMarked marks) numbers →
-    MarkedClear domain marks w → Learns 0 w (ask_copies domain (zip numbers free) w).world
-unfolding ask_copies
+    MarkedClear domain marks w → Learns 0 w (played (copy_each domain (zip numbers free)) w).world
+unfolding copy_each
 learns_copies domain marks [] free w all clear = learns_none w
 learns_copies domain marks (n ∷ numbers) [] w all clear = learns_none w
 learns_copies domain marks (n ∷ numbers) (to ∷ free) w all clear =
@@ -229,63 +223,18 @@ learns_copies domain marks (n ∷ numbers) (to ∷ free) w all clear =
     (learns_copies domain marks numbers free (ask_copy domain n to w).world (All-tail (IsMarked marks) n numbers all)
     (λ resource is. copy_owes domain n to w resource (clear resource is)))
 
-fork_cleared_learns : (domain : ℕ) (c : Context) (slot new : ℕ) (r : Resources) (contexts : List (Option Context))
-    (a : Answer) (w : World) → (a ≡ told.Ok → MarkedClear domain (marked c.space r) w) →
-    Learns 0 w (fork_cleared domain c slot new r contexts a w).world
-fork_cleared_learns domain c slot new r contexts told.Ok w clear =
-    learns_copies domain (marked c.space r) (private_numbers c.space r) (free_numbers r) w (private_marked c.space r)
-    (clear refl)
-fork_cleared_learns domain c slot new r contexts (told.Absent cause) w clear = learns_none w
-fork_cleared_learns domain c slot new r contexts (told.Word value) w clear = learns_none w
-fork_cleared_learns domain c slot new r contexts told.Stopped w clear = learns_none w
-
-fork_if_learns : (fits : Result (Unit {0}) MapFault) (domain : ℕ) (c : Context) (r : Resources)
-    (contexts : List (Option Context)) (w : World) → Learns 0 w (fork_if fits domain c r contexts w).world
-fork_if_learns (Err fault) domain c r contexts w = learns_none w
-fork_if_learns (Ok fits) domain c r contexts w = record {
-  by = λ knows.
-      (fork_cleared_learns domain c _ _ r contexts _ _
-      (clear_clears domain (marked c.space r) w (places_of w knows))).by
-      ((clear_keeps AnyPage Learns changes domain (marked c.space r) w).by knows);
-}
-
-fork_learns : (domain : ℕ) (c : Context) (r : Resources) (contexts : List (Option Context)) (w : World) →
-    Learns 0 w (fork domain c r contexts w).world
-unfolding fork
-fork_learns domain c r contexts w = fork_if_learns _ domain c r contexts w
-
-end_cleared_learns : (domain slot space : ℕ) (r : Resources) (contexts : List (Option Context)) (a : Answer)
-    (w : World) → Learns 0 w (end_cleared domain slot space r contexts a w).world
-end_cleared_learns domain slot space r contexts told.Ok w = forgets_keep AnyPage Learns changes learns_forget domain _ w
-end_cleared_learns domain slot space r contexts _ w = learns_none w
-
-end_if_learns : (others : Bool) (domain slot space : ℕ) (r : Resources) (contexts : List (Option Context)) (w : World) →
-    Learns 0 w (end_if others domain slot space r contexts w).world
-end_if_learns true domain slot space r contexts w = learns_none w
-end_if_learns false domain slot space r contexts w =
-    learns_then 0 0 _ _ _ (clear_keeps AnyPage Learns changes domain (marked space r) w)
-    (end_cleared_learns domain slot space r contexts _ _)
-
-end_context_learns : (domain slot space : ℕ) (r : Resources) (contexts : List (Option Context)) (w : World) →
-    Learns 0 w (end_context domain slot space r contexts w).world
-unfolding end_context
-end_context_learns domain slot space r contexts w = end_if_learns _ domain slot space r contexts w
-
-hypercall_learns : (d : Control) (h : Hypercall) (slot : ℕ) (c : Context) (w : World) →
-    Learns 0 w (hypercall h slot c d w).world
-unfolding hypercall fork_call exit_call
-hypercall_learns d ForkSpace slot c w = fork_learns d.number c d.resources d.contexts w
-hypercall_learns d Exit slot c w = end_context_learns d.number slot c.space d.resources d.contexts w
-hypercall_learns d _ slot c w = learns_none w
+learns_fork : (d : Control) (c : Context) (w : World) → (cleared c d w).answer ≡ told.Ok →
+    Learns 0 w (played (copy_each d.number (copies c.space d.resources)) (cleared c d w).world).world
+learns_fork d c w ok =
+    let r = d.resources in
+    record {
+      by = λ knows.
+          (learns_copies d.number (marked c.space r) (private_numbers c.space r) (free_numbers r) (cleared c d w).world
+          (private_marked c.space r) (clear_clears d.number (marked c.space r) w (places_of w knows) ok)).by
+          ((clear_keeps AnyPage Learns changes d.number (marked c.space r) w).by knows);
+    }
 
 -- The step, and the end of a domain.
-
-any_some : (o : Option PageId) → IfSome o AnyPage
-any_some None = tt
-any_some (Some q) = tt
-
-any_page : (domain : ℕ) (r : Resources) (space : ℕ) → AreOf AnyPage domain r space
-any_page domain r space va = any_some (page_at domain r space va)
 
 tells_of : (w : World) → KnowsIn w → InWorld RecordsTell w
 tells_of (Cloaked c) knows = knows.1
@@ -296,7 +245,7 @@ pub step_tells : (slot : ℕ) (d : Domain) (w : World) → InWorld Knows w →
 step_tells slot d w knows =
     tells_of (domain_step slot d w).world
     ((step_keeps AnyPage Learns changes stores d (any_page d.control.number d.control.resources)
-    (hypercall_learns d.control) slot w).by knows)
+    (hypercall_keeps AnyPage Learns changes learns_forget d.control (learns_fork d.control)) slot w).by knows)
 
 abbrev TellIn : World → Type 0
 TellIn w = InWorld RecordsTell w
@@ -305,32 +254,15 @@ settled_tells : (f : ℕ) (w : World) → TellIn w → TellIn (settled f w)
 settled_tells f (Cloaked c) tell = settle_tell f c.memory tell
 settled_tells f _ tell = tt
 
-either_tells : (b : Bool) (w v : World) → TellIn w → TellIn v → TellIn (cond b v w)
-either_tells true w v here there = there
-either_tells false w v here there = here
-
-marked_tells : (d : ℕ) (marks : List Bool) (f : ℕ) (w : World) → TellIn w → TellIn (settled_if_marked d marks f w)
-unfolding settled_if_marked
-marked_tells d marks f w tell = either_tells _ w (settled f w) tell (settled_tells f w tell)
-
-settled_for_tells : (d f n : ℕ) (w : World) → TellIn w → TellIn (settled_for d f n w)
-unfolding settled_for
-settled_for_tells d f zero w tell = tell
-settled_for_tells d f (suc n) w tell =
-    settled_for_tells d (f + 1) n (settled_if_marked d all_marked f w) (marked_tells d all_marked f w tell)
-
 forget_tells : (d n : ℕ) (w : World) → TellIn w → TellIn (ask_forget d n w).world
 unfolding ask_forget
 forget_tells d n (Cloaked c) tell = drop_tell d n c.memory tell
 forget_tells d n _ tell = tt
 
-forgets_tell : (d : ℕ) (numbers : List ℕ) (w : World) → TellIn w → TellIn (ask_forgets d numbers w).world
-unfolding ask_forgets
-forgets_tell d [] w tell = tell
-forgets_tell d (n ∷ numbers) w tell = forgets_tell d numbers (ask_forget d n w).world (forget_tells d n w tell)
-
 pub end_tells : (d : ℕ) (w : World) → TellIn w → TellIn (ask_end d w).world
-unfolding ask_end
-end_tells d w tell =
-    forgets_tell d (numbers_below 16) (settled_for d 0 (length (ram_of w)) w)
-    (settled_for_tells d 0 (length (ram_of w)) w tell)
+end_tells d w =
+    keeps_end (λ v x. TellIn v → TellIn x) (record {
+      same = λ v tell. tell;
+      chained = λ u v x first second tell. second (first tell);
+      settled = settled_tells;
+    }) forget_tells d w

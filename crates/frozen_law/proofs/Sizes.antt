@@ -10,7 +10,7 @@ use Rattle.cloak_model.specs.DomainState.{Domain}
 use Rattle.cloak_model.specs.Ending.{ended_domain}
 use Rattle.cloak_model.specs.Hart.{Hart, started}
 use Rattle.cloak_model.specs.Joint.{Moment, Turn, end_domain, step_before_end, joint_step}
-use Rattle.cloak_model.specs.Opening.{Opened, started_harts, started_kernel, started_domains, started_joint}
+use Rattle.cloak_model.specs.Opening.{RunEdge, started_harts, started_kernel, started_domains, started_joint}
 use Rattle.cloak_model.specs.Parts.{Joint}
 use Rattle.disk_law.proofs.Turns.{step_keeps}
 use Rattle.range_law.proofs.Bounds.{all_get}
@@ -76,7 +76,7 @@ started_counts : (b : Bundle) (m : CloakedMemory) → let j = started_joint b m 
 unfolding started_joint started_kernel
 started_counts b m = (harts_count b.kernel.entry b.kernel.harts, refl, domains_count 0 b.programs)
 
-opened_counted : (b : Bundle) (from : Beginning) (o : Opened) → opening_from b from ≡ Ok o → Counted b o.joint
+opened_counted : (b : Bundle) (from : Beginning) (o : RunEdge) → opening_from b from ≡ Ok o → Counted b o.joint
 opened_counted b from o opens =
     let over = opens_over b from o opens in
     let keeps = added_keep (files_of from) (started_joint b over.memory) o.joint over.added in

@@ -17,7 +17,7 @@ use Rattle.cloak_model.specs.DomainStep.{domain_step}
 use Rattle.cloak_model.specs.Events.{Event}
 use Rattle.cloak_model.specs.Joint.{Moment, joint_step}
 use Rattle.cloak_model.specs.Ledger.{Keys, vector_of}
-use Rattle.cloak_model.specs.Opening.{Opened, drawn_keys, key_count, keys_for, started_joint, started_ledger, started_memory}
+use Rattle.cloak_model.specs.Opening.{RunEdge, drawn_keys, key_count, keys_for, started_joint, started_ledger, started_memory}
 use Rattle.cloak_model.specs.PageMoves.{copy_pages, drop_pages, place, place_with}
 use Rattle.cloak_model.specs.Parts.{Joint}
 use Rattle.cloak_model.specs.World.{World, Flat, Cloaked, Alone, noted, stored_at, settled, written, with_plain}
@@ -55,7 +55,7 @@ after_one (suc n) stream last draw is drawn =
     after_by n (next_draw stream) last draw (λ d there. after_one n d.1 last draw there drawn) is
 
 -- What holds of a memory, as long as the draws are counted.
-record Follows (keys : Keys) (rest : Random) (m : CloakedMemory) : Type 0 where
+record StreamFollows (keys : Keys) (rest : Random) (m : CloakedMemory) : Type 0 where
   pub held : m.ledger.keys ≡ keys
   pub stream : m.ledger.draws < 2 ^ 64 - 1 → skipped m.ledger.draws rest ≡ Some m.ledger.stream
 
@@ -79,7 +79,7 @@ drawn_follows rest n last draw before drawn low =
 
 module _ (keys : Keys) (rest : Random) where
   abbrev Fits : CloakedMemory → Type 0
-  Fits m = Follows keys rest m
+  Fits m = StreamFollows keys rest m
 
   owed_follows : (f : ℕ) (q : PageId) (draw : Option (List ℕ × Random)) (m : CloakedMemory) →
       next_draw m.ledger.stream ≡ draw → Fits m → Fits (settle_owed f q draw m).memory
@@ -238,8 +238,8 @@ module _ (keys : Keys) (rest : Random) where
   unfolding started_memory started_ledger skipped
   started_follows b = record { held = refl; stream = λ low. refl }
 
-joint_follows : (keys : Keys) (rest : Random) (b : Bundle) (m : CloakedMemory) → Follows keys rest m →
-    Follows keys rest (started_joint b m).memory
+joint_follows : (keys : Keys) (rest : Random) (b : Bundle) (m : CloakedMemory) → StreamFollows keys rest m →
+    StreamFollows keys rest (started_joint b m).memory
 unfolding started_joint
 joint_follows keys rest b m here = here
 
@@ -247,18 +247,18 @@ joint_follows keys rest b m here = here
 
 abbrev FollowsFrom : Bundle → Beginning → CloakedMemory → Type 0
 FollowsFrom b (Fresh stream) m =
-    IsSomeAnd (drawn_keys (key_count b.programs) stream) (λ drawn. Follows (keys_for b.programs drawn.0) drawn.1 m)
-FollowsFrom b (Stored keys stream files) m = Follows (stored_keys b keys) stream m
+    IsSomeAnd (drawn_keys (key_count b.programs) stream) (λ drawn. StreamFollows (keys_for b.programs drawn.0) drawn.1 m)
+FollowsFrom b (Stored keys stream files) m = StreamFollows (stored_keys b keys) stream m
 
 from_follows : (b : Bundle) (from : Beginning) (keys : Keys) (rest : Random) (m : CloakedMemory) →
-    HasKeys b from keys rest → Follows keys rest m → FollowsFrom b from m
+    HasKeys b from keys rest → StreamFollows keys rest m → FollowsFrom b from m
 from_follows b (Fresh stream) keys rest m has here =
     subst (λ (o : Option (List (List ℕ) × Random)).
-    IsSomeAnd o (λ drawn. Follows (keys_for b.programs drawn.0) drawn.1 m)) (sym has.draws)
-    (subst (λ (k : Keys). Follows k rest m) has.are here)
+    IsSomeAnd o (λ drawn. StreamFollows (keys_for b.programs drawn.0) drawn.1 m)) (sym has.draws)
+    (subst (λ (k : Keys). StreamFollows k rest m) has.are here)
 from_follows b (Stored handed stream files) keys rest m has here =
-    subst (λ (s : Random). Follows (stored_keys b handed) s m) has.stays
-    (subst (λ (k : Keys). Follows k rest m) has.are here)
+    subst (λ (s : Random). StreamFollows (stored_keys b handed) s m) has.stays
+    (subst (λ (k : Keys). StreamFollows k rest m) has.are here)
 
 some_wide : {A : Type 0} (P Q : A → Type 0) (o : Option A) → ((a : A) → P a → Q a) → IsSomeAnd o P → IsSomeAnd o Q
 some_wide P Q None wide here = here
@@ -271,12 +271,12 @@ step_from b (Fresh stream) m steady here =
     (λ drawn there. step_follows (keys_for b.programs drawn.0) drawn.1 m steady there) here
 step_from b (Stored keys stream files) m steady here = step_follows (stored_keys b keys) stream m steady here
 
-opened_follows : (b : Bundle) (from : Beginning) (o : Opened) → opening_from b from ≡ Ok o →
+opened_follows : (b : Bundle) (from : Beginning) (o : RunEdge) → opening_from b from ≡ Ok o →
     FollowsFrom b from o.joint.memory
 opened_follows b from o opens =
     let over = opens_over b from o opens in
     let kept = (added_keep (files_of from) (started_joint b over.memory) o.joint over.added).memory in
-    let fits = Follows over.keys over.stream in
+    let fits = StreamFollows over.keys over.stream in
     let placed = subst (λ (m : Option CloakedMemory). IfSome m fits) over.placed
     (programs_placed fits (place_follows over.keys over.stream) 0 b.programs _ (started_follows over.keys over.stream b)) in
     from_follows b from over.keys over.stream o.joint.memory over.has_keys
@@ -287,7 +287,7 @@ record Keeps (b : Bundle) (from : Beginning) (j : Joint) : Type 0 where
   steady : IsSteady j
   follows : FollowsFrom b from j.memory
 
-opened_keeps : (b : Bundle) (from : Beginning) (o : Opened) → opening_from b from ≡ Ok o → Keeps b from o.joint
+opened_keeps : (b : Bundle) (from : Beginning) (o : RunEdge) → opening_from b from ≡ Ok o → Keeps b from o.joint
 opened_keeps b from o opens =
     record { steady = (is_opened b from o opens).steady; follows = opened_follows b from o opens }
 
@@ -297,7 +297,7 @@ step_keeps_streams b from m here = record {
   follows = step_from b from m here.steady here.follows;
 }
 
-drawn_by : (keys : Keys) (rest : Random) (m : CloakedMemory) → m.ledger.draws < 2 ^ 60 → Follows keys rest m →
+drawn_by : (keys : Keys) (rest : Random) (m : CloakedMemory) → m.ledger.draws < 2 ^ 60 → StreamFollows keys rest m →
     HasDrawn keys rest m.ledger
 drawn_by keys rest m low here = record { same_keys = here.held; rest = here.stream (omega (arith, low)) }
 

@@ -22,7 +22,7 @@ use Rattle.cloak_model.specs.DomainState.{Domain}
 use Rattle.cloak_model.specs.Events.{Event}
 use Rattle.cloak_model.specs.Joint.{Moment, Turn, joint_step, after_turn, stop_of}
 use Rattle.cloak_model.specs.Memory.{is_in_ram}
-use Rattle.cloak_model.specs.Opening.{Opened, Lack}
+use Rattle.cloak_model.specs.Opening.{RunEdge, Lack}
 use Rattle.cloak_model.specs.Run.{Run, run_from, run_of, unless_stopped, turns_from, joint_after, first_moment, closing}
 use Rattle.cloak_model.specs.World.{World, Flat, Cloaked, Alone, ram_of, noted, stored_at, settled, written, with_plain}
 use Rattle.cause_law.specs.Causes.{EndIsPresented, moment_at}
@@ -49,11 +49,11 @@ take_none : (n : ℕ) → take n (let none : List Turn = [] in none) ≡ []
 take_none zero = refl
 take_none (suc n) = refl
 
-record Follows (s : Option Stop) (budget n : ℕ) (m : Moment) : Type 0 where
+record ViolationsFollow (s : Option Stop) (budget n : ℕ) (m : Moment) : Type 0 where
   more : ℕ
   same : take n (unless_stopped s (turns_from budget) m) ≡ unless_stopped s (turns_from more) m
 
-follows : (s : Option Stop) (budget n : ℕ) (m : Moment) → Shorter budget n m → Follows s budget n m
+follows : (s : Option Stop) (budget n : ℕ) (m : Moment) → Shorter budget n m → ViolationsFollow s budget n m
 follows None budget n m shorter = record { more = shorter.steps; same = shorter.same }
 follows (Some cause) budget n m shorter = record { more = 0; same = take_none n }
 
@@ -77,12 +77,12 @@ abbrev EndsSo : Bundle → Beginning → Run → Type 0
 EndsSo b from r =
     (n d : ℕ) (v : Violation) → slice_get (joint_until n r).ended d ≡ Some (Some v) → EndedSo b from d v
 
-closed_ended : (b : Bundle) (budget : ℕ) (o : Opened) →
+closed_ended : (b : Bundle) (budget : ℕ) (o : RunEdge) →
     (run_of b budget o).closed.joint.ended ≡ (joint_after o.joint (turns_from budget (first_moment b o.joint))).ended
 unfolding run_of closing
 closed_ended b budget o = refl
 
-opened_ends : (b : Bundle) (from : Beginning) (budget : ℕ) (o : Opened) → opening_from b from ≡ Ok o →
+opened_ends : (b : Bundle) (from : Beginning) (budget : ℕ) (o : RunEdge) → opening_from b from ≡ Ok o →
     EndsSo b from (run_of b budget o)
 unfolding run_of
 opened_ends b from budget o opens n d v there =

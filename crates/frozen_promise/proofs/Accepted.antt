@@ -22,7 +22,7 @@ use Rattle.command_parts.specs.NoRun.{IsRefused}
 use Rattle.command_parts.specs.Outside.{Outside}
 use Rattle.command_parts.specs.Refusal.{status_of_refusal}
 use Rattle.command_parts.proofs.StreamFacts.{same_stream}
-use Rattle.run_command.specs.Running.{NoClashYet}
+use Rattle.cloak_model.specs.Run.{NoClashYet}
 use Rattle.frozen_promise.specs.Accepted.{FailedToRead, FailedToWrite, GoesOnUnlessFailed, HasGoneOn, IsFromOutside, LackedMemory, SavedStatesAreAccepted}
 use Rattle.frozen_promise.specs.OneRun.{ShareFiles, TwoCommands}
 use Rattle.frozen_promise.proofs.Refused.{Named, refused_outside, thaw_of}

@@ -9,7 +9,7 @@ use Rattle.cloak_model.specs.declared.image.Bundle.{Bundle}
 use Rattle.cloak_model.specs.Cloaking.{CloakedMemory}
 use Rattle.cloak_model.specs.Exchange.{recorded_bytes, shown_bytes}
 use Rattle.cloak_model.specs.Joint.{Moment, Turn}
-use Rattle.cloak_model.specs.Opening.{Lack, Opened, opening}
+use Rattle.cloak_model.specs.Opening.{Lack, RunEdge, opening}
 use Rattle.cloak_model.specs.Parts.{Joint}
 use Rattle.cloak_model.specs.Run.{Run, first_moment, joint_after, joint_run, last_stop, run_of, turns_from}
 use Rattle.frozen_commands.specs.FreezeAnswering.{IfNoneClashed, IsSaved}
@@ -23,7 +23,8 @@ use Rattle.io_traits.specs.Told.{Grows}
 use Rattle.command_parts.specs.Freezing.{AsksFrozen}
 use Rattle.command_parts.specs.Thawing.{AsksThawed, SpellsState, ThawSources}
 use Rattle.command_parts.proofs.StreamFacts.{same_stream}
-use Rattle.run_command.specs.Running.{NoClash, NoClashYet, status_of}
+use Rattle.run_command.specs.Running.{status_of}
+use Rattle.cloak_model.specs.Run.{NoClash, NoClashYet}
 use Rattle.run_command.proofs.ClashFacts.{run_unclashed, turns_unclashed}
 use Rattle.thaw_law.proofs.FreezeThaw.{runs_are_first_and_rest}
 use Rattle.thaw_law.proofs.Pieces.{shown-last}
@@ -35,12 +36,12 @@ use Rattle.frozen_commands.proofs.StateFacts.{none_left}
 
 -- Both runs open alike.
 
-abbrev AreOpened : Bundle → ℕ → ℕ → Run → Run → Opened → Type 0
+abbrev AreOpened : Bundle → ℕ → ℕ → Run → Run → RunEdge → Type 0
 AreOpened b n m made r o = (made ≡ run_of b n o) × (r ≡ run_of b m o)
 
-opened_alike : (b : Bundle) (n m : ℕ) (made r : Run) (x : Result Opened Lack) →
+opened_alike : (b : Bundle) (n m : ℕ) (made r : Run) (x : Result RunEdge Lack) →
     result_map_both (run_of b n) (λ lack. lack) x ≡ Ok made → result_map_both (run_of b m) (λ lack. lack) x ≡ Ok r →
-    (o : Opened) × AreOpened b n m made r o
+    (o : RunEdge) × AreOpened b n m made r o
 opened_alike b n m made r (Ok o) first second =
     (o, ((let is : Ok made ≡ Ok (run_of b n o) = sym first in cc), (let is : Ok r ≡ Ok (run_of b m o) = sym second in cc)))
 opened_alike b n m made r (Err lack) first second = absurd (let clash : Err lack ≡ Ok made = first in cc)
@@ -57,7 +58,7 @@ unclashed_if n k m None on none =
 unclashed_if n k m (Some cause) over none =
     subst (λ (ts : List Turn). NoClashYet (joint_after m.joint ts)) (stopped_runs_stay n k m cause over) none
 
-first_unclashed : (b : Bundle) (n k : ℕ) (o : Opened) → NoClash (run_of b (n + k) o) →
+first_unclashed : (b : Bundle) (n k : ℕ) (o : RunEdge) → NoClash (run_of b (n + k) o) →
     NoClashYet (joint_after o.joint (first_turns b o n))
 first_unclashed b n k o none =
     unclashed_if n k (first_moment b o.joint) _ refl (run_unclashed b (n + k) o none)

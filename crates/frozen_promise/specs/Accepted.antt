@@ -13,7 +13,7 @@ use Rattle.command_parts.specs.declared.status.Status.{Status}
 use Rattle.command_parts.specs.declared.status.Status.TheVariants as status
 use Rattle.command_parts.specs.NoRun.{LineFailed}
 use Rattle.command_parts.specs.Outside.{Outside}
-use Rattle.run_command.specs.Running.{NoClashYet}
+use Rattle.cloak_model.specs.Run.{NoClashYet}
 use Rattle.frozen_promise.specs.OneRun.{ShareFiles, TwoCommands}
 
 -- a reason to refuse that lies outside: a file cannot be read, or there is not enough memory

@@ -13,7 +13,8 @@ use Rattle.io_traits.specs.Told.{Grows, Tells}
 use Rattle.command_parts.specs.declared.status.Status.{Status}
 use Rattle.command_parts.specs.Outside.{Outside}
 use Rattle.command_parts.specs.Streams.{IsToldStream}
-use Rattle.run_command.specs.Running.{NoClash, run_status}
+use Rattle.run_command.specs.Running.{run_status}
+use Rattle.cloak_model.specs.Run.{NoClash}
 use Rattle.thaw_law.specs.FreezeThaw.{AreAlike}
 
 -- The commands.

@@ -5,7 +5,7 @@ use Rattle.cloak_model.specs.declared.item.Item.TheVariants as item
 use Rattle.cloak_model.specs.DomainState.{Domain}
 use Rattle.cloak_model.specs.Exchange.{Piece, recorded, shown, record_magic, item_pieces}
 use Rattle.cloak_model.specs.Joint.{Moment, Turn}
-use Rattle.cloak_model.specs.Opening.{Opened}
+use Rattle.cloak_model.specs.Opening.{RunEdge}
 use Rattle.cloak_model.specs.Parts.{Joint}
 use Rattle.cloak_model.specs.Report.{report}
 use Rattle.cloak_model.specs.Run.{Run, first_moment, last_stop, run_of_turns, turns_from, turns_pieces}
@@ -13,15 +13,15 @@ use Rattle.cloak_model.specs.Run.{Run, first_moment, last_stop, run_of_turns, tu
 -- The first part.
 
 -- its steps
-abbrev pub first_turns : Bundle → Opened → ℕ → List Turn
+abbrev pub first_turns : Bundle → RunEdge → ℕ → List Turn
 first_turns b o steps = turns_from steps (first_moment b o.joint)
 
 -- it made all its steps, and none of them stopped it
-abbrev pub IsFrozenAfter : Bundle → Opened → ℕ → Type 0
+abbrev pub IsFrozenAfter : Bundle → RunEdge → ℕ → Type 0
 IsFrozenAfter b o steps = last_stop None (first_turns b o steps) ≡ None
 
 -- what it writes: magic, opening, and steps
-unfoldable pub first_pieces : Opened → List Turn → List Piece
+unfoldable pub first_pieces : RunEdge → List Turn → List Piece
 first_pieces o turns = recorded record_magic ∷ (item_pieces o.items ++ turns_pieces 1 turns)
 
 -- The second part.

@@ -317,7 +317,7 @@ segments_fault file n at = first_of
     (disk_fault file (number file 32) (grammar.after_parts (format.after_segment file) n at))
 
 abbrev schedule_fault : List ℕ → ℕ → Option BundleFault
-schedule_fault file n = first_of (first_in file (grammar.parts (format.turn file) format.after_byte n 40))
+schedule_fault file n = first_of (first_in file (grammar.parts (format.scheduled file) format.after_byte n 40))
     (segments_fault file (number file 28) (grammar.after_parts format.after_byte n 40))
 
 programs_tell : (file : List ℕ) (h : Header) (schedule : List ℕ) (segments : List Segment × ℕ) (disk : List ℕ)
@@ -374,10 +374,10 @@ schedule_tells : (file : List ℕ) (h : Header) → NumbersAre file h →
     Tells (after_header file h) (schedule_fault file (number file 20))
 schedule_tells file h numbers =
     let next = λ (at : ℕ) (x : ℕ) (e : turn_at h.harts file at ≡ Ok x). stays at in
-    let read = parts_tell file (format.turn file) format.after_byte (turn_at h.harts file) (λ _. 1)
+    let read = parts_tell file (format.scheduled file) format.after_byte (turn_at h.harts file) (λ _. 1)
     (λ at. turn_tells file h.harts at numbers.harts) next h.turns 40 in
     rw numbers.turns (bind_tells (parts_at (turn_at h.harts file) (λ _. 1) h.turns 40) (after_schedule file h)
-    (first_in file (grammar.parts (format.turn file) format.after_byte h.turns 40))
+    (first_in file (grammar.parts (format.scheduled file) format.after_byte h.turns 40))
     (segments_fault file (number file 28) (grammar.after_parts format.after_byte h.turns 40)) read (λ schedule e.
     segments_tell file h schedule (grammar.after_parts format.after_byte h.turns 40) numbers
     (parts_end format.after_byte (turn_at h.harts file) (λ _. 1) next h.turns 40 schedule e)))
@@ -392,7 +392,7 @@ bundle_tells file =
     (schedule_fault file (number file 20)) (header_tells file) (λ h e. schedule_tells file h (numbers_are file h e))
     in
     let regrouped = chain file (format.header file)
-    (grammar.parts (format.turn file) format.after_byte (number file 20) 40)
+    (grammar.parts (format.scheduled file) format.after_byte (number file 20) 40)
     (grammar.parts (format.segment file) (format.after_segment file) (number file 28) (format.segments_from file))
     (format.pages (number file 32) (format.disk_from file))
     (grammar.parts (format.program file) (format.after_program file) (number file 36) (format.programs_from file))

@@ -7,7 +7,7 @@ use Rattle.cloak_model.specs.declared.fault.BundleFault.{BundleFault}
 use Rattle.cloak_model.specs.declared.fault.BundleFault.TheVariants.{Short, BadCount, TooLarge, BadRange}
 use Rattle.guest_bundle.specs.Fields.{◌>>=◌, bytes_at, pages_at, number_at, count_at, entry_at}
 use Rattle.cloak_model.specs.Fields.{first_of, fault_in, first_in, number, parts, after_parts}
-use Rattle.cloak_model.specs.BundleFault.{BundleField, ruled_at, count, is_base_of, after_page, pages, turn}
+use Rattle.cloak_model.specs.BundleFault.{BundleField, ruled_at, count, is_base_of, after_page, pages, scheduled}
 use Rattle.guest_bundle.specs.Reading.{turn_at, place_at, base_at, parts_at}
 use Rattle.guest_bundle.proofs.Steps.{bind_ok, refused_not, ok_is}
 
@@ -156,7 +156,7 @@ unfolding base_at
 base_tells page_count file at = one_rule_tells file at (is_base_of page_count)
 
 pub turn_tells : (file : List ℕ) (harts at : ℕ) → number file 16 ≡ harts →
-    Tells (turn_at harts file at) (first_in file (turn file at))
+    Tells (turn_at harts file at) (first_in file (scheduled file at))
 turn_tells file harts at is =
     let b = get_or file at 0 in
     let named = ltb b harts in

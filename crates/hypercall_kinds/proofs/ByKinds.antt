@@ -16,12 +16,14 @@ use Rattle.cloak_model.specs.Calls.{call_number, takes_bytes, is_good, BeginsCal
 use Rattle.cloak_model.proofs.CallParts.{copy_begin, call_begin}
 use Rattle.cloak_model.specs.Contexts.{Context, in_phase, moved_on, has_buffer, end_at}
 use Rattle.cloak_model.specs.DomainState.{Control}
-use Rattle.cloak_model.specs.Fork.{has_room, fork_fits, fork, is_of_space, end_context}
+use Rattle.cloak_model.specs.Fork.{Fork, End, has_room, fork_fits, fork, is_of_space, end_context, copy_each, copies, forget_each, private_numbers}
+use Rattle.cloak_model.proofs.Playing.{played_then, plays_both}
 use Rattle.cloak_model.proofs.ForkParts.{fork_cleared, fork_if, end_cleared, end_if}
 use Rattle.cloak_model.specs.Hypercalls.{Stepped, fault_word, answers_word, bad_call, stopped, remapped, new_call, map_call, unmap_call, file_call, thread_at, thread_call, with_spaces, fork_told, fork_call, end_told, exit_call, call_begun, kernel_call, Hypercall, New, Map, Unmap, File, Thread, ForkSpace, Exit, Call, Unknown, hypercall}
 use Rattle.cloak_model.specs.Record.{IsWord}
 use Rattle.cloak_model.specs.Resources.{Resources, Mapped, resource_at, regions_in, first_free, refused, size_for, is_region, overlaps, mapped, map_region, starts_at, unmap_region}
 use Rattle.cloak_model.specs.World.{World}
+use Rattle.cloak_model.specs.Script.{played}
 use Rattle.hypercall_kinds.specs.Kinds.{cleared, CallKind, Answers, MakesNew, MakesFile, Maps, Unmaps, Starts, BeginsCopy, Calls, Stops, Forks, Ends, EndsSpace, remaps, after, HasKind, HypercallsHaveKinds}
 
 fault_fits : (f : MapFault) → IsWord (fault_word f)
@@ -108,8 +110,8 @@ module _ (h : Hypercall) (slot : ℕ) (c : Context) (d : Control) (w : World) wh
   -- FORK
   fork_cleared_kind : (a : Answer) → (cleared c d w).answer ≡ a → h ≡ ForkSpace →
       has_room c.space d.resources d.contexts ≡ true →
-      Has (then_ask (fork_cleared d.number c (unwrap_or (first_free d.contexts) 0)
-      (unwrap_or (first_free d.resources.spaces) 0) d.resources d.contexts a)
+      Has (then_ask (played (fork_cleared d.number c (unwrap_or (first_free d.contexts) 0)
+      (unwrap_or (first_free d.resources.spaces) 0) d.resources d.contexts a))
       (λ made. answered (fork_told slot c d made.answer (with_spaces made.spaces d))) (cleared c d w).world)
   unfolding fork_told
   fork_cleared_kind told.Ok is same room =
@@ -118,14 +120,15 @@ module _ (h : Hypercall) (slot : ℕ) (c : Context) (d : Control) (w : World) wh
       record {
         kind = Forks (unwrap_or (first_free d.contexts) 0) (unwrap_or (first_free d.resources.spaces) 0) same room
             (some_there (first_free d.contexts) slots.0) (some_there (first_free d.resources.spaces) spaces.0) is;
-        is = refl;
+        is = ap (λ (t : Told Fork). answered (fork_told slot c d t.answer.answer (with_spaces t.answer.spaces d)) t.world)
+            (played_then (copy_each d.number (copies c.space d.resources)) _ (cleared c d w).world);
       }
   fork_cleared_kind (told.Absent cause) is same room = stops _ is (λ ok. cc)
   fork_cleared_kind (told.Word value) is same room = stops _ is (λ ok. cc)
   fork_cleared_kind told.Stopped is same room = stops _ is (λ ok. cc)
 
   fork_if_kind : (fits : Bool) → has_room c.space d.resources d.contexts ≡ fits → h ≡ ForkSpace →
-      Has (then_ask (fork_if (cond fits (Ok tt) (Err fault.Full)) d.number c d.resources d.contexts)
+      Has (then_ask (played (fork_if (cond fits (Ok tt) (Err fault.Full)) d.number c d.resources d.contexts))
       (λ made. answered (fork_told slot c d made.answer (with_spaces made.spaces d))) w)
   unfolding fork_told
   fork_if_kind true room same = fork_cleared_kind (cleared c d w).answer refl same room
@@ -134,16 +137,20 @@ module _ (h : Hypercall) (slot : ℕ) (c : Context) (d : Control) (w : World) wh
   -- EXIT
   end_cleared_kind : (a : Answer) → (cleared c d w).answer ≡ a → h ≡ Exit →
       list_any (is_of_space c.space) (end_at slot d.contexts) ≡ false →
-      Has (then_ask (end_cleared d.number slot c.space d.resources d.contexts a)
+      Has (then_ask (played (end_cleared d.number slot c.space d.resources d.contexts a))
       (λ made. answered (end_told slot c d made.ending (with_spaces made.spaces d))) (cleared c d w).world)
   unfolding end_told
-  end_cleared_kind told.Ok is same none = record { kind = EndsSpace same none is; is = refl }
+  end_cleared_kind told.Ok is same none = record {
+    kind = EndsSpace same none is;
+    is = ap (λ (t : Told End). answered (end_told slot c d t.answer.ending (with_spaces t.answer.spaces d)) t.world)
+        (played_then (forget_each d.number (private_numbers c.space d.resources)) _ (cleared c d w).world);
+  }
   end_cleared_kind (told.Absent cause) is same none = stops _ is (λ ok. cc)
   end_cleared_kind (told.Word value) is same none = stops _ is (λ ok. cc)
   end_cleared_kind told.Stopped is same none = stops _ is (λ ok. cc)
 
   end_if_kind : (others : Bool) → list_any (is_of_space c.space) (end_at slot d.contexts) ≡ others → h ≡ Exit →
-      Has (then_ask (end_if others d.number slot c.space d.resources d.contexts)
+      Has (then_ask (played (end_if others d.number slot c.space d.resources d.contexts))
       (λ made. answered (end_told slot c d made.ending (with_spaces made.spaces d))) w)
   unfolding end_told
   end_if_kind true is same = record { kind = Ends; is = refl }
@@ -193,15 +200,17 @@ hypercall_kind Unmap slot c d w =
 hypercall_kind File slot c d w = record { kind = MakesFile (register c.regs 11); is = refl }
 hypercall_kind Thread slot c d w = thread_if_kind Thread slot c d w (register c.regs 10 % 4 == 0) refl
 hypercall_kind ForkSpace slot c d w =
-    fork_if_kind ForkSpace slot c d w (has_room c.space d.resources d.contexts) refl refl
+    plays_both (HasKind ForkSpace slot c d w) (fork d.number c d.resources d.contexts) _ w
+    (fork_if_kind ForkSpace slot c d w (has_room c.space d.resources d.contexts) refl refl)
 hypercall_kind Exit slot c d w =
-    end_if_kind Exit slot c d w (list_any (is_of_space c.space) (end_at slot d.contexts)) refl refl
+    plays_both (HasKind Exit slot c d w) (end_context d.number slot c.space d.resources d.contexts) _ w
+    (end_if_kind Exit slot c d w (list_any (is_of_space c.space) (end_at slot d.contexts)) refl refl)
 hypercall_kind Call slot c d w = call_kind Call slot c d w (has_buffer (call_number c)) refl
 hypercall_kind Unknown slot c d w = record { kind = Answers bad_call (omega arith); is = refl }
 
 -- What holds after each kind holds after each hypercall.
 pub by_kinds : (P : Told Stepped → Type 0) (h : Hypercall) (slot : ℕ) (c : Context) (d : Control) (w : World) →
-    ((k : CallKind h slot c d w) → P (after h slot c d w k)) → P (hypercall h slot c d w)
+    ((k : CallKind h slot c d w) → P (after h slot c d w k)) → P (played (hypercall h slot c d) w)
 by_kinds P h slot c d w each =
     let has = hypercall_kind h slot c d w in subst P (sym has.is) (each has.kind)
 
@@ -213,6 +222,6 @@ ended_after h slot c d w Ends = refl
 ended_after h slot c d w _ = refl
 
 pub hypercall_ended : (h : Hypercall) (slot : ℕ) (c : Context) (d : Control) (w : World) →
-    (hypercall h slot c d w).answer.control.ended ≡ d.ended
+    (played (hypercall h slot c d) w).answer.control.ended ≡ d.ended
 hypercall_ended h slot c d w =
     by_kinds (λ t. t.answer.control.ended ≡ d.ended) h slot c d w (ended_after h slot c d w)

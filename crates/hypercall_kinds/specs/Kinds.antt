@@ -15,11 +15,12 @@ use Rattle.cloak_model.specs.Calls.{call_number, takes_bytes, is_good}
 use Rattle.cloak_model.specs.Contexts.{Context, in_phase, moved_on, has_buffer, new_context, context_number, end_at, shown}
 use Rattle.cloak_model.specs.DomainState.{Control}
 use Rattle.cloak_model.specs.Files.{file_resource}
-use Rattle.cloak_model.specs.Fork.{marked, private_numbers, copies, has_room, ask_copies, forked, is_of_space, ask_forgets}
+use Rattle.cloak_model.specs.Fork.{marked, private_numbers, copies, has_room, copy_each, forked, is_of_space, forget_each}
 use Rattle.cloak_model.specs.Hypercalls.{Stepped, with_slot, stays_inside, shown_of, leaves, stopped, with_answer, answers_word, number_told, with_spaces, Hypercall, ForkSpace, Exit, hypercall}
 use Rattle.cloak_model.specs.Record.{IsWord}
 use Rattle.cloak_model.specs.Resources.{Resources, first_free, new_resource, map_region, unmap_region, drop_space}
 use Rattle.cloak_model.specs.World.{World}
+use Rattle.cloak_model.specs.Script.{played}
 
 -- the answer once the frames of the private pages of a context's space are settled, and the world then
 abbrev pub cleared : Context → Control → World → Told Answer
@@ -80,7 +81,7 @@ after h slot c d w (Stops other) = answered (stopped d) (cleared c d w).world
 after h slot c d w (Forks free new is room slots spaces ok) =
     answered (answers_word slot c (context_number d.number free)
     (with_spaces (forked c free new d.resources d.contexts) d))
-    (ask_copies d.number (copies c.space d.resources) (cleared c d w).world).world
+    (played (copy_each d.number (copies c.space d.resources)) (cleared c d w).world).world
 after h slot c d w Ends =
     answered (record {
       control = with_spaces (record { contexts = end_at slot d.contexts; resources = d.resources }) d;
@@ -91,7 +92,7 @@ after h slot c d w (EndsSpace is none ok) =
       control = with_spaces
           (record { contexts = end_at slot d.contexts; resources = drop_space c.space d.resources }) d;
       went = SpaceGone c.space (shown c (context_number d.number slot) why.Exit);
-    }) (ask_forgets d.number (private_numbers c.space d.resources) (cleared c d w).world).world
+    }) (played (forget_each d.number (private_numbers c.space d.resources)) (cleared c d w).world).world
 
 -- what a hypercall told is what is after one of a kind
 pub record HasKind (h : Hypercall) (slot : ℕ) (c : Context) (d : Control) (w : World) (t : Told Stepped) : Type 0 where
@@ -102,4 +103,4 @@ pub record HasKind (h : Hypercall) (slot : ℕ) (c : Context) (d : Control) (w :
 abbrev pub HypercallsHaveKinds : Type 0
 HypercallsHaveKinds =
     (h : Hypercall) (slot : ℕ) (c : Context) (d : Control) (w : World) →
-    HasKind h slot c d w (hypercall h slot c d w)
+    HasKind h slot c d w (played (hypercall h slot c d) w)

@@ -7,9 +7,10 @@ ghost use Rattle.cloak_model.specs.Hypercalls as spec;
 ghost use Rattle.cloaked_fork.specs.Serving.{Serves, GoesOnServing};
 ghost use Rattle.hypercalls.specs.Keeping.{SameResources};
 ghost use Rattle.hypercalls.specs.Slots.{context_of};
+ghost use Rattle.cloak_model.specs.Script.{played};
 
 use crate::control::{Control, leave_hart};
-use cloak_model::{Begun, Ended, MapFault, PageSide, Region, Went, Why};
+use cloak_model::{Begun, Ended, Forked, MapFault, PageSide, Region, Went, Why};
 use cloaked_files::file_resource;
 use cloaked_fork::{end_context, fork_space};
 use shim_calls::begin;
@@ -198,12 +199,12 @@ impl Control {
     }
 
     /// 6 FORK: the caller's space is copied, with its context.
-    #[tactic(auto, using(crate::proofs::Forking::forks, crate::proofs::Fitted::spaces_fit), unfolding(cloak_model::specs::Hypercalls::fork_call, cloak_model::specs::Hypercalls::fork_told))]
+    #[tactic(auto, using(crate::proofs::Fitted::spaces_fit), unfolding(cloak_model::specs::Hypercalls::fork_call, cloak_model::specs::Hypercalls::fork_told))]
     fn fork_call<M: PageSide>(&mut self, slot: u32, m: &mut M) -> Went
         requires used { IsSome (context_at self.old.contexts slot) }
         requires serves { Serves M.PageSide m.old self.old.number self.old.resources }
         ensures follows { Follows M.stands_for m.old m.new (record { control = self.new; went = result })
-            (spec.fork_call slot (context_of self.old slot) self.old) }
+            (played (spec.fork_call slot (context_of self.old slot) self.old)) }
         ensures stopped_unchanged { result ≡ Went.Stopped → self.new ≡ self.old }
         ensures side { GoesOnServing M.PageSide self.new.resources m.old m.new }
         ensures number { self.new.number ≡ self.old.number }
@@ -216,19 +217,19 @@ impl Control {
             slot,
             m,
         ) {
-            Err(fault) => self.answer(slot, fault_word(fault)),
-            Ok(None) => Went::Stopped,
-            Ok(Some(ctx)) => self.answer(slot, ctx.0),
+            Forked::Refused(fault) => self.answer(slot, fault_word(fault)),
+            Forked::Stopped => Went::Stopped,
+            Forked::Child(ctx) => self.answer(slot, ctx.0),
         }
     }
 
     /// 7 EXIT: the context ends, and with the last one its space.
-    #[tactic(auto, using(crate::proofs::Forking::forks, crate::proofs::Fitted::spaces_fit), unfolding(cloak_model::specs::Hypercalls::exit_call, cloak_model::specs::Hypercalls::end_told))]
+    #[tactic(auto, using(crate::proofs::Fitted::spaces_fit), unfolding(cloak_model::specs::Hypercalls::exit_call, cloak_model::specs::Hypercalls::end_told))]
     fn exit_call<M: PageSide>(&mut self, slot: u32, m: &mut M) -> Went
         requires used { IsSome (context_at self.old.contexts slot) }
         requires serves { Serves M.PageSide m.old self.old.number self.old.resources }
         ensures follows { Follows M.stands_for m.old m.new (record { control = self.new; went = result })
-            (spec.exit_call slot (context_of self.old slot) self.old) }
+            (played (spec.exit_call slot (context_of self.old slot) self.old)) }
         ensures stopped_unchanged { result ≡ Went.Stopped → self.new ≡ self.old }
         ensures side { GoesOnServing M.PageSide self.new.resources m.old m.new }
         ensures number { self.new.number ≡ self.old.number }
@@ -254,7 +255,8 @@ impl Control {
         requires used { IsSome (context_at self.old.contexts slot) }
         requires serves { Serves M.PageSide m.old self.old.number self.old.resources }
         ensures follows { Follows M.stands_for m.old m.new (record { control = self.new; went = result })
-            (spec.hypercall (spec.hypercall_of (context_of self.old slot)) slot (context_of self.old slot) self.old) }
+            (played (spec.hypercall (spec.hypercall_of (context_of self.old slot)) slot (context_of self.old slot)
+            self.old)) }
         ensures stopped_unchanged { result ≡ Went.Stopped → self.new ≡ self.old }
         ensures side { GoesOnServing M.PageSide self.new.resources m.old m.new }
         ensures number { self.new.number ≡ self.old.number }

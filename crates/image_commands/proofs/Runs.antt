@@ -5,7 +5,7 @@ use Rattle.cloak_base.specs.Random.{numbered}
 use Rattle.cloak_base.specs.declared.causes.Stop.{Stop}
 use Rattle.cloak_base.specs.declared.causes.Stop.TheVariants as stop
 use Rattle.io_traits.specs.Told.{Grows, GrowsByFront}
-use Rattle.cloak_model.specs.Opening.{Lack, Opened, opening}
+use Rattle.cloak_model.specs.Opening.{Lack, RunEdge, opening}
 use Rattle.cloak_model.specs.Run.{Run, run_of}
 use Rattle.cloak_machine.specs.declared.end.RunEnd.{RunEnd}
 use Rattle.cloak_machine.specs.declared.machine.Machine.{Machine}
@@ -16,7 +16,8 @@ use Rattle.guest_kernel.specs.Summary.{summary_line}
 use Rattle.command_parts.specs.Outside.{Output}
 use Rattle.command_parts.specs.declared.status.Status.{Status}
 use Rattle.command_parts.specs.declared.status.Status.TheVariants as status
-use Rattle.run_command.specs.Running.{IsEndOf, NoClash, status_of, unless_refused}
+use Rattle.run_command.specs.Running.{IsEndOf, status_of, unless_refused}
+use Rattle.cloak_model.specs.Run.{NoClash}
 use Rattle.run_command.proofs.EndFacts.{fixed_front}
 use Rattle.image_commands.specs.Demonstrating.{DemoAnswers, HasDemonstrated, demo_lines}
 use Rattle.image_commands.specs.Showing.{IsShownInPart}
@@ -42,7 +43,7 @@ run_is : (n : ℕ) {machine : Machine} (steps : ℕ) (opens : OpensMachine (gene
     result_map_both (run_of (generated n) steps) (λ (lack : Lack). lack)
     (opening (generated n) (numbered n)) ≡ Ok (run_of (generated n) steps opens.opened)
 run_is n {machine} steps opens =
-    ap (λ (opened : Result Opened Lack). result_map_both (run_of (generated n) steps) (λ lack. lack) opened) opens.opens
+    ap (λ (opened : Result RunEdge Lack). result_map_both (run_of (generated n) steps) (λ lack. lack) opened) opens.opens
 
 -- all lines were shown
 pub shows_all : {O : Type 0} (n : ℕ) {machine : Machine} (end : RunEnd) (before after : Output O) {given : Status}

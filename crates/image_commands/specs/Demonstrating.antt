@@ -9,7 +9,8 @@ use Rattle.guest_kernel.specs.Summary.{summary_line}
 use Rattle.command_parts.specs.Outside.{Output, Raised}
 use Rattle.command_parts.specs.declared.status.Status.{Status}
 use Rattle.command_parts.specs.declared.status.Status.TheVariants as status
-use Rattle.run_command.specs.Running.{NoClash, run_status}
+use Rattle.run_command.specs.Running.{run_status}
+use Rattle.cloak_model.specs.Run.{NoClash}
 use Rattle.image_commands.specs.Showing.{IsShown, IsShownInPart, no_memory_line}
 
 -- the joint run of the image of number n, under the random stream of number n, with at most this many steps

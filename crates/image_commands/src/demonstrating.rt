@@ -4,7 +4,7 @@ ghost use Rattle.cloak_base.specs.Random.{Random, numbered};
 ghost use Rattle.io_traits.specs.Sinks.{PutsTo};
 ghost use Rattle.cloak_model.specs.declared.image.Bundle.{Bundle as AnyBundle};
 ghost use Rattle.cloak_model.specs.Joint.{Moment};
-ghost use Rattle.cloak_model.specs.Opening.{Opened, opening};
+ghost use Rattle.cloak_model.specs.Opening.{RunEdge, opening};
 ghost use Rattle.cloak_model.specs.Run.{first_moment, joint_after, most_steps, run_of, turns_from};
 ghost use Rattle.cloak_machine.specs.Ending.{end_short_report};
 ghost use Rattle.cloak_machine.specs.Standing.{OpensMachine, StandsForMoment, steps_made};
@@ -12,7 +12,8 @@ ghost use Rattle.guest_kernel.specs.Generated.{generated};
 ghost use Rattle.guest_kernel.specs.Summary.{summary_line};
 ghost use Rattle.command_parts.specs.Outside.{output};
 ghost use Rattle.image_commands.specs.Demonstrating.{DemoAnswers};
-ghost use Rattle.run_command.specs.Running.{IsEndOf, MadeAll, NoClash, NoClashYet};
+ghost use Rattle.run_command.specs.Running.{IsEndOf, MadeAll};
+ghost use Rattle.cloak_model.specs.Run.{NoClash, NoClashYet};
 
 use cloak_base::{Failed, NoMemory, Stop};
 use cloak_machine::{Machine, OpenFault, RunEnd};
@@ -58,7 +59,7 @@ fn run_unheard(machine: &mut Machine, steps: u32) -> Option<Stop>
 fn end_of_run(machine: Machine, steps: u32) -> RunEnd
     requires fresh { steps_made machine ≡ 0 }
     requires few { steps ≤ most_steps }
-    ensures { (b : AnyBundle) (stream : Random) (o : Opened) → opening b stream ≡ Ok o →
+    ensures { (b : AnyBundle) (stream : Random) (o : RunEdge) → opening b stream ≡ Ok o →
         StandsForMoment machine (first_moment b o.joint) → NoClash (run_of b steps o) →
         IsEndOf result (run_of b steps o) }
 {

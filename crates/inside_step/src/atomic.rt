@@ -11,6 +11,7 @@ ghost use Rattle.cloak_model.specs.InsideStep as spec;
 ghost use Rattle.what_stays.specs.Staying.{SideStays, ContextStays, IsAny, IsFree};
 ghost use Rattle.inside_step.specs.Completion.{IsLeftOpen};
 ghost use Rattle.inside_step.specs.Making.{after_instruction, TellsMark};
+ghost use Rattle.cloak_model.specs.Script.{played};
 
 use crate::instruction::{go_on_with, loaded};
 use cloak_base::{Kind, PageId};
@@ -51,7 +52,7 @@ fn uncloaked(op: AtomicOp) -> u32
 }
 
 /// SC at a word that is reached: the word is stored if the context has it reserved. The reservation ends either way.
-#[tactic(auto, using(crate::proofs::InstructionLater::laters, cloak_model::proofs::PagesLater::stay_pages), unfolding(cloak_model::specs::InsideStep::atomic_granted))]
+#[tactic(auto, using(cloak_model::proofs::ScriptLater::laters, cloak_model::proofs::PagesLater::stay_pages), unfolding(cloak_model::specs::InsideStep::atomic_granted))]
 fn store_conditional<M: PageSide>(
     c: &mut Context,
     rd: u32,
@@ -66,7 +67,7 @@ fn store_conditional<M: PageSide>(
     requires aligned { va % 4 ≡ 0 }
     requires writable { M.is_writable m.old q }
     ensures follows { Follows M.stands_for m.old m.new (after_instruction c.new result wrote.new)
-        (spec.atomic_granted c.old rd AtomicOp.Sc q va operand) }
+        (played (spec.atomic_granted c.old rd AtomicOp.Sc q va operand)) }
     ensures context { ContextStays (IsLeftOpen result) c.old c.new wrote.new }
     ensures unmarked { is_some c.old.mark ≡ false → is_some c.new.mark ≡ false }
     ensures side { SideStays M.PageSide IsAny m.old m.new }
@@ -85,7 +86,7 @@ fn store_conditional<M: PageSide>(
 
 /// An operation at a word that is reached: a load of the word that stood is completed, and what the operation makes of
 /// it and the operand is stored.
-#[tactic(auto, using(crate::proofs::InstructionLater::laters, cloak_model::proofs::PagesLater::stay_pages), unfolding(cloak_model::specs::InsideStep::atomic_granted))]
+#[tactic(auto, using(cloak_model::proofs::ScriptLater::laters, cloak_model::proofs::PagesLater::stay_pages), unfolding(cloak_model::specs::InsideStep::atomic_granted))]
 fn operate<M: PageSide>(
     c: &mut Context,
     rd: u32,
@@ -104,7 +105,7 @@ fn operate<M: PageSide>(
     requires reached { M.is_reached m.old q }
     requires writable { M.is_writable m.old q }
     ensures follows { Follows M.stands_for m.old m.new (after_instruction c.new result wrote.new)
-        (spec.atomic_granted c.old rd op q va operand) }
+        (played (spec.atomic_granted c.old rd op q va operand)) }
     ensures context { ContextStays (IsLeftOpen result) c.old c.new wrote.new }
     ensures unmarked { is_some c.old.mark ≡ false → is_some c.new.mark ≡ false }
     ensures side { SideStays M.PageSide IsAny m.old m.new }
@@ -116,7 +117,7 @@ fn operate<M: PageSide>(
 }
 
 /// An atomic instruction at a word that is reached. LR reads it, and reserves it.
-#[tactic(auto, using(crate::proofs::InstructionLater::laters, cloak_model::proofs::PagesLater::stay_pages), unfolding(cloak_model::specs::InsideStep::atomic_granted))]
+#[tactic(auto, using(cloak_model::proofs::ScriptLater::laters, cloak_model::proofs::PagesLater::stay_pages), unfolding(cloak_model::specs::InsideStep::atomic_granted))]
 fn granted<M: PageSide>(
     c: &mut Context,
     rd: u32,
@@ -134,7 +135,7 @@ fn granted<M: PageSide>(
     requires reached { M.is_reached m.old q }
     requires writable { op ≢ AtomicOp.Lr → M.is_writable m.old q }
     ensures follows { Follows M.stands_for m.old m.new (after_instruction c.new result wrote.new)
-        (spec.atomic_granted c.old rd op q va operand) }
+        (played (spec.atomic_granted c.old rd op q va operand)) }
     ensures context { ContextStays (IsLeftOpen result) c.old c.new wrote.new }
     ensures tells { TellsMark reserved.old reserved.new c.old c.new }
     ensures side { SideStays M.PageSide IsAny m.old m.new }
@@ -152,7 +153,7 @@ fn granted<M: PageSide>(
 }
 
 /// An atomic instruction at an address that is a multiple of 4. At one that is not cloaked it asks nothing.
-#[tactic(auto, using(crate::proofs::InstructionLater::laters, cloak_model::proofs::PagesLater::stay_pages), unfolding(cloak_model::specs::InsideStep::atomic_placed))]
+#[tactic(auto, using(cloak_model::proofs::ScriptLater::laters, cloak_model::proofs::PagesLater::stay_pages), unfolding(cloak_model::specs::InsideStep::atomic_placed))]
 fn placed<M: PageSide>(
     c: &mut Context,
     r: &Resources,
@@ -171,7 +172,7 @@ fn placed<M: PageSide>(
     requires aligned { va % 4 ≡ 0 }
     ensures follows { FollowsWhere (HasPages domain r.now c.old.space) M.stands_for m.old m.new
         (after_instruction c.new result wrote.new)
-        (spec.atomic_placed c.old rd op va operand (page_at domain r.now c.old.space va)) }
+        (played (spec.atomic_placed c.old rd op va operand (page_at domain r.now c.old.space va))) }
     ensures context { ContextStays (IsLeftOpen result) c.old c.new wrote.new }
     ensures tells { TellsMark reserved.old reserved.new c.old c.new }
     ensures side { SideStays M.PageSide (IsFree r.now) m.old m.new }
@@ -190,7 +191,7 @@ fn placed<M: PageSide>(
 }
 
 /// Makes an atomic instruction, or none, which is illegal.
-#[tactic(auto, using(crate::proofs::InstructionLater::laters, cloak_model::proofs::PagesLater::stay_pages), unfolding(cloak_model::specs::InsideStep::atomic_inside))]
+#[tactic(auto, using(cloak_model::proofs::ScriptLater::laters, cloak_model::proofs::PagesLater::stay_pages), unfolding(cloak_model::specs::InsideStep::atomic_inside))]
 fn atomic_step<M: PageSide>(
     c: &mut Context,
     r: &Resources,
@@ -204,7 +205,7 @@ fn atomic_step<M: PageSide>(
     requires domain { domain ≡ M.serves m.old }
     requires range { IfSome a.now InRange }
     ensures follows { FollowsWhere (HasPages domain r.now c.old.space) M.stands_for m.old m.new
-        (after_instruction c.new result wrote.new) (spec.atomic_inside domain r.now c.old a.now) }
+        (after_instruction c.new result wrote.new) (played (spec.atomic_inside domain r.now c.old a.now)) }
     ensures context { ContextStays (IsLeftOpen result) c.old c.new wrote.new }
     ensures tells { TellsMark reserved.old reserved.new c.old c.new }
     ensures side { SideStays M.PageSide (IsFree r.now) m.old m.new }
@@ -243,7 +244,7 @@ fn make_atomic<M: PageSide>(
     requires nothing_yet { wrote.old ≡ None }
     requires domain { domain ≡ M.serves m.old }
     ensures follows { FollowsWhere (HasPages domain r.now c.old.space) M.stands_for m.old m.new
-        (after_instruction c.new ended.new wrote.new) (spec.atomic_inside domain r.now c.old (atomic_instruction word)) }
+        (after_instruction c.new ended.new wrote.new) (played (spec.atomic_inside domain r.now c.old (atomic_instruction word))) }
     ensures context { ContextStays (IsLeftOpen ended.new) c.old c.new wrote.new }
     ensures tells { TellsMark reserved.old reserved.new c.old c.new }
     ensures side { SideStays M.PageSide (IsFree r.now) m.old m.new }
@@ -267,7 +268,7 @@ pub(crate) fn atomic_word<M: PageSide>(
     requires nothing_yet { wrote.old ≡ None }
     requires domain { domain ≡ M.serves m.old }
     ensures follows { FollowsWhere (HasPages domain r.now c.old.space) M.stands_for m.old m.new
-        (after_instruction c.new result wrote.new) (spec.atomic_inside domain r.now c.old (atomic_instruction word)) }
+        (after_instruction c.new result wrote.new) (played (spec.atomic_inside domain r.now c.old (atomic_instruction word))) }
     ensures context { ContextStays (IsLeftOpen result) c.old c.new wrote.new }
     ensures tells { TellsMark reserved.old reserved.new c.old c.new }
     ensures side { SideStays M.PageSide (IsFree r.now) m.old m.new }

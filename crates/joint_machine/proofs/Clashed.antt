@@ -20,7 +20,7 @@ use Rattle.cloak_model.specs.Parts as model
 use Rattle.cloak_model.specs.Resuming.{resume}
 use Rattle.cloak_model.proofs.ResumeParts.{by_context, by_domain, by_root}
 use Rattle.cloak_model.specs.Run.{closing, settled_below}
-use Rattle.cloak_model.specs.World.{World, Cloak, items_of}
+use Rattle.cloak_model.specs.World.{World, MidStep, items_of}
 use Rattle.cloak_model.proofs.Clashes.{settle_clashed}
 use Rattle.settling_ahead.proofs.Laws.{keeps_rest}
 use Rattle.script_fold.proofs.Later.{later_domain_step}
@@ -166,7 +166,7 @@ step_console j number =
 
 -- The closing.
 
-below_clashed : (n : ℕ) (c : Cloak) → (settled_below n c).memory.ledger.clashed ≡ c.memory.ledger.clashed
+below_clashed : (n : ℕ) (c : MidStep) → (settled_below n c).memory.ledger.clashed ≡ c.memory.ledger.clashed
 unfolding settled_below
 below_clashed zero c = refl
 below_clashed (suc n) c = settle_clashed n (settled_below n c).memory ∙ below_clashed n c

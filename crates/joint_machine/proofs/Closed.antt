@@ -12,7 +12,7 @@ use Rattle.cloak_model.specs.Exchange.{Piece}
 use Rattle.cloak_model.specs.Joint.{cloak_outside, hart_in}
 use Rattle.cloak_model.specs.Parts as model
 use Rattle.cloak_model.specs.Run.{closing, settled_below}
-use Rattle.cloak_model.specs.World.{Cloak, cipher_items, settled_in}
+use Rattle.cloak_model.specs.World.{MidStep, cipher_items, settled_in}
 use Rattle.thread_context.specs.Recorded.{root_at}
 use Rattle.cloak_pager.specs.State.{PagerState, IsWholePager, page_of, held_in}
 use Rattle.cloak_pager.specs.Turns.{StaysBut}
@@ -49,7 +49,7 @@ pub settles_none : {E : Type 0} (gave : E → E → List Piece → Type 0) (e : 
 unfolding settled_below
 settles_none gave e memory m h holds = record { holds = holds; emits = emits_none gave e }
 
-settles_next : {E : Type 0} (gave : E → E → List Piece → Type 0) (e f g : E) (old new : Memory) (i : ℕ) (c : Cloak) →
+settles_next : {E : Type 0} (gave : E → E → List Piece → Type 0) (e f g : E) (old new : Memory) (i : ℕ) (c : MidStep) →
     SettlesFrames gave e f old c →
     ((m : CloakedMemory) → Holds old m → Settles gave f g new (settle i m)) → SettlesFrames gave e g new (settled_in i c)
 settles_next gave e f g old new i c so_far settles =
@@ -59,7 +59,7 @@ settles_next gave e f g old new i c so_far settles =
       emits = emits_items c.items (cipher_items (settle i c.memory).ciphers) so_far.emits s.emits;
     }
 
-pub settles_more : {E : Type 0} (gave : E → E → List Piece → Type 0) (e f g : E) (old new : Memory) (i : ℕ) (c : Cloak) →
+pub settles_more : {E : Type 0} (gave : E → E → List Piece → Type 0) (e f g : E) (old new : Memory) (i : ℕ) (c : MidStep) →
     SettlesFrames gave e f old (settled_below i c) →
     ((m : CloakedMemory) → Holds old m → Settles gave f g new (settle i m)) →
     SettlesFrames gave e g new (settled_below (i + 1) c)
@@ -86,7 +86,7 @@ settle_roots : (f : ℕ) (m : CloakedMemory) (s : SpaceId) → (settle f m).memo
 unfolding settle
 settle_roots f m s = roots_if f (owed_in m f) m s
 
-below_roots : (n : ℕ) (c : Cloak) (s : SpaceId) → (settled_below n c).memory.ledger.root s ≡ c.memory.ledger.root s
+below_roots : (n : ℕ) (c : MidStep) (s : SpaceId) → (settled_below n c).memory.ledger.root s ≡ c.memory.ledger.root s
 unfolding settled_below
 below_roots zero c s = refl
 below_roots (suc n) c s = settle_roots n (settled_below n c).memory s ∙ below_roots n c s

@@ -19,7 +19,7 @@ use Rattle.cloak_model.specs.Hart.{Hart}
 use Rattle.cloak_model.specs.Joint.{memory_of, with_domain, domain_ended, after_domain_step, by_interrupt, after_interrupt, interrupt_ended, cloak_of, pages_for}
 use Rattle.cloak_model.specs.Leaving.{leave}
 use Rattle.cloak_model.specs.Parts as model
-use Rattle.cloak_model.specs.World.{World, Cloak, Flat, Cloaked, Alone, items_of, violation_of, is_clashed}
+use Rattle.cloak_model.specs.World.{World, MidStep, Flat, Cloaked, Alone, items_of, violation_of, is_clashed}
 use Rattle.cloaked_side.specs.Holding.{Holds}
 use Rattle.cloaked_side.specs.Telling.{HoldsWorld}
 use Rattle.cloaked_side.specs.declared.memory.Memory.{Memory}
@@ -189,7 +189,7 @@ pub turns_stepping : {E : Type 0} (gave : E → E → List Piece → Type 0) (e 
 turns_stepping gave e e' e'' h h' domain roots roots' memory memory' stepped given j number d slot was regime begins are steps goes none =
     let told = told_of j h d slot was in
     let after = stepped_joint j d told in
-    let s : StepsDomain gave e e' memory domain stepped told = subst (λ (c : Cloak). is_clashed (domain_step slot was (Cloaked c)).world ≡ false → StepsDomain gave e e' memory domain stepped (domain_step slot was (Cloaked c))) begins steps (step_unclashed j number h d slot was none) in
+    let s : StepsDomain gave e e' memory domain stepped told = subst (λ (c : MidStep). is_clashed (domain_step slot was (Cloaked c)).world ≡ false → StepsDomain gave e e' memory domain stepped (domain_step slot was (Cloaked c))) begins steps (step_unclashed j number h d slot was none) in
     turns_stepped gave e e' e'' h h' domain roots' memory memory' stepped given j number d slot was s
     (subst (λ (x : Went). IsCarriedOut gave e' e'' h' roots' memory memory' given after number (items_of told.world) (domain_ended after number h d told.world x)) s.went
     (goes after told.world s.violation (roots_stepped roots j h d slot was are)))

@@ -16,7 +16,7 @@ use Rattle.cloak_model.specs.DomainState as model
 use Rattle.cloak_model.specs.DomainState.{started_domain, started_control}
 use Rattle.cloak_model.specs.Files.{holds_file}
 use Rattle.cloak_model.specs.Ledger.{Keys}
-use Rattle.cloak_model.specs.Opening.{Lack, NoPageDraw, NoRoom, Opened, opening_items, place_programs, started_domains, started_harts, started_joint, started_kernel, started_ledger, started_memory}
+use Rattle.cloak_model.specs.Opening.{Lack, NoPageDraw, NoRoom, RunEdge, opening_items, place_programs, started_domains, started_harts, started_joint, started_kernel, started_ledger, started_memory}
 use Rattle.cloak_model.specs.Parts.{Joint as Machine}
 use Rattle.cloak_model.specs.Resources.{Resources, resource_at, started_resources}
 use Rattle.cloak_model.specs.StoredFiles.{StoredFile, FileContents}
@@ -117,7 +117,7 @@ abbrev pub OfEach : Bundle → Keys → (Machine → Type 0) → Type 0
 OfEach b keys P = (j : Machine) → j.memory.ledger.keys ≡ keys → j.domains ≡ started_domains 0 b.programs → P j
 
 -- nothing is opened for want of this
-abbrev lacks : Lack → Machine → Result Opened Lack
+abbrev lacks : Lack → Machine → Result RunEdge Lack
 lacks lack j = Err lack
 
 no_room_by : (b : Bundle) (keys : Keys) (stream : Random) (contents : List FileContents) (d : ℕ) (o : Option CloakedMemory) →
@@ -197,8 +197,8 @@ stands_filed joint b keys stream contents memory m after filed holds fixed has =
 }
 
 -- what is opened, and that the machine stands for it
-pub record OpensTo (joint : Joint) (r : Result Opened Lack) : Type 0 where
-  pub opened : Opened
+pub record OpensTo (joint : Joint) (r : Result RunEdge Lack) : Type 0 where
+  pub opened : RunEdge
   pub opens : r ≡ Ok opened
   pub stands : StandsForJoint joint opened.joint
 

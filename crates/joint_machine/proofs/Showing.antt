@@ -16,7 +16,7 @@ use Rattle.cloak_model.specs.Parts.{Joint as Machine}
 use Rattle.cloak_model.specs.Resources.{Resources}
 use Rattle.cloak_model.specs.StoredFiles.{FileContents}
 use Rattle.cloak_model.specs.Exchange.{Piece, Emits, item_pieces}
-use Rattle.cloak_model.specs.Opening.{is_placed, numbers_below, opening_items, Opened, Lack, NoPageDraw, drawn_keys, key_count, keys_for, opened_by, opened_with, started_joint, started_memory, place_programs}
+use Rattle.cloak_model.specs.Opening.{is_placed, numbers_below, opening_items, RunEdge, Lack, NoPageDraw, drawn_keys, key_count, keys_for, opened_by, opened_with, started_joint, started_memory, place_programs}
 use Rattle.cloak_pager.specs.State.{PagerState, bytes_in, page_of, right_at, held_in}
 use Rattle.cloak_pager.specs.Turns.{IsReadOnce}
 use Rattle.cloak_pager.specs.Relation.{StandsForMemory, FrameStands}
@@ -133,7 +133,7 @@ frames_shown p w m s none =
 -- What a run's opening shows.
 
 -- the items of an opening are those of its memory
-abbrev pub ShowsMemory : Bundle → Result Opened Lack → Type 0
+abbrev pub ShowsMemory : Bundle → Result RunEdge Lack → Type 0
 ShowsMemory b (Ok o) = o.items ≡ opening_items b.programs o.joint.memory.ram
 ShowsMemory b (Err lack) = Unit {0}
 
@@ -187,7 +187,7 @@ shows_files b m (Ok j) same = ap (opening_items b.programs) (sym same)
 shows_files b m (Err lack) same = tt
 
 nothing_shown : (b : Bundle) (r : Result Machine Lack) →
-    ShowsMemory b (and_then (λ (j : Machine). let none : Result Opened Lack = Err NoPageDraw in none) r)
+    ShowsMemory b (and_then (λ (j : Machine). let none : Result RunEdge Lack = Err NoPageDraw in none) r)
 nothing_shown b (Ok j) = tt
 nothing_shown b (Err lack) = tt
 
@@ -202,9 +202,9 @@ unfolding opening_stored
 shows_from b (Fresh stream) = shows_by b (drawn_keys (key_count b.programs) stream)
 shows_from b (Stored keys stream files) = shows_over b files _ _
 
-pub opening_shows : (b : Bundle) (from : Beginning) (o : Opened) → opening_from b from ≡ Ok o →
+pub opening_shows : (b : Bundle) (from : Beginning) (o : RunEdge) → opening_from b from ≡ Ok o →
     o.items ≡ opening_items b.programs o.joint.memory.ram
-opening_shows b from o opens = subst (λ (r : Result Opened Lack). ShowsMemory b r) opens (shows_from b from)
+opening_shows b from o opens = subst (λ (r : Result RunEdge Lack). ShowsMemory b r) opens (shows_from b from)
 
 -- of programs that are placed so
 covers_placed : (programs : List Program) (f : ℕ) → covers (map placing programs) f ≡ is_placed programs f
@@ -221,7 +221,7 @@ placed_shown programs ram =
 
 -- the frames of a memory in which nothing is held are those that its opening shows
 pub opening_emits : {E : Type 0} (gave : E → E → List Piece → Type 0) (e e' : E) (memory : Memory)
-    (placings : List Placing) (b : Bundle) (from : Beginning) (o : Opened) → opening_from b from ≡ Ok o → placings ≡ map placing b.programs →
+    (placings : List Placing) (b : Bundle) (from : Beginning) (o : RunEdge) → opening_from b from ≡ Ok o → placings ≡ map placing b.programs →
     Holds memory o.joint.memory → ((k : ℕ) → held_in memory.pager k ≡ None) →
     Emits gave e e' (item_pieces (placed_among placings memory.pager.frames (numbers_below (frames_of memory)))) →
     Emits gave e e' (item_pieces o.items)

@@ -15,7 +15,7 @@ use Rattle.cloak_model.specs.DomainAlone.{runs_on}
 use Rattle.cloak_model.specs.Joint.{Turn, by_interrupt, cloak_of, cloak_outside, hart_in, inside_step, pages_for}
 use Rattle.cloak_model.specs.KernelStep.{kernel_step, ticked}
 use Rattle.cloak_model.specs.Parts as model
-use Rattle.cloak_model.specs.World.{Cloak, Cloaked, events_of, items_of, is_clashed}
+use Rattle.cloak_model.specs.World.{MidStep, Cloaked, events_of, items_of, is_clashed}
 use Rattle.cloak_model.specs.declared.regime.InsideRegime.{InsideRegime}
 use Rattle.cloaked_side.specs.Tracking.{AreAll, Tracks, TracksBy, GoesBy, IsGone, spent_in}
 use Rattle.cloak_model.specs.Opening.{numbers_below}
@@ -183,7 +183,7 @@ goes_stepped old mid new due j number h d slot was c space regime ended is there
     subst (λ (b : Bool). GoesBy old new (events.asked_if b j h d slot was (context_at was.control.contexts slot))) (sym is)
     (subst (λ (o : Option Context). GoesBy old new (events.asked_if false j h d slot was o)) (sym there) program)
   where
-    Made : Cloak → Type 0
+    Made : MidStep → Type 0
     Made k = let told = domain_step slot was (Cloaked k) in (ended ≡ told.answer.went) ×
         GoesBy old mid (record { space = Some space; events = events_of told.world; items = items_of told.world; changed = [] })
 
@@ -193,7 +193,7 @@ goes_stepped old mid new due j number h d slot was c space regime ended is there
     made : Made (cloak_of j.memory h d (pages_for was (Some c)))
     made =
         subst (λ (o : Option Context). Made (cloak_of j.memory h d (pages_for was o))) there
-        (subst (λ (k : Cloak). is_clashed (domain_step slot was (Cloaked k)).world ≡ false → Made k) begins steps unclashed)
+        (subst (λ (k : MidStep). is_clashed (domain_step slot was (Cloaked k)).world ≡ false → Made k) begins steps unclashed)
 
     program : GoesBy old new (events.asked_by j h d slot was c)
     program =

@@ -7,7 +7,7 @@ use Rattle.cloak_model.specs.Exchange.{Piece, Emits, item_pieces}
 use Rattle.cloak_model.specs.DomainState as program
 use Rattle.cloak_model.specs.Parts as model
 use Rattle.cloak_model.specs.Joint.{Turn, hart_in, turn_of, answers_violation, stop_of}
-use Rattle.cloak_model.specs.Opening.{Opened, NoKey, NoPageDraw, NoRoom, opening}
+use Rattle.cloak_model.specs.Opening.{RunEdge, NoKey, NoPageDraw, NoRoom, opening}
 use Rattle.cloak_model.specs.StoredFiles.{StoredFile, FileContents, StandsForFiles}
 use Rattle.cloak_model.specs.Beginning.{opening_stored, stored_keys}
 use Rattle.thread_context.specs.Recorded.{root_at}
@@ -73,7 +73,7 @@ pub record TakesTurn {E : Type 0} (gave : E → E → List Piece → Type 0) (e 
 
 -- the machine is that of a run's opening, or what the opening lacks
 pub record OpensJoint (b : Bundle) (stream : Random) (joint : Joint) : Type 0 where
-  pub opened : Opened
+  pub opened : RunEdge
   pub opens : opening b stream ≡ Ok opened
   pub stands : StandsForJoint joint opened.joint
 
@@ -86,7 +86,7 @@ OpensAs b stream (Err fault.NoMemory) = Unit {0}
 -- the machine is that of a run's opening over files with these contents
 pub record OpensOver (b : Bundle) (keys : List (List ℕ)) (stream : Random) (contents : List FileContents) (joint : Joint) :
     Type 0 where
-  pub opened : Opened
+  pub opened : RunEdge
   pub opens : opening_stored b keys stream contents ≡ Ok opened
   pub stands : StandsForJoint joint opened.joint
 
@@ -104,7 +104,7 @@ OpensStoredAs b keys stream files result =
     OpensWith b keys stream contents result
 
 -- what was shown, and what the machine then stands for
-pub record ShowsAs {E : Type 0} (gave : E → E → List Piece → Type 0) (e e' : E) (joint : Joint) (o : Opened) : Type 0 where
+pub record ShowsAs {E : Type 0} (gave : E → E → List Piece → Type 0) (e e' : E) (joint : Joint) (o : RunEdge) : Type 0 where
   pub emits : Emits gave e e' (item_pieces o.items)
   pub stands : StandsForJoint joint o.joint
 

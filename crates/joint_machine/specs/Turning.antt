@@ -8,7 +8,7 @@ use Rattle.cloak_model.specs.declared.outcome.Kernel.{Kernel}
 use Rattle.cloak_model.specs.declared.regime.InsideRegime.{InsideRegime}
 use Rattle.cloak_model.specs.Hart.{Hart}
 use Rattle.cloak_model.specs.Cloaking.{CloakedMemory}
-use Rattle.cloak_model.specs.World.{Cloak, items_of, violation_of}
+use Rattle.cloak_model.specs.World.{MidStep, items_of, violation_of}
 use Rattle.cloak_model.specs.Asking.{Told}
 use Rattle.cloak_model.specs.HostCalls.{SteppedKernel}
 use Rattle.cloak_model.specs.Contexts.{Context, context_at, slot_of}
@@ -112,7 +112,7 @@ running_in hart ctx None = None
 running_in hart ctx (Some d) = running_space hart (context_at (control_of d).contexts (slot_of ctx))
 
 -- the memory as the step of a slot's context begins
-abbrev pub begun : CloakedMemory → InsideRegime → ℕ → program.Domain → Cloak
+abbrev pub begun : CloakedMemory → InsideRegime → ℕ → program.Domain → MidStep
 begun m regime slot d = record {
   memory = m;
   items = [];

@@ -4,7 +4,7 @@ ghost use Rattle.cloak_model.specs.declared.image.Bundle.{Bundle};
 ghost use Rattle.cloak_model.specs.Bundle.{IsInGrammar};
 ghost use Rattle.cloak_model.specs.Exchange.{EmitsSome, Emits, item_pieces};
 ghost use Rattle.cloak_model.specs.Beginning.{Beginning, opening_from};
-ghost use Rattle.cloak_model.specs.Opening.{Opened, numbers_below};
+ghost use Rattle.cloak_model.specs.Opening.{RunEdge, numbers_below};
 ghost use Rattle.cloak_pager.specs.State.{held_in};
 ghost use Rattle.cloaked_side.specs.Holding.{frames_of};
 ghost use Rattle.joint_machine.specs.Placings.{placing};
@@ -86,7 +86,7 @@ impl Joint {
         ensures harts { harts_of self.new ≡ harts_of self.old }
         ensures emits_some { EmitsSome E.gave e.old e.new }
         ensures shadows { self.new.memory.shadows ≡ self.old.memory.shadows }
-        ensures shows { (b : Bundle) (from : Beginning) (o : Opened) → opening_from b from ≡ Ok o →
+        ensures shows { (b : Bundle) (from : Beginning) (o : RunEdge) → opening_from b from ≡ Ok o →
             placings.now ≡ map placing b.programs → StandsForJoint self.old o.joint →
             ShowsAs E.gave e.old e.new self.new o }
     {

@@ -1,5 +1,5 @@
 -- What a program's questions write into the exchange accounts for RAM: it is then what the items say.
-use Rattle.std.proofs.Common.{◌≡◌, ◌∙◌, ℕ, ◌+◌, ◌*◌, ◌%◌, ◌^◌, Bool, true, false, List, [], ◌∷◌, ◌++◌, length, Result, Ok, Err, refl, sym, ap, append_assoc}
+use Rattle.std.proofs.Common.{◌≡◌, ◌∙◌, ℕ, ◌*◌, ◌%◌, ◌^◌, Bool, true, false, List, [], ◌∷◌, ◌++◌, length, Result, Ok, Err, refl, sym, ap, append_assoc}
 use Rattle.std.specs.Prelude.{◌==◌}
 use Rattle.std.proofs.lemmas.Bool.{false≢true, and_from}
 use Rattle.std.proofs.lemmas.List.{append-nil, length-set}
@@ -19,7 +19,7 @@ use Rattle.cloak_model.specs.Events.{Event}
 use Rattle.cloak_base.specs.Constants.{frame_of}
 use Rattle.cloak_model.specs.Memory.{is_in_ram, Seen, stored}
 use Rattle.cloak_model.specs.PageMoves.{copy_pages, drop_pages}
-use Rattle.cloak_model.specs.World.{World, Cloak, Flat, Cloaked, Alone, Handed, ram_of, seen_of, owed_of, items_of, noted, settled, cipher_items}
+use Rattle.cloak_model.specs.World.{World, MidStep, Flat, Cloaked, Alone, Handed, ram_of, seen_of, owed_of, items_of, noted, settled, cipher_items}
 use Rattle.script_fold.proofs.ByQuestions.{StepKept}
 use Rattle.script_fold.proofs.Questions.{Opens, Replies, opens_by, keeps_drawn, keeps_inside_address}
 use Rattle.kernel_isolation.proofs.Items.{AreWithin, with_items, with_items-append, length-with_items, within_stays, within-append, ciphers_within, with_ciphers}
@@ -93,7 +93,7 @@ no_alone : (h : Handed) (v : World) → Accounts (Alone h) v
 no_alone h v = record { by = λ joint. absurd (false≢true joint.form) }
 
 -- RAM and what is owed are as they were, and nothing is written
-same_account : (c c' : Cloak) → c'.items ≡ c.items → seen_in c'.memory ≡ seen_in c.memory →
+same_account : (c c' : MidStep) → c'.items ≡ c.items → seen_in c'.memory ≡ seen_in c.memory →
     c'.memory.ledger.owed ≡ c.memory.ledger.owed → Accounts (Cloaked c) (Cloaked c')
 same_account c c' items seen owed = record {
   by = λ joint. record {
@@ -109,7 +109,7 @@ same_account c c' items seen owed = record {
 }
 
 -- Ciphers are written, and the kernel was shown them
-shown_account : (c c' : Cloak) (ciphers : List (ℕ × List ℕ)) → c'.items ≡ c.items ++ cipher_items ciphers →
+shown_account : (c c' : MidStep) (ciphers : List (ℕ × List ℕ)) → c'.items ≡ c.items ++ cipher_items ciphers →
     ShownBy c.memory ciphers c'.memory → Account (Cloaked c) (Cloaked c')
 shown_account c c' ciphers items shown = record {
   items = cipher_items ciphers;
@@ -141,7 +141,7 @@ account_opens =
 
 -- Answers.
 
-inward_account : (c : Cloak) (d : ℕ) (a : Answer) →
+inward_account : (c : MidStep) (d : ℕ) (a : Answer) →
     Accounts (Cloaked c) (Cloaked (record c { items = c.items ++ answer_item d a ∷ [] }))
 inward_account c d answer.Ok = record {
   by = λ joint. record {
@@ -194,7 +194,7 @@ account_replies = record {
   unfit = λ h. no_alone h _;
 }
 
-offer_account : (q : PageId) (g : ℕ) (write : Bool) (events : List Event) (c : Cloak) →
+offer_account : (q : PageId) (g : ℕ) (write : Bool) (events : List Event) (c : MidStep) →
     let o = offer q g write c.memory in
     Accounts (Cloaked c)
     (Cloaked (record c { memory = o.memory; items = c.items ++ cipher_items o.ciphers; events = events }))
@@ -204,7 +204,7 @@ offer_account q g write events c = record {
 
 -- Stores.
 
-put_account : (pa width value : ℕ) (c : Cloak) → is_in_ram c.memory.ram pa ≡ true → (pa % width == 0) ≡ true →
+put_account : (pa width value : ℕ) (c : MidStep) → is_in_ram c.memory.ram pa ≡ true → (pa % width == 0) ≡ true →
     IsWidth width →
     Accounts (Cloaked c) (put_at pa width value (Cloaked c)).world
 unfolding put_at replies

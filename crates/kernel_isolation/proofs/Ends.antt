@@ -13,11 +13,12 @@ use Rattle.cloak_model.specs.Cloaking.{CloakedMemory, owed_in, settle_owed, sett
 use Rattle.cloak_model.specs.Events.{Drop}
 use Rattle.cloak_model.specs.PageMoves.{drop_pages}
 use Rattle.cloak_model.specs.Ending.{all_marked, settled_for, ask_end, cloak_for}
-use Rattle.cloak_model.specs.Fork.{ask_forgets}
+use Rattle.cloak_model.specs.Fork.{forget_each}
 use Rattle.cloak_model.specs.Ledger.{vector_of}
 use Rattle.cloak_model.specs.Memory.{Seen, filled}
 use Rattle.cloak_model.specs.Opening.{numbers_below}
-use Rattle.cloak_model.specs.World.{World, Cloak, Cloaked, settled_in, cipher_items}
+use Rattle.cloak_model.specs.World.{World, MidStep, Cloaked, settled_in, cipher_items}
+use Rattle.cloak_model.specs.Script.{played}
 use Rattle.settling_ahead.proofs.Settled.{still_owed}
 use Rattle.kernel_isolation.proofs.Settlings.{HasPlaces, ShownBy, ShownBy-none, ShownBy-append, settle_shown}
 
@@ -78,14 +79,14 @@ find_none p (y ∷ ys) x none (suc k, low, is) =
     find_none p ys x (find_stops p (p y) y (find p ys) refl none).1 (k, omega (arith, low), is)
 
 -- A memory in which frames were settled, and what was written.
-pub record EndShows (c c' : Cloak) : Type 0 where
+pub record EndShows (c c' : MidStep) : Type 0 where
   pub ciphers : List (ℕ × List ℕ)
   pub items : c'.items ≡ c.items ++ cipher_items ciphers
   pub shown : ShownBy c.memory ciphers c'.memory
   pub owed : AreOwed c.memory ciphers
   pub still : (f : ℕ) → is_owed c'.memory f ≡ true → is_owed c.memory f ≡ true
 
-shows_none : (c : Cloak) → HasPlaces c.memory → EndShows c c
+shows_none : (c : MidStep) → HasPlaces c.memory → EndShows c c
 shows_none c places = record {
   ciphers = [];
   items = sym (append-nil c.items);
@@ -94,7 +95,7 @@ shows_none c places = record {
   still = λ f is. is;
 }
 
-shows_then : (c c' c'' : Cloak) → EndShows c c' → EndShows c' c'' → EndShows c c''
+shows_then : (c c' c'' : MidStep) → EndShows c c' → EndShows c' c'' → EndShows c c''
 shows_then c c' c'' first second = record {
   ciphers = first.ciphers ++ second.ciphers;
   items = second.items ∙ ap (λ (l : List Item). l ++ cipher_items second.ciphers) first.items
@@ -107,7 +108,7 @@ shows_then c c' c'' first second = record {
   still = λ f is. first.still f (second.still f is);
 }
 
-shows_settled : (f : ℕ) (c : Cloak) → HasPlaces c.memory → EndShows c (settled_in f c)
+shows_settled : (f : ℕ) (c : MidStep) → HasPlaces c.memory → EndShows c (settled_in f c)
 shows_settled f c places = record {
   ciphers = (settle f c.memory).ciphers;
   items = refl;
@@ -117,23 +118,23 @@ shows_settled f c places = record {
 }
 
 -- as a world
-pub record EndsIn (c : Cloak) (w : World) : Type 0 where
-  pub after : Cloak
+pub record EndsIn (c : MidStep) (w : World) : Type 0 where
+  pub after : MidStep
   pub is : w ≡ Cloaked after
   pub shows : EndShows c after
 
-either_ends : (c : Cloak) (b : Bool) (f : ℕ) → HasPlaces c.memory →
+either_ends : (c : MidStep) (b : Bool) (f : ℕ) → HasPlaces c.memory →
     EndsIn c (cond b (Cloaked (settled_in f c)) (Cloaked c))
 either_ends c true f places = record { after = settled_in f c; is = refl; shows = shows_settled f c places }
 either_ends c false f places = record { after = c; is = refl; shows = shows_none c places }
 
-if_marked : (d f : ℕ) (c : Cloak) → HasPlaces c.memory → EndsIn c (settled_if_marked d all_marked f (Cloaked c))
+if_marked : (d f : ℕ) (c : MidStep) → HasPlaces c.memory → EndsIn c (settled_if_marked d all_marked f (Cloaked c))
 unfolding settled_if_marked
 if_marked d f c places =
     either_ends c (is_marked d all_marked (slice_index_or c.memory.ledger.owed f None)) f places
 
-ends_on : (c : Cloak) (w v : World) (next : World → World) (e : EndsIn c w) → v ≡ next w →
-    ((c' : Cloak) → HasPlaces c'.memory → EndsIn c' (next (Cloaked c'))) → EndsIn c v
+ends_on : (c : MidStep) (w v : World) (next : World → World) (e : EndsIn c w) → v ≡ next w →
+    ((c' : MidStep) → HasPlaces c'.memory → EndsIn c' (next (Cloaked c'))) → EndsIn c v
 ends_on c w v next e is more =
     let n = more e.after e.shows.shown.places in
     record {
@@ -142,7 +143,7 @@ ends_on c w v next e is more =
       shows = shows_then c e.after n.after e.shows n.shows;
     }
 
-for_ends : (d f n : ℕ) (c : Cloak) → HasPlaces c.memory → EndsIn c (settled_for d f n (Cloaked c))
+for_ends : (d f n : ℕ) (c : MidStep) → HasPlaces c.memory → EndsIn c (settled_for d f n (Cloaked c))
 unfolding settled_for
 for_ends d f zero c places = record { after = c; is = refl; shows = shows_none c places }
 for_ends d f (suc n) c places =
@@ -150,7 +151,7 @@ for_ends d f (suc n) c places =
     (λ c' there. for_ends d (f + 1) n c' there)
 
 -- dropping shows nothing
-forget_shows : (d r : ℕ) (c : Cloak) → HasPlaces c.memory → EndsIn c (ask_forget d r (Cloaked c)).world
+forget_shows : (d r : ℕ) (c : MidStep) → HasPlaces c.memory → EndsIn c (ask_forget d r (Cloaked c)).world
 unfolding ask_forget drop_pages
 forget_shows d r c places = record {
   after = record c { memory = drop_pages d r c.memory; events = c.events ++ Drop d r ∷ [] };
@@ -164,17 +165,17 @@ forget_shows d r c places = record {
   };
 }
 
-forgets_show : (d : ℕ) (numbers : List ℕ) (c : Cloak) → HasPlaces c.memory →
-    EndsIn c (ask_forgets d numbers (Cloaked c)).world
-unfolding ask_forgets
+forgets_show : (d : ℕ) (numbers : List ℕ) (c : MidStep) → HasPlaces c.memory →
+    EndsIn c (played (forget_each d numbers) (Cloaked c)).world
+unfolding forget_each
 forgets_show d [] c places = record { after = c; is = refl; shows = shows_none c places }
 forgets_show d (r ∷ numbers) c places =
-    ends_on c (ask_forget d r (Cloaked c)).world _ (λ w. (ask_forgets d numbers w).world) (forget_shows d r c places) refl
+    ends_on c (ask_forget d r (Cloaked c)).world _ (λ w. (played (forget_each d numbers) w).world) (forget_shows d r c places) refl
     (λ c' there. forgets_show d numbers c' there)
 
 pub end_shows : (d : ℕ) (m : CloakedMemory) → HasPlaces m → EndsIn (cloak_for m d) (ask_end d (Cloaked (cloak_for m d))).world
 unfolding ask_end
 end_shows d m places =
     let c = cloak_for m d in
-    ends_on c (settled_for d 0 (length m.ram) (Cloaked c)) _ (λ w. (ask_forgets d (numbers_below 16) w).world)
+    ends_on c (settled_for d 0 (length m.ram) (Cloaked c)) _ (λ w. (played (forget_each d (numbers_below 16)) w).world)
     (for_ends d 0 (length m.ram) c places) refl (λ c' there. forgets_show d (numbers_below 16) c' there)

@@ -12,7 +12,7 @@ use Rattle.cloak_model.specs.DomainState.{Domain, with_resources}
 use Rattle.cloak_model.specs.Files.{file_resource}
 use Rattle.cloak_model.specs.Hart.{Hart}
 use Rattle.cloak_model.specs.Ledger.{Keys}
-use Rattle.cloak_model.specs.Opening.{Lack, Opened, key_count, drawn_keys, keys_for, place_programs, started_memory, started_joint, opening_items, opened_with, opened_by}
+use Rattle.cloak_model.specs.Opening.{Lack, RunEdge, key_count, drawn_keys, keys_for, place_programs, started_memory, started_joint, opening_items, opened_with, opened_by}
 use Rattle.cloak_model.specs.Parts.{Joint, KernelPart, kernel_part}
 use Rattle.cloak_model.specs.Resources.{Resources, Mapped}
 use Rattle.cloak_model.specs.StoredFiles.{PageContent, FileContents}
@@ -326,7 +326,7 @@ files_of (Fresh stream) = []
 files_of (Stored keys stream files) = files
 
 -- The programs' pages are placed, and then the files are added.
-pub record OpensOver (b : Bundle) (from : Beginning) (o : Opened) : Type 0 where
+pub record OpensOver (b : Bundle) (from : Beginning) (o : RunEdge) : Type 0 where
   pub keys : Keys
   pub stream : Random
   pub has_keys : HasKeys b from keys stream
@@ -336,7 +336,7 @@ pub record OpensOver (b : Bundle) (from : Beginning) (o : Opened) : Type 0 where
   pub items : o.items ≡ opening_items b.programs memory.ram
 
 fresh_over : (b : Bundle) (stream rest : Random) (keys : Keys) (has : DrawsKeys b stream keys rest)
-    (memory : Option CloakedMemory) (o : Opened) → place_programs 0 b.programs (started_memory b.kernel keys rest) ≡ memory →
+    (memory : Option CloakedMemory) (o : RunEdge) → place_programs 0 b.programs (started_memory b.kernel keys rest) ≡ memory →
     opened_with b memory ≡ Ok o → OpensOver b (Fresh stream) o
 unfolding opened_with files_added
 fresh_over b stream rest keys has None o placed opens = absurd cc
@@ -348,11 +348,11 @@ fresh_over b stream rest keys has (Some m) o placed opens =
       has_keys = has;
       memory = m;
       placed = placed;
-      added = ap (λ (x : Opened). let r : Result Joint Lack = Ok x.joint in r) same;
-      items = ap (λ (x : Opened). x.items) (sym same);
+      added = ap (λ (x : RunEdge). let r : Result Joint Lack = Ok x.joint in r) same;
+      items = ap (λ (x : RunEdge). x.items) (sym same);
     })
 
-drawn_over : (b : Bundle) (stream : Random) (draw : Option (List (List ℕ) × Random)) (o : Opened) →
+drawn_over : (b : Bundle) (stream : Random) (draw : Option (List (List ℕ) × Random)) (o : RunEdge) →
     drawn_keys (key_count b.programs) stream ≡ draw → opened_by b draw ≡ Ok o → OpensOver b (Fresh stream) o
 unfolding opened_by
 drawn_over b stream None o drawn opens = absurd cc
@@ -360,19 +360,19 @@ drawn_over b stream (Some draw) o drawn opens =
     fresh_over b stream draw.1 (keys_for b.programs draw.0) (record { drawn = draw.0; draws = drawn; are = refl }) _ o refl
     opens
 
-none_opens : (r : Result Joint Lack) (lack : Lack) (o : Opened) →
-    and_then (λ (j : Joint). let none : Result Opened Lack = Err lack in none) r ≡ Ok o → ⊥
+none_opens : (r : Result Joint Lack) (lack : Lack) (o : RunEdge) →
+    and_then (λ (j : Joint). let none : Result RunEdge Lack = Err lack in none) r ≡ Ok o → ⊥
 none_opens (Err e) lack o opens = absurd cc
 none_opens (Ok j) lack o opens = absurd cc
 
 stored_over : (b : Bundle) (handed : List (List ℕ)) (stream : Random) (files : List FileContents) (bare : Joint)
-    (memory : Option CloakedMemory) (o : Opened) →
+    (memory : Option CloakedMemory) (o : RunEdge) →
     place_programs 0 b.programs (started_memory b.kernel (stored_keys b handed) stream) ≡ memory →
     opened_over b files bare memory ≡ Ok o → OpensOver b (Stored handed stream files) o
 unfolding opened_over
 stored_over b handed stream files bare None o placed opens = absurd (none_opens (files_added files bare) _ o opens)
 stored_over b handed stream files bare (Some m) o placed opens =
-    (let next : Joint → Result Opened Lack =
+    (let next : Joint → Result RunEdge Lack =
     λ j. Ok (record { joint = j; items = opening_items b.programs m.ram }) in
     let made = before next (files_added files (started_joint b m)) o opens in
     let last = made.then in
@@ -383,11 +383,11 @@ stored_over b handed stream files bare (Some m) o placed opens =
       has_keys = record { are = refl; stays = refl };
       memory = m;
       placed = placed;
-      added = made.was ∙ ap (λ (x : Opened). let r : Result Joint Lack = Ok x.joint in r) same;
-      items = ap (λ (x : Opened). x.items) (sym same);
+      added = made.was ∙ ap (λ (x : RunEdge). let r : Result Joint Lack = Ok x.joint in r) same;
+      items = ap (λ (x : RunEdge). x.items) (sym same);
     })
 
-pub opens_over : (b : Bundle) (from : Beginning) (o : Opened) → opening_from b from ≡ Ok o → OpensOver b from o
+pub opens_over : (b : Bundle) (from : Beginning) (o : RunEdge) → opening_from b from ≡ Ok o → OpensOver b from o
 unfolding opening_stored
 opens_over b (Fresh stream) o opens = drawn_over b stream (drawn_keys (key_count b.programs) stream) o refl opens
 opens_over b (Stored keys stream files) o opens =

@@ -9,8 +9,8 @@ use Rattle.rv_isa.specs.Fields.{bits}
 use Rattle.cloak_base.specs.declared.names.Kind.{Kind}
 use Rattle.cloak_model.specs.declared.access.Access.{Access}
 use Rattle.cloak_model.specs.declared.access.Walked.{Walked}
-use Rattle.cloak_model.specs.Ask.{ask_word, ask_walk, ask_inside, ask_translate, ask_led}
-use Rattle.cloak_model.proofs.WalkParts.{ask_second, ask_after, ask_first}
+use Rattle.cloak_model.specs.Ask.{ask_word, ask_walk, ask_in_ram, ask_translate, ask_led}
+use Rattle.cloak_model.proofs.WalkParts.{ask_after, ask_first}
 use Rattle.cloak_model.specs.AskPages.{ask_inside_address}
 use Rattle.cloak_model.specs.Asking.{Told}
 use Rattle.cloak_model.specs.Effect.{IsWidth}
@@ -98,8 +98,8 @@ inside_if va at cause pa ram true is keeps found =
     cc in (subst (λ (x : ℕ). is_in_ram ram x ≡ true) same is, subst (λ (x : ℕ). x % 4 ≡ va % 4) same keeps)
 inside_if va at cause pa ram false is keeps found = absurd cc
 
-leads_by : (a : Access) (walk : Walk) (w : World) → KeepsPlace a.va walk → LeadsInside a.va (ask_inside a walk w)
-unfolding ask_inside
+leads_by : (a : Access) (walk : Walk) (w : World) → KeepsPlace a.va walk → LeadsInside a.va (ask_in_ram a walk w)
+unfolding ask_in_ram
 leads_by a (Err cause) w keeps = record { inside = λ pa found. absurd cc }
 leads_by a (Ok walked) w keeps = record {
   inside = λ pa found. inside_if a.va walked.pa _ pa (ram_of w) (is_in_ram (ram_of w) walked.pa) refl

@@ -13,12 +13,14 @@ use Rattle.cloak_model.specs.declared.inside.Went.{Went}
 use Rattle.cloak_model.specs.declared.inside.Went.TheVariants as went
 use Rattle.cloak_model.specs.Contexts.{Context, context_number, domain_of, slot_of, shown}
 use Rattle.cloak_model.specs.DomainState.{Control, Domain}
-use Rattle.cloak_model.specs.DomainStep.{DomainStepped, instruction_ended, copy_ended, phase_step, step_if, domain_step, interrupt_if, interrupt, answer_taken, resume_told, resume_slot, after_write}
+use Rattle.cloak_model.specs.DomainStep.{domain_script, DomainStepped, instruction_ended, copy_ended, phase_step, step_if, domain_step, interrupt_if, interrupt, answer_taken, resume_told, resume_slot, after_write}
 use Rattle.cloak_model.specs.Hypercalls.{Stepped, leaves, Hypercall, hypercall}
 use Rattle.cloak_model.specs.World.{World}
 use Rattle.hypercall_kinds.specs.Kinds.{CallKind, Calls, Ends, EndsSpace, after}
 use Rattle.hypercall_kinds.proofs.ByKinds.{by_kinds}
 use Rattle.cloak_model.specs.declared.context.WordPlace.{WordPlace}
+use Rattle.cloak_model.specs.Script.{played}
+use Rattle.cloak_model.proofs.Playing.{by_plain, by_copy_in, by_copy_out, by_ecall}
 
 -- what is shown, if anything is, is of this context
 abbrev pub ShowsContext : ℕ → Went → Type 0
@@ -56,7 +58,7 @@ module _ (h : Hypercall) (slot : ℕ) (c : Context) (d : Control) (w : World) wh
   numbers_kind (EndsSpace is none ok) = record { number = refl; shows = shown_ctx c _ why.Exit }
   numbers_kind _ = record { number = refl; shows = tt }
 
-  numbers_hypercall : Numbers slot d (hypercall h slot c d w).answer
+  numbers_hypercall : Numbers slot d (played (hypercall h slot c d) w).answer
   numbers_hypercall = by_kinds (λ t. Numbers slot d t.answer) h slot c d w numbers_kind
 
 -- The step.
@@ -65,14 +67,16 @@ abbrev StepNumbers : ℕ → Domain → DomainStepped → Type 0
 StepNumbers slot d s = KeepsNumber slot d.control s.domain.control s.went
 
 numbers_instruction : (slot : ℕ) (d : Domain) (c : Context) (e : Ran) (w : World) →
-    StepNumbers slot d (instruction_ended slot d c e w).answer
+    StepNumbers slot d (played (instruction_ended slot d c e) w).answer
 unfolding instruction_ended
 numbers_instruction slot d c (ran.Trap cause address) w = record {
   number = refl;
   shows = shown_ctx c _ (why.Trap cause address);
 }
 numbers_instruction slot d c ran.Ecall w =
-    let s = numbers_hypercall _ slot c d.control w in record { number = s.number; shows = s.shows }
+    let s = numbers_hypercall _ slot c d.control w in
+    by_ecall (λ t. StepNumbers slot d t.answer) slot d c w
+    (record { number = s.number; shows = s.shows })
 numbers_instruction slot d c _ w = record { number = refl; shows = tt }
 
 numbers_copy : (slot : ℕ) (d : Domain) (c : Context) (e : Copied) → StepNumbers slot d (copy_ended slot d c e)
@@ -91,20 +95,26 @@ numbers_write slot d None s keeps = keeps
 numbers_write slot d (Some place) s keeps = record { number = keeps.number; shows = keeps.shows }
 
 numbers_phase : (phase : Phase) (slot : ℕ) (c : Context) (d : Domain) (w : World) →
-    StepNumbers slot d (phase_step phase slot c d w).answer
+    StepNumbers slot d (played (phase_step phase slot c d) w).answer
 unfolding phase_step
-numbers_phase Plain slot c d w = numbers_write slot d _ _ (numbers_instruction slot d _ _ _)
-numbers_phase (CopyIn done) slot c d w = numbers_copy slot d _ _
+numbers_phase Plain slot c d w =
+    by_plain (λ t. StepNumbers slot d t.answer) slot c d w
+    (numbers_write slot d _ _ (numbers_instruction slot d _ _ _))
+numbers_phase (CopyIn done) slot c d w =
+    by_copy_in (λ t. StepNumbers slot d t.answer) done slot c d w
+    (numbers_copy slot d _ _)
 numbers_phase Waiting slot c d w = record { number = refl; shows = tt }
-numbers_phase (CopyOut done total) slot c d w = numbers_write slot d _ _ (numbers_copy slot d _ _)
+numbers_phase (CopyOut done total) slot c d w =
+    by_copy_out (λ t. StepNumbers slot d t.answer) done total slot c d w
+    (numbers_write slot d _ _ (numbers_copy slot d _ _))
 
-numbers_if : (c : Option Context) (slot : ℕ) (d : Domain) (w : World) → StepNumbers slot d (step_if c slot d w).answer
+numbers_if : (c : Option Context) (slot : ℕ) (d : Domain) (w : World) → StepNumbers slot d (played (step_if c slot d) w).answer
 unfolding step_if
 numbers_if None slot d w = record { number = refl; shows = tt }
 numbers_if (Some c) slot d w = numbers_phase c.phase slot c d w
 
 pub numbers_step : (slot : ℕ) (d : Domain) (w : World) → StepNumbers slot d (domain_step slot d w).answer
-unfolding domain_step
+unfolding domain_step domain_script
 numbers_step slot d w = numbers_if _ slot d w
 
 -- Interrupts and resuming.

@@ -18,7 +18,7 @@ use Rattle.cloak_model.specs.Cloaking.{CloakedMemory, seen_in}
 use Rattle.cloak_model.specs.DomainState.{started_domain, started_control}
 use Rattle.cloak_model.specs.Ledger.{Keys, vector_of}
 use Rattle.cloak_model.specs.Memory.{zero_ram, with_bytes, with_byte, Seen, unless_written, filled}
-use Rattle.cloak_model.specs.Opening.{with_segments, numbers_below, started_ledger, started_kernel, started_memory, program_page, place_pages, place_programs, started_domains, started_joint, is_placed, opening_items, Opened}
+use Rattle.cloak_model.specs.Opening.{with_segments, numbers_below, started_ledger, started_kernel, started_memory, program_page, place_pages, place_programs, started_domains, started_joint, is_placed, opening_items, RunEdge}
 use Rattle.cloak_model.specs.PageMoves.{place, place_with}
 use Rattle.cloak_model.specs.Parts.{Joint, KernelPart, kernel_part}
 use Rattle.cloak_model.specs.StoredFiles.{FileContents}
@@ -276,7 +276,7 @@ started_from d [] = tt
 started_from d (p ∷ programs) = (refl, started_from (d + 1) programs)
 
 -- What the kernel is shown then gives RAM, from the kernel's image.
-pub record IsOpened (b : Bundle) (o : Opened) : Type 0 where
+pub record IsOpened (b : Bundle) (o : RunEdge) : Type 0 where
   pub ciphers : List (ℕ × List ℕ)
   pub items : o.items ≡ cipher_items ciphers
   pub frames : AreFrames (started_kernel b.kernel).ram ciphers
@@ -320,7 +320,7 @@ opened_memory b keys rest m files j placed added =
       };
     }
 
-pub is_opened : (b : Bundle) (from : Beginning) (o : Opened) → opening_from b from ≡ Ok o → IsOpened b o
+pub is_opened : (b : Bundle) (from : Beginning) (o : RunEdge) → opening_from b from ≡ Ok o → IsOpened b o
 is_opened b from o opens =
     let over = opens_over b from o opens in
     let bare : CloakedMemory = started_memory b.kernel over.keys over.stream in

@@ -25,7 +25,7 @@ use Rattle.cloak_model.specs.Memory.{Seen}
 use Rattle.cloak_model.specs.World.{World, Flat}
 use Rattle.cloak_model.specs.Asking.{Told, Asking, answered, then_ask}
 use Rattle.cloak_model.specs.Walk.{Walk}
-use Rattle.cloak_model.specs.Ask.{ask_walk, ask_inside, ask_translate, ask_led, ask_value, loaded_at, ask_load, ask_store_at, ask_count, ask_unmark, ask_reserve, ask_store_conditional, ask_combine}
+use Rattle.cloak_model.specs.Ask.{ask_walk, ask_in_ram, ask_translate, ask_led, ask_value, loaded_at, ask_load, ask_store_at, ask_count, ask_unmark, ask_reserve, ask_store_conditional, ask_combine}
 use Rattle.cloak_model.specs.HartStep.{SteppedHart, with_word, gone_on, stays, raised, csr_written, csr_found, csr_step, returned, idle, system}
 use Rattle.cloak_model.specs.HostCalls.{SteppedKernel, is_transfer, ends, put_call, timer_call, halt_call, read_block, write_block, read_call, write_call, host_call, resumed, ecall_in, ecall}
 use Rattle.cloak_model.specs.KernelStep.{access, extended, is_ecall, misaligned, or_trap, carried_out, atomic_access, atomic_executed, executed, instruction_step, ticked, ends_reservation, released, kernel_step}
@@ -262,15 +262,15 @@ walk_reads satp a seen marks =
     ask_walk-flat satp a (marked marks seen)
     ∙ ap (λ (told : Told Walk). told_with told (marked marks seen)) (sym (ask_walk-flat satp a seen))
 
-inside_reads : (a : Access) (walk : Walk) → ReadsFrames (ask_inside a walk)
-unfolding ask_inside
+inside_reads : (a : Access) (walk : Walk) → ReadsFrames (ask_in_ram a walk)
+unfolding ask_in_ram
 inside_reads a (Err cause) seen marks = refl
 inside_reads a (Ok walked) seen marks = refl
 
 led_reads : (satp : ℕ) (a : Access) → ReadsFrames (ask_led satp a)
 unfolding ask_led ask_translate
 led_reads satp a seen marks =
-    then_reads (ask_walk satp a) (ask_inside a) (walk_reads satp a) (inside_reads a) seen marks
+    then_reads (ask_walk satp a) (ask_in_ram a) (walk_reads satp a) (inside_reads a) seen marks
 
 loaded_reads : (satp : ℕ) (a : Access) (width : ℕ) (to : Result ℕ ℕ) → ReadsFrames (loaded_at satp a width to)
 unfolding loaded_at ask_value

@@ -29,7 +29,7 @@ use Rattle.cloak_model.specs.Leaving.{leave}
 use Rattle.cloak_model.specs.Parts.{Joint, KernelPart, kernel_part}
 use Rattle.cloak_model.specs.Resuming.{AfterResume, resume}
 use Rattle.cloak_model.proofs.ResumeParts.{by_root, by_context, by_domain}
-use Rattle.cloak_model.specs.World.{World, Cloak, Flat, Cloaked, Alone, items_of, cipher_items, seen_of}
+use Rattle.cloak_model.specs.World.{World, MidStep, Flat, Cloaked, Alone, items_of, cipher_items, seen_of}
 use Rattle.std.specs.List.{find}
 use Rattle.cloak_model.specs.Ahead.{is_owed}
 use Rattle.cloak_model.specs.Ending.{ask_end, cloak_for, ended_domain}
@@ -547,7 +547,7 @@ memory_places (Cloaked c) m joint = joint.places
 memory_places _ m joint = absurd (false≢true joint.form)
 
 -- what a program's step told has come about
-told_turn : (schedule : List ℕ) (n : ℕ) (j : Joint) (number ctx d : ℕ) (was : Domain) (c : Cloak)
+told_turn : (schedule : List ℕ) (n : ℕ) (j : Joint) (number ctx d : ℕ) (was : Domain) (c : MidStep)
     (told : Told DomainStepped) →
     IsInside schedule n j number ctx → IsSteady j → slice_get j.domains d ≡ Some was → c.memory ≡ j.memory →
     c.items ≡ [] →
@@ -617,7 +617,7 @@ domain_of_turn schedule n true j number ctx was inside steady there =
     (shows_own ctx was _ own keeps.shows)
 domain_of_turn schedule n false j number ctx was inside steady there =
     let own = number_at (domain_of ctx) j.domains was steady.programs there in
-    let c : Cloak = cloak_of j.memory (ticked (hart_in j number)) (domain_of ctx)
+    let c : MidStep = cloak_of j.memory (ticked (hart_in j number)) (domain_of ctx)
     (pages_for was (context_at was.control.contexts (slot_of ctx))) in
     let keeps = numbers_step (slot_of ctx) was (Cloaked c) in
     let account = (accounts_domain_step (slot_of ctx) was (Cloaked c)).by

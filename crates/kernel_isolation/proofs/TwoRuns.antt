@@ -13,7 +13,7 @@ use Rattle.cloak_model.specs.Exchange.{steps_items}
 use Rattle.cloak_model.specs.Halves.{is_outward, outward_half}
 use Rattle.cloak_model.specs.Joint.{Moment, Turn, joint_step, after_turn, stop_of}
 use Rattle.cloak_model.specs.KernelAlone.{KernelAlone, kernel_alone}
-use Rattle.cloak_model.specs.Opening.{Opened}
+use Rattle.cloak_model.specs.Opening.{RunEdge}
 use Rattle.cloak_model.specs.Parts.{KernelPart, kernel_part}
 use Rattle.cloak_model.specs.Record.{IsCipher}
 use Rattle.cloak_model.specs.Run.{Run, unless_stopped, turns_from, first_moment, joint_after, run_of, run_from, exchange, run_outward_half}
@@ -51,7 +51,7 @@ record WritesAsExchange (r : Run) : Type 0 where
   pub steps : AllByRecursion AreOfStep (items_by_step r.turns)
   pub closing : AllByRecursion IsCipher r.closed.items
 
-writes_of : (b : Bundle) (from : Beginning) (budget : ℕ) (o : Opened) → opening_from b from ≡ Ok o →
+writes_of : (b : Bundle) (from : Beginning) (budget : ℕ) (o : RunEdge) → opening_from b from ≡ Ok o →
     WritesAsExchange (run_of b budget o)
 unfolding run_of
 writes_of b from budget o opens =

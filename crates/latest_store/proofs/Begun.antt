@@ -28,7 +28,7 @@ use Rattle.latest_store.specs.LatestStore.{resource_of_file, made_contents, made
 use Rattle.latest_store.proofs.Fits.{FreeZero}
 use Rattle.latest_store.proofs.Held.{Holds}
 use Rattle.latest_store.proofs.Moved.{Agrees, move_agrees}
-use Rattle.latest_store.proofs.Numbers.{MapsHeld, HasFew, Follows, found_follows}
+use Rattle.latest_store.proofs.Numbers.{MapsHeld, HasFew, ResourcesFollow, found_follows}
 use Rattle.latest_store.proofs.Turned.{set_same, set_other}
 
 -- The pages of a file.
@@ -210,7 +210,7 @@ module _ (f : FileContents) (j j' : Joint) (given : IsGiven f j j') where
       (ap (place_in_domain f.number) (get_same j.domains f.domain found (with_resources made found) given.there)
       ∙ given_place f.number (length f.pages) n found.control.resources made comes)
 
-  follows : Follows found.control.resources made
+  follows : ResourcesFollow found.control.resources made
   unfolding file_resource
   follows =
       found_follows f.number (length f.pages) (position (holds_file f.number) found.control.resources.held)

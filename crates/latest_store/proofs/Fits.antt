@@ -16,7 +16,7 @@ use Rattle.cloak_model.specs.Resources.{Resources, resource_at, drop_space}
 use Rattle.latest_store.specs.Moves.{Move, Makes, Stores, Combines, Copies, Zeros, Drops, Loads, covers, latest, latest_value, with_moves}
 use Rattle.latest_store.specs.Deeds.{made_moves}
 use Rattle.latest_store.proofs.Moved.{IsSound, AreSound}
-use Rattle.latest_store.proofs.Numbers.{MapsHeld, HasFew, Follows, HeldPlace, dropped_free, drop_maps, drop_few, Enough, fork_maps, fork_few, fork_free, fork_apart}
+use Rattle.latest_store.proofs.Numbers.{MapsHeld, HasFew, ResourcesFollow, HeldPlace, dropped_free, drop_maps, drop_few, Enough, fork_maps, fork_few, fork_free, fork_apart}
 
 -- the pages of a domain under its free numbers are zeros
 abbrev pub FreeZero : List Move → ℕ → Resources → Type 0
@@ -29,7 +29,7 @@ pub record Fits (d : ℕ) (r : Resources) (moves : List Move) (r' : Resources) :
   pub few : HasFew r → HasFew r'
   pub free : MapsHeld r → (history : List Move) → FreeZero history d r → FreeZero (with_moves moves history) d r'
 
-pub fits_none : (d : ℕ) (r : Resources) (moves : List Move) (r' : Resources) → moves ≡ [] → Follows r r' →
+pub fits_none : (d : ℕ) (r : Resources) (moves : List Move) (r' : Resources) → moves ≡ [] → ResourcesFollow r r' →
     Fits d r moves r'
 fits_none d r moves r' none follows =
     subst (λ (ms : List Move). Fits d r ms r') (sym none) (record {
@@ -111,7 +111,7 @@ either_zero true x is = refl
 either_zero false x is = is
 
 -- a resource is made
-pub fits_make : (d : ℕ) (r : Resources) (made : Result ℕ MapFault) (r' : Resources) → Follows r r' →
+pub fits_make : (d : ℕ) (r : Resources) (made : Result ℕ MapFault) (r' : Resources) → ResourcesFollow r r' →
     Fits d r (made_moves d made) r'
 unfolding latest
 fits_make d r (Err fault) r' follows = fits_none d r [] r' refl follows

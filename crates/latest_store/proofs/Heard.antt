@@ -13,13 +13,13 @@ use Rattle.cloak_model.specs.Asking.{Told}
 use Rattle.cloak_model.specs.AskPages.{answer_item}
 use Rattle.cloak_model.specs.DomainState.{Domain}
 use Rattle.cloak_model.specs.DomainStep.{DomainStepped, after_write}
-use Rattle.script_fold.proofs.Scripts.{Question, asked}
+use Rattle.cloak_model.specs.Script.{Question, asked}
 use Rattle.domain_isolation.proofs.Steady.{is_cloaked}
 use Rattle.domain_isolation.proofs.Answers.{question_answered}
 use Rattle.latest_store.specs.Moves.{Move}
 use Rattle.latest_store.specs.Deeds.{first_granted, both_granted}
 use Rattle.latest_store.proofs.Moved.{moved_by, given_by}
-use Rattle.latest_store.proofs.Numbers.{Follows}
+use Rattle.latest_store.proofs.Numbers.{ResourcesFollow}
 use Rattle.latest_store.proofs.Fits.{Fits, fits_none}
 
 -- A world in a step of domain d, in which pages have these bytes, after these answers.
@@ -37,12 +37,12 @@ own_item d (told.Word value) = ap (λ (b : Bool). cond b (item.Word d value ∷ 
 own_item d told.Stopped = ap (λ (b : Bool). cond b (item.Stopped d ∷ []) []) (eq-eqb d d refl)
 
 -- one more question
-pub heard_asked : (d : ℕ) (plain : PageId → List ℕ) (answers : List Item) (question : Question d) (w : World) →
+pub heard_asked : (d : ℕ) (plain : PageId → List ℕ) (answers : List Item) (question : Question) (w : World) →
     Heard d plain answers w →
     Heard d plain (answers ++ answer_item d (asked question w).answer ∷ []) (asked question w).world
 heard_asked d plain answers question w heard =
     let t = asked question w in
-    let r = (question_answered question w heard.form).replied in
+    let r = (question_answered d question w heard.form).replied in
     record {
       form = r.form ∙ heard.form;
       regime = ap (λ (regime : _). regime.domain) r.regime ∙ heard.regime;
@@ -81,7 +81,7 @@ untouched plain was moves answers x w heard still none same fits = record {
 -- it did nothing
 pub quiet : (plain : PageId → List ℕ) (was : Domain) (moves : List Item → List Move) (answers : List Item)
     (x : DomainStepped) (w : World) → Heard was.control.number plain answers w → moves answers ≡ [] →
-    x.domain.loads ≡ was.loads → Follows was.control.resources x.domain.control.resources →
+    x.domain.loads ≡ was.loads → ResourcesFollow was.control.resources x.domain.control.resources →
     Did plain was moves (record { answer = x; world = w })
 quiet plain was moves answers x w heard none same follows =
     untouched plain was moves answers x w heard (ap (λ (ms : List Move). moved_by ms plain) none)
@@ -128,3 +128,21 @@ pub with_plain_rewrites : (d : ℕ) (plain : PageId → List ℕ) (w : World) �
     Rewrites w (with_plain d plain w) plain
 with_plain_rewrites d plain (Cloaked c) form = record { form = refl; regime = refl; pages = refl; items = refl }
 with_plain_rewrites d plain _ form = absurd cc
+
+-- pages are rewritten, and no resource is made
+pub rewritten : (plain : PageId → List ℕ) (was : Domain) (moves : List Item → List Move) (answers : List Item)
+    (x : DomainStepped) (domain : ℕ) (new : (PageId → List ℕ) → PageId → List ℕ) (w : World) →
+    Heard was.control.number plain answers w → new plain ≡ moved_by (moves answers) plain →
+    x.domain.loads ≡ was.loads ++ given_by (moves answers) plain →
+    Fits was.control.number was.control.resources (moves answers) x.domain.control.resources →
+    Did plain was moves (record { answer = x; world = with_plain domain (new (plain_of w)) w })
+rewritten plain was moves answers x domain new w heard same loads fits =
+    let made = with_plain_rewrites domain (new (plain_of w)) w heard.form in
+    record {
+      answers = answers;
+      form = made.form;
+      told = ap (inward_half was.control.number) made.items ∙ heard.told;
+      pages = made.pages ∙ ap new heard.pages ∙ same;
+      loads = loads;
+      fits = fits;
+    }

@@ -13,7 +13,7 @@ use Rattle.cloak_model.specs.Cloaking.{CloakedMemory}
 use Rattle.cloak_model.specs.DomainState.{Domain, started_control, started_domain}
 use Rattle.cloak_model.specs.Joint.{Moment, Turn, hart_in, joint_step}
 use Rattle.cloak_model.specs.Ledger.{Keys}
-use Rattle.cloak_model.specs.Opening.{program_page, place_pages, place_programs, started_domains, started_memory, started_joint, Opened}
+use Rattle.cloak_model.specs.Opening.{program_page, place_pages, place_programs, started_domains, started_memory, started_joint, RunEdge}
 use Rattle.cloak_model.specs.PageMoves.{place}
 use Rattle.cloak_model.specs.Parts.{Joint}
 use Rattle.cloak_model.specs.Resources.{Resources, resource_at, started_resources}
@@ -161,13 +161,13 @@ started_holds b m agrees = record {
       (subst (λ (r : Resources). resource_at r q.resource ≡ None) s.is free)) ∙ empty_latest q at;
 }
 
-files_same : (b : Bundle) (from : Beginning) (m : CloakedMemory) (o : Opened) →
+files_same : (b : Bundle) (from : Beginning) (m : CloakedMemory) (o : RunEdge) →
     files_added (added.files_of from) (started_joint b m) ≡ Ok o.joint →
     files_added (files_of from) (started_joint b m) ≡ Ok o.joint
 files_same b (Fresh stream) m o is = is
 files_same b (Stored keys stream files) m o is = is
 
-files_then : (b : Bundle) (from : Beginning) (m : CloakedMemory) (o : Opened) → IsBeginning b from →
+files_then : (b : Bundle) (from : Beginning) (m : CloakedMemory) (o : RunEdge) → IsBeginning b from →
     files_added (files_of from) (started_joint b m) ≡ Ok o.joint →
     Holds (made_programs 0 b.programs []) (started_joint b m) →
     Opens (files_of from) (made_programs 0 b.programs []) o.joint
@@ -177,7 +177,7 @@ files_then b (Fresh stream) m o begins added holds =
 files_then b (Stored keys stream files) m o begins added holds =
     files_open (stored_keys b keys) files (started_joint b m) o.joint _ added begins.sealed holds
 
-opened_holds : (b : Bundle) (from : Beginning) (o : Opened) → IsInGrammar b → IsBeginning b from →
+opened_holds : (b : Bundle) (from : Beginning) (o : RunEdge) → IsInGrammar b → IsBeginning b from →
     opening_from b from ≡ Ok o → Opens (files_of from) (made_programs 0 b.programs []) o.joint
 opened_holds b from o fits begins opens =
     let over = opens_over b from o opens in
@@ -186,7 +186,7 @@ opened_holds b from o fits begins opens =
     (programs_agree b.kernel.frames 0 b.programs (started_memory b.kernel over.keys over.stream) over.memory []
     fits.programs over.placed (zeros_agree b over.keys over.stream)))
 
-opened_there : (b : Bundle) (from : Beginning) (budget : ℕ) (o : Opened) → opening_from b from ≡ Ok o →
+opened_there : (b : Bundle) (from : Beginning) (budget : ℕ) (o : RunEdge) → opening_from b from ≡ Ok o →
     IsInGrammar b → IsBeginning b from →
     All (IsThere (run_of b budget o).opened.joint.domains) (files_of from)
 unfolding run_of
@@ -213,7 +213,7 @@ after_step j [] (suc n) t is = absurd cc
 after_step j (x ∷ turns) zero t is = ap (λ (y : Turn). y.joint) (same_some x t is)
 after_step j (x ∷ turns) (suc n) t is = after_step x.joint turns n t is
 
-run_holds : (b : Bundle) (from : Beginning) (budget : ℕ) (o : Opened) → opening_from b from ≡ Ok o → IsInGrammar b →
+run_holds : (b : Bundle) (from : Beginning) (budget : ℕ) (o : RunEdge) → opening_from b from ≡ Ok o → IsInGrammar b →
     IsBeginning b from → let r = run_of b budget o in
     (n : ℕ) → n ≤ length r.turns → Holds (history_until b from n r) (joint_until n r)
 unfolding run_of history_until joint_after
@@ -247,7 +247,7 @@ abbrev HoldsAlways : Bundle → Beginning → Run → Type 0
 HoldsAlways b from r = (n : ℕ) → n ≤ length r.turns → Holds (history_until b from n r) (joint_until n r)
 
 -- the closing leaves programs as they are
-closed_domains : (b : Bundle) (budget : ℕ) (o : Opened) → let r = run_of b budget o in
+closed_domains : (b : Bundle) (budget : ℕ) (o : RunEdge) → let r = run_of b budget o in
     r.closed.joint.domains ≡ (joint_until (length r.turns) r).domains
 unfolding run_of closing
 closed_domains b budget o =
@@ -275,7 +275,7 @@ others_stay b from budget r runs holds n low q other gone at =
 -- an ended domain
 
 -- the machine after n steps and one more
-after_next : (b : Bundle) (from : Beginning) (budget : ℕ) (o : Opened) → opening_from b from ≡ Ok o →
+after_next : (b : Bundle) (from : Beginning) (budget : ℕ) (o : RunEdge) → opening_from b from ≡ Ok o →
     let r = run_of b budget o in
     (n : ℕ) → suc n ≤ length r.turns → (P : Joint → Type 0) →
     ((m : Moment) → m.joint ≡ joint_until n r → AreFrom 0 m.joint.domains →
@@ -293,7 +293,7 @@ after_next b from budget o opens n low P next =
     (subst (λ (t : Turn). P t.joint) same
     (next m refl steady.programs (step.is ∙ ap (λ (t : Turn). Some t) (sym same))))
 
-run_goes_over : (b : Bundle) (from : Beginning) (budget : ℕ) (o : Opened) → opening_from b from ≡ Ok o →
+run_goes_over : (b : Bundle) (from : Beginning) (budget : ℕ) (o : RunEdge) → opening_from b from ≡ Ok o →
     let r = run_of b budget o in
     (d n : ℕ) → suc n ≤ length r.turns → ends_in d (items_of_turn (slice_get r.turns n)) ≡ true →
     GoesOver d (joint_until (suc n) r)
@@ -301,7 +301,7 @@ run_goes_over b from budget o opens d n low ends =
     after_next b from budget o opens n low (GoesOver d) (λ m at programs is.
     step_goes_over d m programs (ap (λ (found : Option Turn). ends_in d (items_of_turn found)) (sym is) ∙ ends))
 
-run_stays_over : (b : Bundle) (from : Beginning) (budget : ℕ) (o : Opened) → opening_from b from ≡ Ok o →
+run_stays_over : (b : Bundle) (from : Beginning) (budget : ℕ) (o : RunEdge) → opening_from b from ≡ Ok o →
     let r = run_of b budget o in
     (d : ℕ) (loads : List (ℕ × ℕ)) (n : ℕ) → IsOver d loads (joint_until n r) → (k : ℕ) → k + n ≤ length r.turns →
     IsOver d loads (joint_until (k + n) r)
@@ -320,7 +320,7 @@ abbrev OverLater : Bundle → Run → Type 0
 OverLater b r = (n later : ℕ) → suc n ≤ later → later ≤ length r.turns → (d : ℕ) →
     ends_in d (items_of_turn (slice_get r.turns n)) ≡ true → OverFrom d (joint_until (suc n) r) (joint_until later r)
 
-run_over : (b : Bundle) (from : Beginning) (budget : ℕ) (o : Opened) → opening_from b from ≡ Ok o →
+run_over : (b : Bundle) (from : Beginning) (budget : ℕ) (o : RunEdge) → opening_from b from ≡ Ok o →
     OverLater b (run_of b budget o)
 run_over b from budget o opens n later past low d ends =
     let r : Run = run_of b budget o in

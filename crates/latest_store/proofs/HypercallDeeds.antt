@@ -15,7 +15,7 @@ use Rattle.cloak_model.specs.AskPages.{answer_item, ask_copy, ask_forget}
 use Rattle.cloak_model.specs.Contexts.{Context}
 use Rattle.cloak_model.specs.DomainState.{Control, Domain}
 use Rattle.cloak_model.specs.DomainStep.{DomainStepped, within}
-use Rattle.cloak_model.specs.Fork.{copies, marked, private_numbers, free_numbers, has_room, ask_copies, forked, ask_forgets}
+use Rattle.cloak_model.specs.Fork.{copies, marked, private_numbers, free_numbers, has_room, copy_each, forked, forget_each}
 use Rattle.cloak_model.specs.Halves.{inward_half}
 use Rattle.cloak_model.specs.Files.{holds_file, file_found, file_resource}
 use Rattle.cloak_model.specs.Hypercalls as hyper
@@ -25,7 +25,8 @@ use Rattle.cloak_model.specs.Resources.{Resources, new_resource}
 use Rattle.cloak_model.specs.World.{World, Flat, Cloaked, Alone, plain_of, items_of}
 use Rattle.hypercall_kinds.specs.Kinds.{cleared, CallKind, MakesNew, MakesFile, Maps, Unmaps, Stops, Forks, EndsSpace, after}
 use Rattle.hypercall_kinds.proofs.ByKinds.{by_kinds}
-use Rattle.script_fold.proofs.Scripts.{Clear}
+use Rattle.cloak_model.specs.Script.{Clear}
+use Rattle.cloak_model.specs.Script.{played}
 use Rattle.domain_isolation.proofs.Steady.{is_cloaked}
 use Rattle.latest_store.specs.Moves.{Move, Copies, Drops}
 use Rattle.latest_store.specs.Deeds.{made_moves, file_moves, hypercall_moves}
@@ -47,8 +48,8 @@ abbrev pub drop_moves : ℕ → List ℕ → List Move
 drop_moves n list = map (λ (resource : ℕ). Drops n resource) list
 
 copies_made : (n : ℕ) (list : List (ℕ × ℕ)) (w : World) → is_cloaked w ≡ true →
-    HasMoved w (ask_copies n list w).world (copy_moves n list)
-unfolding ask_copies ask_copy copy_pages
+    HasMoved w (played (copy_each n list) w).world (copy_moves n list)
+unfolding copy_each ask_copy copy_pages
 copies_made n [] w form = record { form = form; items = refl; pages = refl }
 copies_made n (copy ∷ list) (Flat seen) form = absurd cc
 copies_made n (copy ∷ list) (Cloaked c) form =
@@ -57,8 +58,8 @@ copies_made n (copy ∷ list) (Cloaked c) form =
 copies_made n (copy ∷ list) (Alone h) form = absurd cc
 
 pub drops_made : (n : ℕ) (list : List ℕ) (w : World) → is_cloaked w ≡ true →
-    HasMoved w (ask_forgets n list w).world (drop_moves n list)
-unfolding ask_forgets ask_forget drop_pages
+    HasMoved w (played (forget_each n list) w).world (drop_moves n list)
+unfolding forget_each ask_forget drop_pages
 drops_made n [] w form = record { form = form; items = refl; pages = refl }
 drops_made n (resource ∷ list) (Flat seen) form = absurd cc
 drops_made n (resource ∷ list) (Cloaked c) form =
@@ -152,8 +153,8 @@ module _ (h : Hypercall) (slot : ℕ) (d : Domain) (plain : PageId → List ℕ)
       (item.Ok d.control.number ∷ answer_item d.control.number (cleared c d.control w).answer ∷ [])
       (cleared c d.control w).world
   heard_two =
-      heard_asked d.control.number plain (item.Ok d.control.number ∷ []) (Clear (marked c.space d.control.resources)) w
-      heard
+      heard_asked d.control.number plain (item.Ok d.control.number ∷ [])
+      (Clear d.control.number (marked c.space d.control.resources)) w heard
 
   heard_granted : (cleared c d.control w).answer ≡ told.Ok →
       Heard d.control.number plain (item.Ok d.control.number ∷ item.Ok d.control.number ∷ [])
@@ -191,7 +192,7 @@ module _ (h : Hypercall) (slot : ℕ) (d : Domain) (plain : PageId → List ℕ)
       (drops_give n list plain) refl (fits_drop n c.space d.control.resources)
   kind_did _ = quiet _ _ _ _ _ w heard so.once refl (follows_same _)
 
-  by_did : KindDid (hypercall h slot c d.control w)
+  by_did : KindDid (played (hypercall h slot c d.control) w)
   by_did = by_kinds KindDid h slot c d.control w kind_did
 
 not_granted : (n : ℕ) (moves : List Move) (a : Answer) → a ≢ told.Ok →
@@ -204,7 +205,7 @@ not_granted n moves _ other = refl
 pub hypercall_did : (h : Hypercall) (slot : ℕ) (d : Domain) (plain : PageId → List ℕ) (c : Context) (w : World) →
     Heard d.control.number plain (item.Ok d.control.number ∷ []) w →
     Did plain d (if_fetched (hypercall_moves h d.control c))
-    (then_ask (hypercall h slot c d.control) (λ step. answered (within d step)) w)
+    (then_ask (played (hypercall h slot c d.control)) (λ step. answered (within d step)) w)
 unfolding hypercall hypercall_moves new_call file_call file_resource
 hypercall_did New slot d plain c w heard =
     let r = d.control.resources in

@@ -36,16 +36,16 @@ abbrev pub HasFew : Resources → Type 0
 HasFew r = length r.held ≤ 16
 
 -- what a step without moves leaves of resources
-pub record Follows (r r' : Resources) : Type 0 where
+pub record ResourcesFollow (r r' : Resources) : Type 0 where
   pub maps : MapsHeld r → MapsHeld r'
   pub few : HasFew r → HasFew r'
   pub free : (n : ℕ) → resource_at r' n ≡ None → resource_at r n ≡ None
 
-pub follows_same : (r : Resources) → Follows r r
+pub follows_same : (r : Resources) → ResourcesFollow r r
 follows_same r = record { maps = λ maps. maps; few = λ few. few; free = λ n free. free }
 
-pub follows_equal : (r r' : Resources) → r' ≡ r → Follows r r'
-follows_equal r r' same = subst (Follows r) (sym same) (follows_same r)
+pub follows_equal : (r r' : Resources) → r' ≡ r → ResourcesFollow r r'
+follows_equal r r' same = subst (ResourcesFollow r) (sym same) (follows_same r)
 
 -- As a program begins.
 
@@ -135,7 +135,7 @@ put_free (y ∷ xs) (suc i) zero x free = free
 put_free (y ∷ xs) (suc i) (suc n) x free = put_free xs i n x free
 
 made_follows : (owner : Owner) (pages : ℕ) (place : Option ℕ) (r : Resources) → first_free r.held ≡ place →
-    Follows r (made_at owner pages place r).resources
+    ResourcesFollow r (made_at owner pages place r).resources
 unfolding made_at
 made_follows owner pages None r is = follows_same r
 made_follows owner pages (Some n) r is = record {
@@ -144,12 +144,12 @@ made_follows owner pages (Some n) r is = record {
   free = λ m free. put_free r.held n m _ free;
 }
 
-follows_either : {A : Type 0} (b : Bool) (r : Resources) (m n : Mapped A) → Follows r m.resources →
-    Follows r n.resources → Follows r (cond b m n).resources
+follows_either : {A : Type 0} (b : Bool) (r : Resources) (m n : Mapped A) → ResourcesFollow r m.resources →
+    ResourcesFollow r n.resources → ResourcesFollow r (cond b m n).resources
 follows_either true r m n p q = p
 follows_either false r m n p q = q
 
-pub new_follows : (owner : Owner) (pages : ℕ) (r : Resources) → Follows r (new_resource owner pages r).resources
+pub new_follows : (owner : Owner) (pages : ℕ) (r : Resources) → ResourcesFollow r (new_resource owner pages r).resources
 unfolding new_resource
 new_follows owner pages r =
     follows_either _ r (refused BadArg r) _ (follows_same r)
@@ -157,7 +157,7 @@ new_follows owner pages r =
     (made_follows owner pages (first_free r.held) r refl))
 
 pub found_follows : (number pages : ℕ) (place : Option ℕ) (r : Resources) →
-    Follows r (file_found number pages place r).resources
+    ResourcesFollow r (file_found number pages place r).resources
 unfolding file_found
 found_follows number pages None r = new_follows (File number) pages r
 found_follows number pages (Some n) r =
@@ -200,7 +200,7 @@ set_regions P (x ∷ spaces) (suc space) (suc s) new these all =
     set_regions (λ (k : ℕ). P (suc k)) spaces space s new these (λ k. all (suc k))
 
 regions_follow : (space : ℕ) (regions : List Region) (r : Resources) →
-    (MapsHeld r → All (IsOf r space) regions) → Follows r (with_regions space regions r)
+    (MapsHeld r → All (IsOf r space) regions) → ResourcesFollow r (with_regions space regions r)
 regions_follow space regions r all = record {
   maps = λ maps s. set_regions (IsOf r) r.spaces space s (Some regions) (all maps) maps;
   few = λ few. few;
@@ -228,8 +228,8 @@ map_from_size : (space : ℕ) (o : Option Resource) (size : ℕ) → size_for sp
 map_from_size space None size is = absurd cc
 map_from_size space (Some held) size is = sized (is_shared_with space held.owner) held.pages size is
 
-mapped_by : (bad overlap full : Bool) (r r' : Resources) → Follows r r' →
-    Follows r (cond bad (refused {A = Unit {0}} BadArg r) (cond overlap (refused {A = Unit {0}} Overlap r)
+mapped_by : (bad overlap full : Bool) (r r' : Resources) → ResourcesFollow r r' →
+    ResourcesFollow r (cond bad (refused {A = Unit {0}} BadArg r) (cond overlap (refused {A = Unit {0}} Overlap r)
     (cond full (refused {A = Unit {0}} Full r) (record { answer = Ok tt; resources = r' })))).resources
 mapped_by true overlap full r r' follows = follows_same r
 mapped_by false true full r r' follows = follows_same r
@@ -238,7 +238,7 @@ mapped_by false false false r r' follows = follows
 
 mapped_follows : (space : ℕ) (g : Region) (size : Option ℕ) (r : Resources) →
     size_for space (resource_at r g.resource) ≡ size →
-    Follows r (mapped space g size (regions_in r space) r).resources
+    ResourcesFollow r (mapped space g size (regions_in r space) r).resources
 unfolding mapped
 mapped_follows space g None r is = follows_same r
 mapped_follows space g (Some size) r is =
@@ -248,11 +248,11 @@ mapped_follows space g (Some size) r is =
     (regions_follow space (with_region g regions) r (λ maps.
     with_region_all (IsOf r space) g regions (map_from_size space (resource_at r g.resource) size is) (maps space)))
 
-pub map_follows : (space : ℕ) (g : Region) (r : Resources) → Follows r (map_region space g r).resources
+pub map_follows : (space : ℕ) (g : Region) (r : Resources) → ResourcesFollow r (map_region space g r).resources
 unfolding map_region
 map_follows space g r = mapped_follows space g (size_for space (resource_at r g.resource)) r refl
 
-pub unmap_follows : (space start : ℕ) (r : Resources) → Follows r (unmap_region space start r).resources
+pub unmap_follows : (space start : ℕ) (r : Resources) → ResourcesFollow r (unmap_region space start r).resources
 unfolding unmap_region
 unmap_follows space start r =
     let kept = filter (λ (g : Region). not (starts_at start g)) (regions_in r space) in

@@ -29,7 +29,7 @@ use Rattle.cloak_model.specs.Fork.{copies, private_numbers}
 use Rattle.cloak_model.specs.Hypercalls as hyper
 use Rattle.cloak_model.specs.Hypercalls.{Hypercall, New, ForkSpace, Exit, hypercall_of}
 use Rattle.cloak_model.specs.Resources.{Resources, resource_at, page_at}
-use Rattle.script_fold.proofs.InstructionScripts.{IsOwn, own_page}
+use Rattle.script_fold.proofs.InstructionScripts.{IsOwnPage, own_page}
 use Rattle.latest_store.specs.Moves.{Move, Stores, Copies, Drops, latest, latest_value}
 use Rattle.latest_store.specs.Deeds.{first_granted, both_granted, load_at, store_at, atomic_at, made_moves, file_moves, hypercall_moves, ecall_moves, effect_moves, atomic_moves, word_moves, fetched_moves, byte_moves, phase_moves, context_moves}
 use Rattle.latest_store.proofs.Values.{IsPlace}
@@ -108,12 +108,12 @@ effect_inside _ r pc = no_store _ (λ va width value x. cc)
 
 -- The moves, after a history in which the pages under free numbers are zeros.
 
-load_sound : (n va width : ℕ) (history : List Move) (place : Option PageId) → IsOwn n place →
+load_sound : (n va width : ℕ) (history : List Move) (place : Option PageId) → IsOwnPage n place →
     AreSound n history (load_at va width place)
 load_sound n va width history None own = tt
 load_sound n va width history (Some q) own = (own, tt)
 
-store_sound : (n va width value : ℕ) (history : List Move) (place : Option PageId) → IsOwn n place →
+store_sound : (n va width value : ℕ) (history : List Move) (place : Option PageId) → IsOwnPage n place →
     IsPlace (va % 4096) width → AreSound n history (store_at va width value place)
 store_sound n va width value history None own is = tt
 store_sound n va width value history (Some q) own is = ((own, is), tt)
@@ -183,7 +183,7 @@ effect_sound d c i does.System history answers zeros inside = ecall_sound d c i 
 effect_sound d c i _ history answers zeros inside = tt
 
 atomic_at_sound : (n : ℕ) (c : Context) (op : AtomicOp) (va operand : ℕ) (history : List Move) (place : Option PageId) →
-    IsOwn n place → va % 4 ≡ 0 → AreSound n history (atomic_at c op va operand place)
+    IsOwnPage n place → va % 4 ≡ 0 → AreSound n history (atomic_at c op va operand place)
 atomic_at_sound n c op va operand history None own aligned = tt
 atomic_at_sound n c Lr va operand history (Some q) own aligned = (own, tt)
 atomic_at_sound n c Sc va operand history (Some q) own aligned =
@@ -221,7 +221,7 @@ fetched_sound history d c None answers zeros = tt
 fetched_sound history d c (Some q) answers zeros =
     let word = latest_value history q (c.pc % 4096) 4 in word_sound d c word (instruction word) history answers zeros
 
-bytes_sound : (n va : ℕ) (history : List Move) (place : Option PageId) (answers : List Item) → IsOwn n place →
+bytes_sound : (n va : ℕ) (history : List Move) (place : Option PageId) (answers : List Item) → IsOwnPage n place →
     AreSound n history (byte_moves va place answers)
 bytes_sound n va history place (item.Word domain byte ∷ item.Ok domain' ∷ []) own =
     store_sound n va 1 byte history place own (one_place va)

@@ -32,7 +32,7 @@ use Rattle.cloak_model.specs.Contexts.{Context, Admitted, context_at, domain_of,
 use Rattle.cloak_model.specs.Csr.{interrupt_due}
 use Rattle.cloak_model.specs.DomainAlone.{runs_on}
 use Rattle.cloak_model.specs.DomainState.{Control, Domain}
-use Rattle.cloak_model.specs.DomainStep.{DomainStepped, domain_step}
+use Rattle.cloak_model.specs.DomainStep.{domain_script, DomainStepped, domain_step}
 use Rattle.cloak_model.specs.Effect.{effect}
 use Rattle.cloak_model.specs.Halves.{is_inward, inward_half}
 use Rattle.cloak_model.specs.Hart.{Hart}
@@ -46,7 +46,7 @@ use Rattle.cloak_model.proofs.ResumeParts.{by_root, by_context, by_domain}
 use Rattle.cloak_model.specs.World.{World, Cloaked, items_of, violation_of, cipher_items}
 use Rattle.domain_isolation.proofs.Answers.{IsServing}
 use Rattle.domain_isolation.proofs.Played.{answers_of, answer_items, last_stopped, played_items, played_met}
-use Rattle.script_fold.proofs.Scripts.{played}
+use Rattle.cloak_model.specs.Script.{played}
 use Rattle.domain_isolation.proofs.Steady.{ciphers_told}
 use Rattle.script_fold.proofs.StepScripts.{of_domain, step_scripted}
 use Rattle.kernel_isolation.proofs.Numbers.{AreFrom, number_at}
@@ -198,20 +198,20 @@ stepped_told : (j : Joint) (number : ℕ) (h : Hart) (ctx : ℕ) (found : Domain
     found.control.number ≡ domain_of ctx →
     TurnTold (Some ctx) (after_domain_step j number h (domain_of ctx)
     (domain_step (slot_of ctx) found (Cloaked (cloak_of j.memory h (domain_of ctx) pages))))
-unfolding after_domain_step
+unfolding after_domain_step domain_step
 stepped_told j number h ctx found pages own =
     let e = domain_of ctx in
     let n = found.control.number in
     let w : World = Cloaked (cloak_of j.memory h e pages) in
+    let script = domain_script (slot_of ctx) found in
     let s = step_scripted (slot_of ctx) found in
     let serving : IsServing n w = record { form = refl; regime = sym own } in
-    let t : Told DomainStepped = played s.script w in
+    let t : Told DomainStepped = played script w in
     let j' : Joint = record (with_domain e t.answer.domain j) { memory = memory_of t.world j.memory } in
-    let answers = answers_of s.script w in
+    let answers = answers_of script w in
     let half : (d : ℕ) → inward_half d (items_of t.world) ≡ inward_half d (answer_items n answers) =
-    played_items s.script w serving in
-    subst (λ (t : Told DomainStepped). TurnTold (Some ctx) (after_domain_step j number h e t)) (sym (s.plays w))
-    (record {
+    played_items n script s.own w serving in
+    record {
       ends = went_ends j' number h e t.world t.answer.went
           (λ d. half_ends d (items_of t.world) ∙ ap (ends_in d) (half d)
           ∙ sym (half_ends d (answer_items n answers)) ∙ answers_end n answers d);
@@ -221,10 +221,10 @@ stepped_told j number h ctx found pages own =
         is = went_half (domain_of other) j' number h e t.world t.answer.went ∙ half (domain_of other)
             ∙ ap (λ (d : ℕ). inward_half d (answer_items n answers))
             (sym (own ∙ ap domain_of (same_context ctx other is))) ∙ own_items n answers;
-        last = played_met (of_domain (slot_of ctx) found) s.script w s.ends serving refl
+        last = played_met n (of_domain (slot_of ctx) found) script s.own w s.ends serving refl
             (went_met j' number h e t.world t.answer.went some);
       };
-    })
+    }
 
 due_told : (due : Bool) (j : Joint) (number : ℕ) (h : Hart) (ctx : ℕ) (found : Domain) →
     found.control.number ≡ domain_of ctx →
@@ -267,32 +267,16 @@ stopped_same : (n e : ℕ) (answers : List Answer) → last_stopped answers ≡ 
     SameDeeds (answer_items n answers) (answer_items n answers ++ item.Ended e ∷ [])
 stopped_same n e [] last = absurd (false≢true last)
 stopped_same n e (told.Stopped ∷ []) last = record { first = refl; both = refl; byte = λ address place. refl }
-stopped_same n e (told.Ok ∷ []) last = absurd (false≢true last)
-stopped_same n e (told.Absent cause ∷ []) last = absurd (false≢true last)
-stopped_same n e (told.Word value ∷ []) last = absurd (false≢true last)
-stopped_same n e (told.Ok ∷ told.Stopped ∷ []) last = record { first = refl; both = refl; byte = λ address place. refl }
-stopped_same n e (told.Absent cause ∷ told.Stopped ∷ []) last =
-    record { first = refl; both = refl; byte = λ address place. refl }
+stopped_same n e (_ ∷ []) last = absurd (false≢true last)
 stopped_same n e (told.Word value ∷ told.Stopped ∷ []) last =
     record { first = refl; both = refl; byte = λ address place. refl }
-stopped_same n e (told.Stopped ∷ told.Stopped ∷ []) last =
-    record { first = refl; both = refl; byte = λ address place. refl }
-stopped_same n e (a ∷ told.Ok ∷ []) last = absurd (false≢true last)
-stopped_same n e (a ∷ told.Absent cause ∷ []) last = absurd (false≢true last)
-stopped_same n e (a ∷ told.Word value ∷ []) last = absurd (false≢true last)
+stopped_same n e (_ ∷ told.Stopped ∷ []) last = record { first = refl; both = refl; byte = λ address place. refl }
+stopped_same n e (a ∷ _ ∷ []) last = absurd (false≢true last)
 stopped_same n e (told.Word value ∷ told.Ok ∷ c ∷ answers) last =
     record { first = refl; both = refl; byte = λ address place. refl }
-stopped_same n e (told.Word value ∷ told.Absent cause ∷ c ∷ answers) last =
+stopped_same n e (told.Word value ∷ _ ∷ c ∷ answers) last =
     record { first = refl; both = refl; byte = λ address place. refl }
-stopped_same n e (told.Word value ∷ told.Word value' ∷ c ∷ answers) last =
-    record { first = refl; both = refl; byte = λ address place. refl }
-stopped_same n e (told.Word value ∷ told.Stopped ∷ c ∷ answers) last =
-    record { first = refl; both = refl; byte = λ address place. refl }
-stopped_same n e (told.Ok ∷ b ∷ c ∷ answers) last = record { first = refl; both = refl; byte = λ address place. refl }
-stopped_same n e (told.Absent cause ∷ b ∷ c ∷ answers) last =
-    record { first = refl; both = refl; byte = λ address place. refl }
-stopped_same n e (told.Stopped ∷ b ∷ c ∷ answers) last =
-    record { first = refl; both = refl; byte = λ address place. refl }
+stopped_same n e (_ ∷ b ∷ c ∷ answers) last = record { first = refl; both = refl; byte = λ address place. refl }
 
 module _ (items items' : List Item) (same : SameDeeds items items') where
   granted_same : (moves : List Move) → cond (both_granted items') moves [] ≡ cond (both_granted items) moves []

@@ -26,7 +26,7 @@ use Rattle.cloak_model.specs.KernelStep.{ticked}
 use Rattle.cloak_model.specs.Parts.{Joint}
 use Rattle.cloak_model.specs.Resuming.{resume}
 use Rattle.cloak_model.proofs.ResumeParts.{by_root, by_context, by_domain}
-use Rattle.cloak_model.specs.World.{World, Cloak, Cloaked, items_of}
+use Rattle.cloak_model.specs.World.{World, MidStep, Cloaked, items_of}
 use Rattle.domain_isolation.proofs.InOrder.{decided}
 use Rattle.kernel_isolation.proofs.Numbers.{AreFrom, number_at}
 use Rattle.page_law.proofs.Settlings.{touched_draws}
@@ -324,7 +324,7 @@ by_did true history j number h e slot found there own zeros agrees =
     (sym (append-nil found.loads) ∙ ap (λ (ms : List Move). found.loads ++ given_by ms j.memory.plain) (sym none))
     (fits_none found.control.number _ _ _ none (follows_equal _ _ (interrupt_same slot found.control))) zeros
 by_did false history j number h e slot found there own zeros agrees =
-    let c : Cloak = cloak_of j.memory h e (pages_for found (context_at found.control.contexts slot)) in
+    let c : MidStep = cloak_of j.memory h e (pages_for found (context_at found.control.contexts slot)) in
     let heard : Heard found.control.number j.memory.plain [] (Cloaked c) =
     record { form = refl; regime = sym own; pages = refl; told = refl } in
     stepped_did history j number h e slot found (domain_step slot found (Cloaked c)) there own zeros

@@ -9,6 +9,7 @@ use Rattle.rv_atomic.specs.Table.{atomic_instruction}
 use Rattle.rv_atomic.specs.declared.atomic.Atomic.{Atomic}
 use Rattle.rv_atomic.specs.declared.atomic.AtomicOp.{AtomicOp}
 use Rattle.rv_atomic.specs.declared.atomic.AtomicOp.TheVariants.{Lr, Sc}
+use Rattle.rv_isa.specs.Table.{instruction}
 use Rattle.rv_isa.specs.declared.instr.Instr.{Instr}
 use Rattle.rv_isa.specs.declared.instr.Instr.TheVariants as instr
 use Rattle.cloak_model.specs.declared.answer.Answer.{Answer}
@@ -19,15 +20,13 @@ use Rattle.cloak_model.specs.declared.inside.Ran.{Ran}
 use Rattle.cloak_model.specs.declared.inside.Ran.TheVariants as ran
 use Rattle.cloak_model.specs.declared.outcome.Effect.{Effect}
 use Rattle.cloak_model.specs.declared.outcome.Effect.TheVariants as does
-use Rattle.cloak_model.specs.AskPages.{ask_read}
-use Rattle.cloak_model.specs.Asking.{Told}
 use Rattle.cloak_model.specs.Contexts.{Context, set_word, moved_on, word_of_page, is_reserved}
 use Rattle.cloak_model.specs.Effect.{jump, go, branch, load_effect, store_effect, effect}
-use Rattle.cloak_model.specs.InsideStep.{AfterInstruction, made, made_writing, traps, load_inside, store_inside, atomic_granted, atomic_placed, atomic_inside, system_inside, done_inside, decoded_inside, fetch, instruction_inside}
-use Rattle.cloak_model.proofs.InsideParts.{loaded_inside, load_reached, load_got, store_reached, store_put, conditional_inside, atomic_reached, fetched_inside}
-use Rattle.cloak_model.specs.KernelStep.{misaligned}
+use Rattle.cloak_model.specs.InsideStep.{AfterInstruction, made, if_reached, if_got, load_inside, store_inside, atomic_granted, atomic_placed, atomic_inside, system_inside, done_inside, decoded_inside, fetch, instruction_inside}
 use Rattle.cloak_model.specs.Resources.{Resources, page_at}
 use Rattle.cloak_model.specs.World.{World}
+use Rattle.cloak_model.specs.Script.{Script, Gives, Asks, Reads, Changes, played}
+use Rattle.kernel_isolation.proofs.Shown.{either}
 use Rattle.frozen_state.specs.Limits.{IsWordPlace, IsPhase, IsSteady}
 use Rattle.limit_law.proofs.Pages.{IsPage, AreInPages, place_there}
 
@@ -53,6 +52,20 @@ zero_by false regs (suc i) v t is = set_zero regs i v ∙ is
 pub with_register_zero : (regs : List ℕ) (i v : ℕ) → register regs 0 ≡ 0 → register (with_register regs i v) 0 ≡ 0
 with_register_zero regs i v is = zero_by (i == 0) regs i v refl is
 
+-- Each end of a script, whatever is answered.
+
+abbrev pub AllEnds : {A : Type 0} → (A → Type 0) → Script A → Type 0
+AllEnds P (Gives a) = P a
+AllEnds P (Asks question more) = (answer : Answer) → AllEnds P (more answer)
+AllEnds P (Reads q at width more) = (value : ℕ) → AllEnds P (more value)
+AllEnds P (Changes it more) = AllEnds P more
+
+pub at_end : {A : Type 0} (P : A → Type 0) (s : Script A) (w : World) → AllEnds P s → P (played s w).answer
+at_end P (Gives a) w ends = ends
+at_end P (Asks question more) w ends = at_end P (more _) _ (ends _)
+at_end P (Reads q at width more) w ends = at_end P (more _) _ (ends _)
+at_end P (Changes it more) w ends = at_end P more _ ends
+
 -- What an instruction leaves: its context is steady, in the same space, phase and hart. At a hypercall nothing changed.
 pub record AfterOne (c : Context) (a : AfterInstruction) : Type 0 where
   pub steady : IsSteady a.context
@@ -60,6 +73,10 @@ pub record AfterOne (c : Context) (a : AfterInstruction) : Type 0 where
   pub phase : a.context.phase ≡ Plain
   pub on : a.context.on ≡ c.on
   pub calls : a.ending ≡ ran.Ecall → a.context ≡ c
+
+-- whatever is answered to its questions
+abbrev Leaves : Context → Script AfterInstruction → Type 0
+Leaves c script = AllEnds (AfterOne c) script
 
 pub next_word : (pc : ℕ) → pc % 4 ≡ 0 → ((pc + 4) % 2 ^ 32) % 4 ≡ 0
 next_word pc is = omega (arith, is)
@@ -130,107 +147,76 @@ module _ (c : Context) (plain : c.phase ≡ Plain) (s : IsSteady c) where
       after c.regs ((c.pc + 4) % 2 ^ 32) c.mark ran.Stay written s.registers s.zero_register (next_word c.pc s.aligned)
       s.mark (λ is. absurd cc)
 
-  loaded_one : (rd va width : ℕ) (is_signed : Bool) (value : ℕ) (w : World) →
-      AfterOne c (loaded_inside c rd va width is_signed value w).answer
-  loaded_one rd va width is_signed value w = wrote rd _ (ran.Loaded va value) (λ is. cc)
+  reached_one : (va : ℕ) (a : Answer) (next : Script AfterInstruction) → Leaves c next →
+      Leaves c (if_reached c va a next)
+  reached_one va told.Ok next more = more
+  reached_one va _ next more = same _
 
-  load_reached_one : (q : PageId) (rd va width : ℕ) (is_signed : Bool) (a : Answer) (w : World) →
-      AfterOne c (load_reached c q rd va width is_signed a w).answer
-  load_reached_one q rd va width is_signed told.Ok w = loaded_one rd va width is_signed _ w
-  load_reached_one q rd va width is_signed _ w = same _
+  got_one : (va : ℕ) (a : Answer) (next : ℕ → Script AfterInstruction) → ((value : ℕ) → Leaves c (next value)) →
+      Leaves c (if_got c va a next)
+  got_one va (told.Word value) next more = more value
+  got_one va _ next more = same _
 
-  load_got_one : (rd va width : ℕ) (is_signed : Bool) (a : Answer) (w : World) →
-      AfterOne c (load_got c rd va width is_signed a w).answer
-  load_got_one rd va width is_signed (told.Word value) w = wrote rd _ ran.Stay (λ is. cc)
-  load_got_one rd va width is_signed _ w = same _
-
-  load_one : (rd va width : ℕ) (is_signed : Bool) (place : Option PageId) (w : World) →
-      AfterOne c (load_inside c rd va width is_signed place w).answer
+  load_one : (rd va width : ℕ) (is_signed : Bool) (place : Option PageId) →
+      Leaves c (load_inside c rd va width is_signed place)
   unfolding load_inside
-  load_one rd va width is_signed (Some q) w = load_reached_one q rd va width is_signed _ _
-  load_one rd va width is_signed None w = load_got_one rd va width is_signed _ _
+  load_one rd va width is_signed (Some q) =
+      λ a. reached_one va a _ (λ value. wrote rd _ (ran.Loaded va value) (λ is. cc))
+  load_one rd va width is_signed None = λ a. got_one va a _ (λ value. wrote rd _ ran.Stay (λ is. cc))
 
-  store_reached_one : (q : PageId) (va width value : ℕ) (a : Answer) (w : World) →
-      AfterOne c (store_reached c q va width value a w).answer
-  store_reached_one q va width value told.Ok w = on_stay (Some (word_of_page q va))
-  store_reached_one q va width value _ w = same _
-
-  store_put_one : (va : ℕ) (a : Answer) (w : World) → AfterOne c (store_put c va a w).answer
-  store_put_one va told.Ok w = on_stay None
-  store_put_one va _ w = same _
-
-  store_one : (va width value : ℕ) (place : Option PageId) (w : World) →
-      AfterOne c (store_inside c va width value place w).answer
+  store_one : (va width value : ℕ) (place : Option PageId) → Leaves c (store_inside c va width value place)
   unfolding store_inside
-  store_one va width value (Some q) w = store_reached_one q va width value _ _
-  store_one va width value None w = store_put_one va _ _
+  store_one va width value (Some q) = λ a. reached_one va a _ (on_stay (Some (word_of_page q va)))
+  store_one va width value None = λ a. reached_one va a _ (on_stay None)
 
-  conditional_one : (reserved : Bool) (rd : ℕ) (q : PageId) (va operand : ℕ) (w : World) →
-      AfterOne c (conditional_inside reserved c rd q va operand w).answer
-  conditional_one true rd q va operand w = marked rd 0 None ran.Stay (Some (word_of_page q va)) (λ is. cc) tt
-  conditional_one false rd q va operand w = marked rd 1 None ran.Stay None (λ is. cc) tt
-
-  operation_one : (rd : ℕ) (q : PageId) (va old : ℕ) →
-      AfterOne c (made_writing (moved_on (set_word c rd old)) (ran.Loaded va old) (word_of_page q va))
-  operation_one rd q va old = marked rd old c.mark (ran.Loaded va old) (Some (word_of_page q va)) (λ is. cc) s.mark
-
-  granted_one : (rd : ℕ) (op : AtomicOp) (q : PageId) (va operand : ℕ) (w : World) → IsPage q →
-      AfterOne c (atomic_granted c rd op q va operand w).answer
+  granted_one : (rd : ℕ) (op : AtomicOp) (q : PageId) (va operand : ℕ) → IsPage q →
+      Leaves c (atomic_granted c rd op q va operand)
   unfolding atomic_granted
-  granted_one rd Lr q va operand w page =
-      let old = (ask_read q (va % 4096) 4 w).answer in
-      marked rd old (Some (word_of_page q va)) (ran.Loaded va old) None (λ is. cc) (place_there q va page)
-  granted_one rd Sc q va operand w page =
-      conditional_one (is_reserved (word_of_page q va) c.mark) rd q va operand w
-  granted_one rd _ q va operand w page = operation_one rd q va (ask_read q (va % 4096) 4 w).answer
+  granted_one rd Lr q va operand page =
+      λ old. marked rd old (Some (word_of_page q va)) (ran.Loaded va old) None (λ is. cc) (place_there q va page)
+  granted_one rd Sc q va operand page =
+      either (Leaves c) (is_reserved (word_of_page q va) c.mark) _ _
+      (marked rd 0 None ran.Stay (Some (word_of_page q va)) (λ is. cc) tt)
+      (marked rd 1 None ran.Stay None (λ is. cc) tt)
+  granted_one rd _ q va operand page =
+      λ old. marked rd old c.mark (ran.Loaded va old) (Some (word_of_page q va)) (λ is. cc) s.mark
 
-  atomic_reached_one : (rd : ℕ) (op : AtomicOp) (q : PageId) (va operand : ℕ) (a : Answer) (w : World) → IsPage q →
-      AfterOne c (atomic_reached c rd op q va operand a w).answer
-  atomic_reached_one rd op q va operand told.Ok w page = granted_one rd op q va operand w page
-  atomic_reached_one rd op q va operand _ w page = same _
-
-  atomic_placed_one : (rd : ℕ) (op : AtomicOp) (va operand : ℕ) (place : Option PageId) (w : World) →
-      IfSome place IsPage → AfterOne c (atomic_placed c rd op va operand place w).answer
+  atomic_placed_one : (rd : ℕ) (op : AtomicOp) (va operand : ℕ) (place : Option PageId) → IfSome place IsPage →
+      Leaves c (atomic_placed c rd op va operand place)
   unfolding atomic_placed
-  atomic_placed_one rd op va operand None w page = same _
-  atomic_placed_one rd op va operand (Some q) w page = atomic_reached_one rd op q va operand _ _ page
+  atomic_placed_one rd op va operand None page = same _
+  atomic_placed_one rd op va operand (Some q) page =
+      λ a. reached_one va a _ (granted_one rd op q va operand page)
 
-  either_one : (t : Bool) (x y : Told AfterInstruction) → AfterOne c x.answer → AfterOne c y.answer →
-      AfterOne c (cond t x y).answer
-  either_one true x y here there = here
-  either_one false x y here there = there
-
-  atomic_one : (domain : ℕ) (r : Resources) (a : Option Atomic) (w : World) → AreInPages domain r c.space →
-      AfterOne c (atomic_inside domain r c a w).answer
+  atomic_one : (domain : ℕ) (r : Resources) (a : Option Atomic) → AreInPages domain r c.space →
+      Leaves c (atomic_inside domain r c a)
   unfolding atomic_inside
-  atomic_one domain r None w pages = same _
-  atomic_one domain r (Some a) w pages =
+  atomic_one domain r None pages = same _
+  atomic_one domain r (Some a) pages =
       let va = register c.regs a.rs1 in
-      let operand = register c.regs a.rs2 in
-      either_one (va % 4 == 0) (atomic_placed c a.rd a.op va operand (page_at domain r c.space va) w)
-      (traps c (misaligned a.op) va w)
-      (atomic_placed_one a.rd a.op va operand (page_at domain r c.space va) w (pages va)) (same _)
+      either (Leaves c) (va % 4 == 0) _ _
+      (atomic_placed_one a.rd a.op va (register c.regs a.rs2) (page_at domain r c.space va) (pages va)) (same _)
 
-  system_one : (i : Instr) (w : World) → AfterOne c (system_inside c i w).answer
+  system_one : (i : Instr) → Leaves c (system_inside c i)
   unfolding system_inside
-  system_one instr.Ecall w = same _
-  system_one instr.Ebreak w = same _
-  system_one _ w = same _
+  system_one instr.Ecall = same _
+  system_one instr.Ebreak = same _
+  system_one _ = same _
 
-  done_one : (domain : ℕ) (r : Resources) (i : Instr) (e : Effect) (w : World) → Targets e →
-      AfterOne c (done_inside domain r c i e w).answer
+  done_one : (domain : ℕ) (r : Resources) (i : Instr) (e : Effect) → Targets e → Leaves c (done_inside domain r c i e)
   unfolding done_inside
-  done_one domain r i (does.Write rd value) w t = wrote rd value ran.Stay (λ is. cc)
-  done_one domain r i (does.Jump rd link target) w t =
+  done_one domain r i (does.Write rd value) t = wrote rd value ran.Stay (λ is. cc)
+  done_one domain r i (does.Jump rd link target) t =
       after (with_register c.regs rd link) target c.mark ran.Stay None (with_register_length c.regs rd link s.registers)
       (with_register_zero c.regs rd link s.zero_register) t s.mark (λ is. absurd cc)
-  done_one domain r i (does.Go target) w t =
+  done_one domain r i (does.Go target) t =
       after c.regs target c.mark ran.Stay None s.registers s.zero_register t s.mark (λ is. absurd cc)
-  done_one domain r i (does.Load rd va width is_signed) w t = load_one rd va width is_signed _ w
-  done_one domain r i (does.Store va width value) w t = store_one va width value _ w
-  done_one domain r i does.System w t = system_one i w
-  done_one domain r i does.Nothing w t = on_stay None
-  done_one domain r i (does.Raise cause value) w t = same _
+  done_one domain r i (does.Load rd va width is_signed) t =
+      load_one rd va width is_signed (page_at domain r c.space va)
+  done_one domain r i (does.Store va width value) t = store_one va width value (page_at domain r c.space va)
+  done_one domain r i does.System t = system_one i
+  done_one domain r i does.Nothing t = on_stay None
+  done_one domain r i (does.Raise cause value) t = same _
 
 -- Where an effect leads.
 
@@ -277,24 +263,22 @@ effect_targets _ r pc = tt
 -- One instruction.
 
 module _ (c : Context) (plain : c.phase ≡ Plain) (s : IsSteady c) where
-  decoded_one : (domain : ℕ) (r : Resources) (word : ℕ) (i : Option Instr) (w : World) → AreInPages domain r c.space →
-      AfterOne c (decoded_inside domain r c word i w).answer
+  decoded_one : (domain : ℕ) (r : Resources) (word : ℕ) (i : Option Instr) → AreInPages domain r c.space →
+      Leaves c (decoded_inside domain r c word i)
   unfolding decoded_inside
-  decoded_one domain r word None w pages = atomic_one c plain s domain r (atomic_instruction word) w pages
-  decoded_one domain r word (Some i) w pages = done_one c plain s domain r i _ w (effect_targets i c.regs c.pc)
+  decoded_one domain r word None pages = atomic_one c plain s domain r (atomic_instruction word) pages
+  decoded_one domain r word (Some i) pages = done_one c plain s domain r i _ (effect_targets i c.regs c.pc)
 
-  fetched_one : (domain : ℕ) (r : Resources) (q : PageId) (a : Answer) (w : World) → AreInPages domain r c.space →
-      AfterOne c (fetched_inside domain r c q a w).answer
-  fetched_one domain r q told.Ok w pages = decoded_one domain r _ _ _ pages
-  fetched_one domain r q _ w pages = same c plain s _
-
-  fetch_one : (domain : ℕ) (r : Resources) (place : Option PageId) (w : World) → AreInPages domain r c.space →
-      AfterOne c (fetch domain r c place w).answer
+  fetch_one : (domain : ℕ) (r : Resources) (place : Option PageId) → AreInPages domain r c.space →
+      Leaves c (fetch domain r c place)
   unfolding fetch
-  fetch_one domain r None w pages = same c plain s _
-  fetch_one domain r (Some q) w pages = fetched_one domain r q _ _ pages
+  fetch_one domain r None pages = same c plain s _
+  fetch_one domain r (Some q) pages =
+      λ a. reached_one c plain s c.pc a _ (λ word. decoded_one domain r word (instruction word) pages)
 
   pub instruction_one : (domain : ℕ) (r : Resources) (w : World) → AreInPages domain r c.space →
-      AfterOne c (instruction_inside domain r c w).answer
+      AfterOne c (played (instruction_inside domain r c) w).answer
   unfolding instruction_inside
-  instruction_one domain r w pages = fetch_one domain r _ w pages
+  instruction_one domain r w pages =
+      let place = page_at domain r c.space c.pc in
+      at_end (AfterOne c) (fetch domain r c place) w (fetch_one domain r place pages)

@@ -1,7 +1,7 @@
 -- A call to the kernel, as it begins, as its bytes are copied one a step, and as it is answered.
-use Rattle.std.proofs.Common.{◌≡◌, ◌≢◌, ◌⊎◌, inl, inr, ℕ, ◌+◌, ◌^◌, ◌<◌, ◌≤◌, Bool, true, false, cond, List, Option, Some, None, refl, ◌∙◌, arith}
+use Rattle.std.proofs.Common.{◌≡◌, ◌≢◌, ◌⊎◌, inl, inr, ℕ, ◌+◌, ◌^◌, ◌≤◌, Bool, true, false, cond, List, Option, Some, refl, ◌∙◌, arith}
 use Rattle.std.specs.Prelude.{◌==◌, ◌&&◌, nat_le}
-use Rattle.std.proofs.lemmas.Bool.{eqb-true, leb-true, leb-false, and_cases, and_parts, or_cases}
+use Rattle.std.proofs.lemmas.Bool.{cond_both, eqb-true, leb-true, leb-false, and_cases, and_parts, or_cases}
 use Rattle.std.proofs.lemmas.List.{get_or-set_other}
 use Rattle.cloak_base.specs.Registers.{register, with_register}
 use Rattle.cloak_base.specs.declared.names.PageId.{PageId}
@@ -11,13 +11,13 @@ use Rattle.cloak_model.specs.declared.context.Phase.{Phase}
 use Rattle.cloak_model.specs.declared.context.Phase.TheVariants.{Plain, CopyIn, Waiting, CopyOut}
 use Rattle.cloak_model.specs.declared.inside.Copied.{Copied}
 use Rattle.cloak_model.specs.declared.inside.Copied.TheVariants as copied
-use Rattle.cloak_model.specs.Calls.{call_number, call_length, buffer, area, takes_bytes, gives_bytes, is_in_bounds, is_apart, is_good, Copy, copy, copy_refused, copy_in_step, copy_out_step, finish_call}
-use Rattle.cloak_model.proofs.CallParts.{in_put, in_reached, in_placed, in_step, out_reached, out_got, out_placed, out_step}
+use Rattle.cloak_model.specs.Calls.{call_number, call_length, buffer, area, takes_bytes, gives_bytes, is_in_bounds, is_apart, is_cloaked, is_good, byte_address, Copy, if_reached, if_got, if_apart, copy_in_step, copy_out_step, finish_call}
 use Rattle.cloak_model.specs.Contexts.{Context, set_word, in_phase, has_buffer}
-use Rattle.cloak_model.specs.Resources.{Resources}
+use Rattle.cloak_model.specs.Resources.{Resources, page_at}
 use Rattle.cloak_model.specs.World.{World}
+use Rattle.cloak_model.specs.Script.{Script, played}
 use Rattle.frozen_state.specs.Limits.{IsCall, IsCopyIn, IsCopyOut, IsPhase, WaitsOnNoHart, IsSteady}
-use Rattle.limit_law.proofs.Contexts.{with_register_length, with_register_zero}
+use Rattle.limit_law.proofs.Contexts.{with_register_length, with_register_zero, AllEnds, at_end}
 
 -- The same context in another phase, and with an answer.
 
@@ -70,94 +70,73 @@ pub record AfterCopy (c : Context) (k : Copy) : Type 0 where
   pub on : k.context.on ≡ c.on
   pub idle : StaysIdle k.ending k.context
 
+-- whatever is answered to its questions
+abbrev Leaves : Context → Script Copy → Type 0
+Leaves c script = AllEnds (AfterCopy c) script
+
 module _ (c : Context) (s : IsSteady c) where
-  absent : (cause address : ℕ) → AfterCopy c (copy c (copied.Absent cause address))
-  absent cause address = record { steady = s; space = refl; on = refl; idle = tt }
+  reached_one : (va : ℕ) (a : Answer) (next : Script Copy) → Leaves c next → Leaves c (if_reached c va a next)
+  reached_one va told.Ok next more = more
+  reached_one va _ next more = record { steady = s; space = refl; on = refl; idle = tt }
 
-  stopped : AfterCopy c (copy c copied.Stopped)
-  stopped = record { steady = s; space = refl; on = refl; idle = tt }
+  got_one : (va : ℕ) (a : Answer) (next : ℕ → Script Copy) → ((byte : ℕ) → Leaves c (next byte)) →
+      Leaves c (if_got c va a next)
+  got_one va (told.Word byte) next more = more byte
+  got_one va _ next more = record { steady = s; space = refl; on = refl; idle = tt }
 
-  refused : (w : World) → AfterCopy c (copy_refused c w).answer
-  refused w = record { steady = answered_steady c Plain _ s tt; space = refl; on = refl; idle = tt }
+  apart_one : (place : Option PageId) (cloaked : Bool) (next : PageId → Script Copy) →
+      ((q : PageId) → Leaves c (next q)) → Leaves c (if_apart c place cloaked next)
+  apart_one (Some q) false next more = more q
+  apart_one _ _ next more = record { steady = answered_steady c Plain _ s tt; space = refl; on = refl; idle = tt }
 
   module _ (done : ℕ) (p : IsCopyIn c.regs done) where
-    in_put_one : (byte : ℕ) (a : Answer) (w : World) → done < register c.regs 12 →
-        AfterCopy c (in_put c done byte a w).answer
-    in_put_one byte told.Ok w low = record {
-      steady = phase_steady c (CopyIn (done + 1)) s (record {
-        number = p.number;
-        part = omega (arith, low);
-        call = p.call;
-      });
-      space = refl;
-      on = refl;
-      idle = tt;
-    }
-    in_put_one byte (told.Absent cause) w low = absent _ _
-    in_put_one byte (told.Word value) w low = stopped
-    in_put_one byte told.Stopped w low = stopped
-
-    in_reached_one : (q : PageId) (a : Answer) (w : World) → done < register c.regs 12 →
-        AfterCopy c (in_reached c q done a w).answer
-    in_reached_one q told.Ok w low = in_put_one _ _ _ low
-    in_reached_one q (told.Absent cause) w low = absent _ _
-    in_reached_one q _ w low = stopped
-
-    in_placed_one : (place : Option PageId) (cloaked : Bool) (w : World) → done < register c.regs 12 →
-        AfterCopy c (in_placed c done place cloaked w).answer
-    in_placed_one None cloaked w low = refused w
-    in_placed_one (Some q) true w low = refused w
-    in_placed_one (Some q) false w low = in_reached_one q _ _ low
-
-    in_step_one : (t : Bool) (domain : ℕ) (r : Resources) (w : World) → nat_le (call_length c) done ≡ t →
-        AfterCopy c (in_step t domain r c done w).answer
-    in_step_one true domain r w is =
-        record { steady = phase_steady c Waiting s (λ a b. p.call); space = refl; on = refl; idle = tt }
-    in_step_one false domain r w is = in_placed_one _ _ w (leb-false _ _ is)
-
-    pub copy_in_one : (domain : ℕ) (r : Resources) (w : World) → AfterCopy c (copy_in_step domain r c done w).answer
+    copy_in_leaves : (domain : ℕ) (r : Resources) → Leaves c (copy_in_step domain r c done)
     unfolding copy_in_step
-    copy_in_one domain r w = in_step_one _ domain r w refl
+    copy_in_leaves domain r =
+        let from : ℕ = byte_address (buffer c) done in
+        let to : ℕ = byte_address (area c) done in
+        cond_both (nat_le (call_length c) done) _ _ (Leaves c)
+        (λ is. record { steady = phase_steady c Waiting s (λ a b. p.call); space = refl; on = refl; idle = tt })
+        (λ is. apart_one (page_at domain r c.space from) (is_cloaked r c to) _
+        (λ q a. reached_one from a _ (λ byte b. reached_one to b _ (record {
+          steady = phase_steady c (CopyIn (done + 1)) s (record {
+            number = p.number;
+            part = let low = leb-false (call_length c) done is in omega (arith, low);
+            call = p.call;
+          });
+          space = refl;
+          on = refl;
+          idle = tt;
+        }))))
+
+    pub copy_in_one : (domain : ℕ) (r : Resources) (w : World) →
+        AfterCopy c (played (copy_in_step domain r c done) w).answer
+    copy_in_one domain r w = at_end (AfterCopy c) (copy_in_step domain r c done) w (copy_in_leaves domain r)
 
   module _ (done total : ℕ) (p : IsCopyOut c.regs done total) where
-    out_reached_one : (q : PageId) (byte : ℕ) (a : Answer) (w : World) → done < total →
-        AfterCopy c (out_reached c q done total byte a w).answer
-    out_reached_one q byte told.Ok w low = record {
-      steady = phase_steady c (CopyOut (done + 1) total) s (record {
-        number = p.number;
-        part = omega (arith, low);
-        whole = p.whole;
-        call = p.call;
-      });
-      space = refl;
-      on = refl;
-      idle = tt;
-    }
-    out_reached_one q byte (told.Absent cause) w low = absent _ _
-    out_reached_one q byte (told.Word value) w low = stopped
-    out_reached_one q byte told.Stopped w low = stopped
-
-    out_got_one : (q : PageId) (a : Answer) (w : World) → done < total → AfterCopy c (out_got c q done total a w).answer
-    out_got_one q (told.Word byte) w low = out_reached_one q _ _ _ low
-    out_got_one q (told.Absent cause) w low = absent _ _
-    out_got_one q _ w low = stopped
-
-    out_placed_one : (place : Option PageId) (cloaked : Bool) (w : World) → done < total →
-        AfterCopy c (out_placed c done total place cloaked w).answer
-    out_placed_one None cloaked w low = refused w
-    out_placed_one (Some q) true w low = refused w
-    out_placed_one (Some q) false w low = out_got_one q _ _ low
-
-    out_step_one : (t : Bool) (domain : ℕ) (r : Resources) (w : World) → nat_le total done ≡ t →
-        AfterCopy c (out_step t domain r c done total w).answer
-    out_step_one true domain r w is =
-        record { steady = phase_steady c Plain s tt; space = refl; on = refl; idle = tt }
-    out_step_one false domain r w is = out_placed_one _ _ w (leb-false _ _ is)
+    copy_out_leaves : (domain : ℕ) (r : Resources) → Leaves c (copy_out_step domain r c done total)
+    unfolding copy_out_step
+    copy_out_leaves domain r =
+        let from : ℕ = byte_address (area c) done in
+        let to : ℕ = byte_address (buffer c) done in
+        cond_both (nat_le total done) _ _ (Leaves c)
+        (λ is. record { steady = phase_steady c Plain s tt; space = refl; on = refl; idle = tt })
+        (λ is. apart_one (page_at domain r c.space to) (is_cloaked r c from) _
+        (λ q a. got_one from a _ (λ byte b. reached_one to b _ (record {
+          steady = phase_steady c (CopyOut (done + 1) total) s (record {
+            number = p.number;
+            part = let low = leb-false total done is in omega (arith, low);
+            whole = p.whole;
+            call = p.call;
+          });
+          space = refl;
+          on = refl;
+          idle = tt;
+        }))))
 
     pub copy_out_one : (domain : ℕ) (r : Resources) (w : World) →
-        AfterCopy c (copy_out_step domain r c done total w).answer
-    unfolding copy_out_step
-    copy_out_one domain r w = out_step_one _ domain r w refl
+        AfterCopy c (played (copy_out_step domain r c done total) w).answer
+    copy_out_one domain r w = at_end (AfterCopy c) (copy_out_step domain r c done total) w (copy_out_leaves domain r)
 
 -- How a call begins.
 

@@ -8,7 +8,7 @@ use Rattle.cloak_model.specs.Beginning.{Beginning, opening_from}
 use Rattle.cloak_model.specs.Cloaking.{CloakedMemory}
 use Rattle.cloak_model.specs.Joint.{stop_without_miss}
 use Rattle.cloak_model.specs.Ledger.{Keys}
-use Rattle.cloak_model.specs.Opening.{Opened, started_joint, started_ledger, started_memory}
+use Rattle.cloak_model.specs.Opening.{RunEdge, started_joint, started_ledger, started_memory}
 use Rattle.cloak_model.specs.PageMoves.{place_with}
 use Rattle.cloak_model.specs.Parts.{Joint}
 use Rattle.cloak_model.specs.StoredFiles.{FileContents}
@@ -45,5 +45,5 @@ joint_drawn b m drawn = drawn
 given_drawn : (f : FileContents) (x y : Joint) → IsGiven f x y → JointDrawn x → JointDrawn y
 given_drawn f x y given drawn = (given_keeps f x y given).memory.missed ∙ drawn
 
-pub opened_drawn : (b : Bundle) (from : Beginning) (o : Opened) → opening_from b from ≡ Ok o → JointDrawn o.joint
+pub opened_drawn : (b : Bundle) (from : Beginning) (o : RunEdge) → opening_from b from ≡ Ok o → JointDrawn o.joint
 opened_drawn b from = begins_by_memory IsDrawn JointDrawn b from place_drawn (started_drawn b) (joint_drawn b) given_drawn

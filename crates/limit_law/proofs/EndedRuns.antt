@@ -13,7 +13,7 @@ use Rattle.cloak_model.specs.Cloaking.{CloakedMemory}
 use Rattle.cloak_model.specs.DomainState.{Domain, started_control, started_domain}
 use Rattle.cloak_model.specs.Ending.{ended_domain}
 use Rattle.cloak_model.specs.Joint.{Moment, Turn, end_domain, step_before_end, joint_step, after_turn, stop_of}
-use Rattle.cloak_model.specs.Opening.{Opened, started_joint, started_domains}
+use Rattle.cloak_model.specs.Opening.{RunEdge, started_joint, started_domains}
 use Rattle.cloak_model.specs.Parts.{Joint}
 use Rattle.cloak_model.specs.Run.{Run, turns_from, joint_after, first_moment, run_of}
 use Rattle.cloak_model.specs.StoredFiles.{FileContents}
@@ -61,7 +61,7 @@ live_gone (Some d) lives = λ over. absurd (false≢true (sym lives ∙ over))
 abbrev JointGone : Joint → Type 0
 JointGone j = AllGone j.domains
 
-opened_gone : (b : Bundle) (from : Beginning) (o : Opened) → opening_from b from ≡ Ok o → JointGone o.joint
+opened_gone : (b : Bundle) (from : Beginning) (o : RunEdge) → opening_from b from ≡ Ok o → JointGone o.joint
 opened_gone b from o opens d =
     live_gone (slice_get o.joint.domains d)
     (begins JointLives b from (joint_lives b) (λ f x y. given_all Lives f x y (λ was lives. lives)) o opens d)
@@ -196,12 +196,12 @@ step_counts m =
     (λ d was v t is same. record { one = omega (arith, same); counted = λ low. omega (arith, same, low) }) _ _
     (step_before_end m) (step_leaves m).refused
 
-record Counts (before n after : ℕ) : Type 0 where
+record CountsRefused (before n after : ℕ) : Type 0 where
   by_steps : after ≤ before + n
   counted : after < 2 ^ 64
 
 after_counts : (budget n : ℕ) (m : Moment) → m.joint.refused < 2 ^ 64 →
-    Counts m.joint.refused n (joint_after m.joint (take n (turns_from budget m))).refused
+    CountsRefused m.joint.refused n (joint_after m.joint (take n (turns_from budget m))).refused
 unfolding turns_from joint_after
 after_counts zero zero m low = record { by_steps = omega arith; counted = low }
 after_counts zero (suc n) m low = record { by_steps = omega arith; counted = low }
@@ -212,14 +212,14 @@ after_counts (suc budget) (suc n) m low =
     let one = c.one in
     let rest = after_counts budget n (after_turn m t) (c.counted low) in
     let more = rest.by_steps in
-    following (λ (j : Joint). Counts m.joint.refused (suc n) j.refused) (stop_of t) (turns_from budget) (after_turn m t) n
+    following (λ (j : Joint). CountsRefused m.joint.refused (suc n) j.refused) (stop_of t) (turns_from budget) (after_turn m t) n
     (record { by_steps = omega (arith, one); counted = c.counted low })
     (record { by_steps = omega (arith, one, more); counted = rest.counted })
 
 abbrev FewAtAll : Run → Type 0
 FewAtAll r = (n : ℕ) → AreFew n (joint_until n r).refused
 
-opened_few : (b : Bundle) (budget : ℕ) (o : Opened) → o.joint.refused ≡ 0 → FewAtAll (run_of b budget o)
+opened_few : (b : Bundle) (budget : ℕ) (o : RunEdge) → o.joint.refused ≡ 0 → FewAtAll (run_of b budget o)
 unfolding run_of
 opened_few b budget o none n =
     let few = after_counts budget n (first_moment b o.joint) (omega (arith, none)) in

@@ -12,7 +12,7 @@ use Rattle.cloak_model.specs.Cloaking.{CloakedMemory}
 use Rattle.cloak_model.specs.DomainState.{Domain, started_control, started_domain}
 use Rattle.cloak_model.specs.DomainStep.{interrupt}
 use Rattle.cloak_model.specs.Ending.{ended_domain}
-use Rattle.cloak_model.specs.Opening.{Opened, started_joint, started_domains}
+use Rattle.cloak_model.specs.Opening.{RunEdge, started_joint, started_domains}
 use Rattle.cloak_model.specs.Parts.{Joint}
 use Rattle.cloak_model.specs.Record.{IsWord}
 use Rattle.cloak_model.specs.Resources.{resource_at, started_resources}
@@ -106,7 +106,7 @@ numbers : (b : Bundle) (from : Beginning) → IsBeginningOfBytes b from → All 
 numbers b (Fresh stream) all = All-nil HasWordNumber
 numbers b (Stored keys stream files) all = table_numbers files all.contents.table.each
 
-opened_files : (b : Bundle) (from : Beginning) → IsBeginningOfBytes b from → (o : Opened) →
+opened_files : (b : Bundle) (from : Beginning) → IsBeginningOfBytes b from → (o : RunEdge) →
     opening_from b from ≡ Ok o → AllWords o.joint.domains
 opened_files b from all o opens =
     let over = opens_over b from o opens in
@@ -129,7 +129,7 @@ file_words_are_kept b grammar m same here = record {
 }
 
 file_words_begin : (b : Bundle) (from : Beginning) → IsInGrammar b → IsOfBytes b → IsBeginningOfBytes b from →
-    (o : Opened) → opening_from b from ≡ Ok o → IsFitJoint o.joint
+    (o : RunEdge) → opening_from b from ≡ Ok o → IsFitJoint o.joint
 file_words_begin b from grammar bytes all o opens = record {
   limits = opened_keep b from grammar o opens;
   words = opened_words b from grammar bytes all o opens;

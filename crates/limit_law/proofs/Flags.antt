@@ -8,12 +8,12 @@ use Rattle.cloak_model.specs.declared.inside.Copied.{Copied}
 use Rattle.cloak_model.specs.declared.inside.Copied.TheVariants as copied
 use Rattle.cloak_model.specs.declared.inside.Ran.{Ran}
 use Rattle.cloak_model.specs.declared.inside.Ran.TheVariants as ran
-use Rattle.cloak_model.specs.Calls.{copy_out_step}
 use Rattle.cloak_model.specs.Contexts.{Context}
 use Rattle.cloak_model.specs.DomainState.{Control, Domain}
-use Rattle.cloak_model.specs.DomainStep.{DomainStepped, instruction_ended, copy_ended, after_write, phase_step, step_if, domain_step, interrupt_if, interrupt, answer_taken, resume_told, resume_slot}
-use Rattle.cloak_model.specs.InsideStep.{instruction_inside}
+use Rattle.cloak_model.specs.DomainStep.{domain_script, DomainStepped, instruction_ended, copy_ended, after_write, phase_step, step_if, domain_step, interrupt_if, interrupt, answer_taken, resume_told, resume_slot}
 use Rattle.cloak_model.specs.World.{World}
+use Rattle.cloak_model.specs.Script.{played}
+use Rattle.cloak_model.proofs.Playing.{by_plain, by_copy_in, by_copy_out, by_ecall}
 use Rattle.hypercall_kinds.proofs.ByKinds.{hypercall_ended}
 
 pub record SameFlag (was now : Control) : Type 0 where
@@ -22,9 +22,11 @@ pub record SameFlag (was now : Control) : Type 0 where
 -- The step.
 
 instruction_flag : (slot : ℕ) (d : Domain) (c : Context) (e : Ran) (w : World) →
-    SameFlag d.control (instruction_ended slot d c e w).answer.domain.control
+    SameFlag d.control (played (instruction_ended slot d c e) w).answer.domain.control
 unfolding instruction_ended
-instruction_flag slot d c ran.Ecall w = record { ended = hypercall_ended _ slot c d.control w }
+instruction_flag slot d c ran.Ecall w =
+    by_ecall (λ t. SameFlag d.control t.answer.domain.control) slot d c w
+    (record { ended = hypercall_ended _ slot c d.control w })
 instruction_flag slot d c _ w = record { ended = refl }
 
 copy_flag : (slot : ℕ) (d : Domain) (c : Context) (e : Copied) →
@@ -39,26 +41,26 @@ written_flag d None s same = same
 written_flag d (Some place) s same = record { ended = same.ended }
 
 phase_flag : (phase : Phase) (slot : ℕ) (c : Context) (d : Domain) (w : World) →
-    SameFlag d.control (phase_step phase slot c d w).answer.domain.control
+    SameFlag d.control (played (phase_step phase slot c d) w).answer.domain.control
 unfolding phase_step
 phase_flag Plain slot c d w =
-    let t = instruction_inside d.control.number d.control.resources c w in
-    written_flag d.control t.answer.wrote (instruction_ended slot d t.answer.context t.answer.ending t.world).answer
-    (instruction_flag slot d t.answer.context t.answer.ending t.world)
-phase_flag (CopyIn done) slot c d w = copy_flag slot d _ _
+    by_plain (λ t. SameFlag d.control t.answer.domain.control) slot c d w
+    (written_flag d.control _ _ (instruction_flag slot d _ _ _))
+phase_flag (CopyIn done) slot c d w =
+    by_copy_in (λ t. SameFlag d.control t.answer.domain.control) done slot c d w (copy_flag slot d _ _)
 phase_flag Waiting slot c d w = record { ended = refl }
 phase_flag (CopyOut done total) slot c d w =
-    let k = (copy_out_step d.control.number d.control.resources c done total w).answer in
-    written_flag d.control k.wrote (copy_ended slot d k.context k.ending) (copy_flag slot d k.context k.ending)
+    by_copy_out (λ t. SameFlag d.control t.answer.domain.control) done total slot c d w
+    (written_flag d.control _ _ (copy_flag slot d _ _))
 
 step_if_flag : (c : Option Context) (slot : ℕ) (d : Domain) (w : World) →
-    SameFlag d.control (step_if c slot d w).answer.domain.control
+    SameFlag d.control (played (step_if c slot d) w).answer.domain.control
 unfolding step_if
 step_if_flag None slot d w = record { ended = refl }
 step_if_flag (Some c) slot d w = phase_flag c.phase slot c d w
 
 pub step_flag : (slot : ℕ) (d : Domain) (w : World) → SameFlag d.control (domain_step slot d w).answer.domain.control
-unfolding domain_step
+unfolding domain_step domain_script
 step_flag slot d w = step_if_flag _ slot d w
 
 -- Interrupts and resuming.

@@ -2,10 +2,11 @@
 use Rattle.std.proofs.Common.{◌≡◌, ◌∙◌, ℕ, ◌<◌, true, List, Option, Some, None, sym}
 use Rattle.cloak_model.specs.Contexts.{Context, resume_if, resume_at}
 use Rattle.cloak_model.specs.DomainState.{Control, Domain}
-use Rattle.cloak_model.specs.DomainStep.{step_if, domain_step, interrupt_if, interrupt, resume_told, resume_slot}
+use Rattle.cloak_model.specs.DomainStep.{domain_script, step_if, domain_step, interrupt_if, interrupt, resume_told, resume_slot}
 use Rattle.cloak_model.specs.Ending.{ended_domain}
 use Rattle.cloak_model.specs.Joint.{Moment, next_hart, joint_step}
 use Rattle.cloak_model.specs.World.{World}
+use Rattle.cloak_model.specs.Script.{played}
 use Rattle.resource_map.proofs.Lists.{get_or-replicate_none}
 use Rattle.limit_law.specs.Endings.{HasNothing}
 use Rattle.limit_law.proofs.Flags.{step_flag, interrupt_flag, resume_flag}
@@ -18,14 +19,14 @@ Gone d = d.control.ended ≡ true → HasNothing d.control
 -- Without a context nothing is done.
 
 idle_step : (o : Option Context) (slot : ℕ) (d : Domain) (w : World) → o ≡ None → HasNothing d.control →
-    HasNothing (step_if o slot d w).answer.domain.control
+    HasNothing (played (step_if o slot d) w).answer.domain.control
 unfolding step_if
 idle_step None slot d w none here = here
 idle_step (Some c) slot d w none here = absurd cc
 
 step_gone : (slot : ℕ) (d : Domain) (w : World) → HasNothing d.control →
     HasNothing (domain_step slot d w).answer.domain.control
-unfolding domain_step
+unfolding domain_step domain_script
 step_gone slot d w here = idle_step _ slot d w (here.contexts slot) here
 
 idle_interrupt : (o : Option Context) (slot : ℕ) (d : Control) → o ≡ None → HasNothing d →

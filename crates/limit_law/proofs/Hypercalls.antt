@@ -14,6 +14,7 @@ use Rattle.cloak_model.specs.Fork.{Spaces, forked, child, is_of_space}
 use Rattle.cloak_model.specs.Hypercalls.{with_slot, stays_inside, with_answer, answers_word, with_spaces, Hypercall, hypercall}
 use Rattle.cloak_model.specs.Resources.{Resources, first_free, drop_space}
 use Rattle.cloak_model.specs.World.{World}
+use Rattle.cloak_model.specs.Script.{played}
 use Rattle.hypercall_kinds.specs.Kinds.{CallKind, Answers, MakesNew, MakesFile, Maps, Unmaps, Starts, BeginsCopy, Calls, Stops, Forks, Ends, EndsSpace, after}
 use Rattle.hypercall_kinds.proofs.ByKinds.{by_kinds}
 use Rattle.resource_map.specs.Copying.{can_copy}
@@ -278,6 +279,6 @@ module _ (h : Hypercall) (slot : ℕ) (c : Context) (d : Control) (w : World) (p
       })
 
 pub hypercall_kept : (h : Hypercall) (slot : ℕ) (c : Context) (d : Control) (w : World) → c.phase ≡ Plain →
-    KeepsLimits d → IsRunning d.resources c → KeepsLimits (hypercall h slot c d w).answer.control
+    KeepsLimits d → IsRunning d.resources c → KeepsLimits (played (hypercall h slot c d) w).answer.control
 hypercall_kept h slot c d w plain keeps here =
     by_kinds (λ t. KeepsLimits t.answer.control) h slot c d w (kind_kept h slot c d w plain keeps here)

@@ -3,6 +3,7 @@ pub mod Contexts
 pub mod Copies
 pub mod Resources
 pub mod Hypercalls
+pub mod StepEnds
 pub mod Steps
 pub mod Moments
 pub mod Openings

@@ -4,7 +4,7 @@ use Rattle.cloak_base.specs.declared.causes.Stop.{Stop}
 use Rattle.cloak_model.specs.declared.image.Bundle.{Bundle}
 use Rattle.cloak_model.specs.Beginning.{Beginning, opening_from}
 use Rattle.cloak_model.specs.Joint.{Moment, Turn, joint_step, after_turn, stop_of}
-use Rattle.cloak_model.specs.Opening.{Opened}
+use Rattle.cloak_model.specs.Opening.{RunEdge}
 use Rattle.cloak_model.specs.Parts.{Joint}
 use Rattle.cloak_model.specs.Run.{Run, run_from, unless_stopped, turns_from, joint_after, first_moment, run_of}
 use Rattle.kernel_isolation.specs.Isolation.{joint_until}
@@ -38,13 +38,13 @@ module _ (P : Joint → Type 0) (schedule : List ℕ) (kept : IsKept P schedule)
 abbrev AtAll : (Joint → Type 0) → Run → Type 0
 AtAll P r = (n : ℕ) → P (joint_until n r)
 
-opened_run : (P : Joint → Type 0) (b : Bundle) (budget : ℕ) (o : Opened) → IsKept P b.kernel.schedule → P o.joint →
+opened_run : (P : Joint → Type 0) (b : Bundle) (budget : ℕ) (o : RunEdge) → IsKept P b.kernel.schedule → P o.joint →
     AtAll P (run_of b budget o)
 unfolding run_of
 opened_run P b budget o kept here n = after_steps P b.kernel.schedule kept budget n (first_moment b o.joint) refl here
 
 pub at_every_moment : (P : Joint → Type 0) (b : Bundle) (from : Beginning) (budget : ℕ) (r : Run) →
-    ((o : Opened) → opening_from b from ≡ Ok o → P o.joint) → IsKept P b.kernel.schedule →
+    ((o : RunEdge) → opening_from b from ≡ Ok o → P o.joint) → IsKept P b.kernel.schedule →
     run_from b from budget ≡ Ok r → (n : ℕ) → P (joint_until n r)
 at_every_moment P b from budget r begins kept is =
     of_opened b budget (AtAll P) (opening_from b from) r is (λ o opens. opened_run P b budget o kept (begins o opens))

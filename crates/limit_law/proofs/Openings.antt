@@ -11,7 +11,7 @@ use Rattle.cloak_model.specs.Cloaking.{CloakedMemory}
 use Rattle.cloak_model.specs.DomainState.{Domain, with_resources}
 use Rattle.cloak_model.specs.Files.{file_resource}
 use Rattle.cloak_model.specs.Ledger.{Keys, vector_of}
-use Rattle.cloak_model.specs.Opening.{Opened, started_joint, started_memory, place_pages, place_programs}
+use Rattle.cloak_model.specs.Opening.{RunEdge, started_joint, started_memory, place_pages, place_programs}
 use Rattle.cloak_model.specs.PageMoves.{place, place_with}
 use Rattle.cloak_model.specs.Parts.{Joint}
 use Rattle.cloak_model.specs.StoredFiles.{FileContents}
@@ -55,7 +55,7 @@ pub begins_by_memory : (N : CloakedMemory → Type 0) (P : Joint → Type 0) (b 
     ((q : PageId) (f : ℕ) (bytes : List ℕ) (draw : Option (List ℕ × Random)) (m : CloakedMemory) → N m →
     IfSome (place_with q f bytes draw m) N) →
     ((keys : Keys) (rest : Random) → N (started_memory b.kernel keys rest)) →
-    ((m : CloakedMemory) → N m → P (started_joint b m)) → KeepsFiles P → (o : Opened) → opening_from b from ≡ Ok o →
+    ((m : CloakedMemory) → N m → P (started_joint b m)) → KeepsFiles P → (o : RunEdge) → opening_from b from ≡ Ok o →
     P o.joint
 begins_by_memory N P b from one first gives keeps o opens =
     let over = opens_over b from o opens in
@@ -65,7 +65,7 @@ begins_by_memory N P b from one first gives keeps o opens =
 
 -- whatever the memory is
 pub begins : (P : Joint → Type 0) (b : Bundle) (from : Beginning) → ((m : CloakedMemory) → P (started_joint b m)) →
-    KeepsFiles P → (o : Opened) → opening_from b from ≡ Ok o → P o.joint
+    KeepsFiles P → (o : RunEdge) → opening_from b from ≡ Ok o → P o.joint
 begins P b from gives keeps o opens =
     let over = opens_over b from o opens in
     files_keep P keeps (files_of from) (started_joint b over.memory) o.joint over.added (gives over.memory)

@@ -9,7 +9,7 @@ use Rattle.cloak_model.specs.declared.inside.Went.{Went}
 use Rattle.cloak_model.specs.declared.inside.Went.TheVariants as went
 use Rattle.cloak_model.specs.declared.item.Item.{Item}
 use Rattle.cloak_model.specs.declared.outcome.Kernel.{Kernel}
-use Rattle.cloak_model.specs.declared.outcome.Kernel.TheVariants.{Stay, Resume}
+use Rattle.cloak_model.specs.declared.outcome.Kernel.TheVariants.{Resume}
 use Rattle.cloak_model.specs.Ahead.{settle_while, settle_found, settle_touched, settled_step, made_after, is_owed}
 use Rattle.cloak_model.specs.AskPages.{ask_copy, ask_forget}
 use Rattle.cloak_model.specs.Asking.{Told}
@@ -25,7 +25,7 @@ use Rattle.cloak_model.specs.Hypercalls.{Stepped}
 use Rattle.cloak_model.specs.Joint.{Moment, Turn, next_hart, cloak_of, cloak_outside, memory_of, outside_ended, after_outside, outside_step, domain_ended, after_domain_step, pages_for, interrupt_ended, after_interrupt, by_interrupt, by_running, inside_step, turn_of, end_domain, step_before_end, joint_step}
 use Rattle.cloak_model.specs.KernelStep.{ticked}
 use Rattle.cloak_model.specs.Ledger.{Keys}
-use Rattle.cloak_model.specs.Opening.{Opened, started_joint, started_ledger, started_memory}
+use Rattle.cloak_model.specs.Opening.{RunEdge, started_joint, started_ledger, started_memory}
 use Rattle.cloak_model.specs.PageMoves.{copy_pages, drop_pages, place_with}
 use Rattle.cloak_model.specs.Parts.{Joint}
 use Rattle.cloak_model.specs.Resuming.{resume}
@@ -264,7 +264,7 @@ joint_once b m once = once
 given_once : (f : FileContents) (x y : Joint) → IsGiven f x y → JointOnce x → JointOnce y
 given_once f x y given once = subst IsOnce (sym (given_keeps f x y given).memory.owed) once
 
-opened_once : (b : Bundle) (from : Beginning) (o : Opened) → opening_from b from ≡ Ok o → JointOnce o.joint
+opened_once : (b : Bundle) (from : Beginning) (o : RunEdge) → opening_from b from ≡ Ok o → JointOnce o.joint
 opened_once b from = begins_by_memory Keeps JointOnce b from place_once (started_once b) (joint_once b) given_once
 
 -- The run.

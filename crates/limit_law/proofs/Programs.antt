@@ -6,7 +6,7 @@ use Rattle.cloak_model.specs.declared.inside.Went.{Went}
 use Rattle.cloak_model.specs.declared.inside.Went.TheVariants as went
 use Rattle.cloak_model.specs.declared.item.Item.{Item}
 use Rattle.cloak_model.specs.declared.outcome.Kernel.{Kernel}
-use Rattle.cloak_model.specs.declared.outcome.Kernel.TheVariants.{Stay, Resume}
+use Rattle.cloak_model.specs.declared.outcome.Kernel.TheVariants.{Resume}
 use Rattle.cloak_model.specs.Asking.{Told}
 use Rattle.cloak_model.specs.Contexts.{Admitted, domain_of, slot_of}
 use Rattle.cloak_model.specs.DomainState.{Control, Domain}

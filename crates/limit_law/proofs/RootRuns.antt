@@ -13,7 +13,7 @@ use Rattle.cloak_model.specs.declared.inside.Went.{Went}
 use Rattle.cloak_model.specs.declared.inside.Went.TheVariants as went
 use Rattle.cloak_model.specs.declared.item.Item.{Item}
 use Rattle.cloak_model.specs.declared.outcome.Kernel.{Kernel}
-use Rattle.cloak_model.specs.declared.outcome.Kernel.TheVariants.{Stay, Resume}
+use Rattle.cloak_model.specs.declared.outcome.Kernel.TheVariants.{Resume}
 use Rattle.cloak_model.specs.Ahead.{settle_while, settle_found, settle_touched, settled_step, made_after, is_owed}
 use Rattle.cloak_model.specs.Asking.{Told}
 use Rattle.cloak_model.specs.Bundle.{IsInGrammar}
@@ -28,7 +28,7 @@ use Rattle.cloak_model.specs.Hypercalls.{Stepped}
 use Rattle.cloak_model.specs.Joint.{Moment, Turn, next_hart, cloak_of, cloak_outside, memory_of, outside_ended, after_outside, outside_step, domain_ended, after_domain_step, pages_for, interrupt_ended, after_interrupt, by_interrupt, by_running, inside_step, turn_of, end_domain, step_before_end, joint_step}
 use Rattle.cloak_model.specs.KernelStep.{ticked}
 use Rattle.cloak_model.specs.Ledger.{Keys}
-use Rattle.cloak_model.specs.Opening.{Opened, started_joint, started_ledger, started_memory}
+use Rattle.cloak_model.specs.Opening.{RunEdge, started_joint, started_ledger, started_memory}
 use Rattle.cloak_model.specs.PageMoves.{place_with}
 use Rattle.cloak_model.specs.Parts.{Joint}
 use Rattle.cloak_model.specs.Resources.{Resources}
@@ -348,7 +348,7 @@ given_none : (f : FileContents) (x y : Joint) → IsGiven f x y → NoneRooted x
 given_none f x y given none s =
     ap (λ (root : SpaceId → Option ℕ). root s) (given_keeps f x y given).memory.root ∙ none s
 
-opened_rooted : (b : Bundle) (from : Beginning) (o : Opened) → opening_from b from ≡ Ok o → JointRooted o.joint
+opened_rooted : (b : Bundle) (from : Beginning) (o : RunEdge) → opening_from b from ≡ Ok o → JointRooted o.joint
 opened_rooted b from o opens s some =
     let none = begins_by_memory NoRoot NoneRooted b from place_none (started_none b) (joint_none b) given_none o opens in
     absurd (false≢true (ap is_some (sym (none s)) ∙ some))

@@ -12,7 +12,7 @@ use Rattle.cloak_model.specs.Cloaking.{CloakedMemory}
 use Rattle.cloak_model.specs.Contexts.{Context, context_at, started_contexts}
 use Rattle.cloak_model.specs.DomainState.{Domain, started_control, started_domain}
 use Rattle.cloak_model.specs.Joint.{Moment, next_hart}
-use Rattle.cloak_model.specs.Opening.{Opened, started_joint, started_domains}
+use Rattle.cloak_model.specs.Opening.{RunEdge, started_joint, started_domains}
 use Rattle.cloak_model.specs.Parts.{Joint}
 use Rattle.cloak_model.specs.Resources.{regions_in, started_resources}
 use Rattle.resource_map.specs.Kept.{IsSoundRegion}
@@ -80,7 +80,7 @@ made_keeps : (number pages : ℕ) (d : Domain) → Keeps d → Keeps (with_made 
 made_keeps number pages d keeps =
     resources_kept d.control _ keeps (file_stays number pages d.control.resources (are_kept d.control keeps))
 
-pub opened_keep : (b : Bundle) (from : Beginning) → IsInGrammar b → (o : Opened) → opening_from b from ≡ Ok o →
+pub opened_keep : (b : Bundle) (from : Beginning) → IsInGrammar b → (o : RunEdge) → opening_from b from ≡ Ok o →
     JointKeeps o.joint
 opened_keep b from grammar =
     begins JointKeeps b from (λ m. joint_keep b m grammar)

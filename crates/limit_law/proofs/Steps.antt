@@ -5,7 +5,7 @@ use Rattle.std.proofs.lemmas.List.{length-map, set-set}
 use Rattle.std.proofs.lemmas.List.Elements.{All-nil}
 use Rattle.cloak_base.specs.declared.names.HartId.{HartId}
 use Rattle.cloak_model.specs.declared.context.Phase.{Phase}
-use Rattle.cloak_model.specs.declared.context.Phase.TheVariants.{Plain, CopyIn, Waiting, CopyOut}
+use Rattle.cloak_model.specs.declared.context.Phase.TheVariants.{Waiting}
 use Rattle.cloak_model.specs.declared.context.ResumeFault.{ResumeFault}
 use Rattle.cloak_model.specs.declared.context.ResumeFault.TheVariants as fault
 use Rattle.cloak_model.specs.declared.context.WordPlace.{WordPlace}
@@ -15,21 +15,23 @@ use Rattle.cloak_model.specs.declared.inside.Ran.{Ran}
 use Rattle.cloak_model.specs.declared.inside.Ran.TheVariants as ran
 use Rattle.cloak_model.specs.declared.resource.Region.{Region}
 use Rattle.cloak_model.specs.declared.resource.Resource.{Resource}
-use Rattle.cloak_model.specs.Calls.{Copy, copy_out_step, finish_call}
+use Rattle.cloak_model.specs.Calls.{Copy, finish_call}
 use Rattle.cloak_model.specs.Contexts.{Context, context_at, with_context, is_reserved, unless_reserved, Resumed, resume_if, resume_at}
 use Rattle.cloak_model.specs.DomainState.{Control, Domain}
-use Rattle.cloak_model.specs.DomainStep.{DomainStepped, instruction_ended, copy_ended, after_write, phase_step, step_if, domain_step, interrupt_if, interrupt, answer_in, answer_taken, resume_told, resume_slot}
+use Rattle.cloak_model.specs.DomainStep.{DomainStepped, instruction_ended, copy_ended, after_write, domain_step, interrupt_if, interrupt, answer_in, answer_taken, resume_told, resume_slot}
 use Rattle.cloak_model.specs.Ending.{ended_domain}
-use Rattle.cloak_model.specs.InsideStep.{AfterInstruction, instruction_inside}
+use Rattle.cloak_model.specs.InsideStep.{AfterInstruction}
 use Rattle.cloak_model.specs.Resources.{Resources}
 use Rattle.cloak_model.specs.World.{World}
+use Rattle.cloak_model.specs.Script.{played}
+use Rattle.cloak_model.proofs.Playing.{by_ecall}
 use Rattle.resource_map.specs.Kept.{IsInUse, IsHeld, IsMapped, IsSound}
 use Rattle.resource_map.proofs.Lists.{get_or-replicate_none}
 use Rattle.frozen_state.specs.Limits.{IsPhase, WaitsOnNoHart, IsSteady, IsContext, IsSpace, KeepsLimits}
-use Rattle.limit_law.proofs.Contexts.{AfterOne, instruction_one}
-use Rattle.limit_law.proofs.Copies.{StaysIdle, AfterCopy, copy_in_one, copy_out_one, finish_one}
+use Rattle.limit_law.proofs.Contexts.{AfterOne}
+use Rattle.limit_law.proofs.Copies.{StaysIdle, AfterCopy, finish_one}
 use Rattle.limit_law.proofs.Hypercalls.{IsRunning, runs, stays_kept, leaves_kept, idle_plain, slot_kept, hypercall_kept}
-use Rattle.limit_law.proofs.Pages.{pages_there}
+use Rattle.limit_law.proofs.StepEnds.{step_holds}
 use Rattle.limit_law.proofs.Resources.{no_regions}
 
 moved : (r : Resources) (c k : Context) → IsRunning r c → IsSteady k → k.space ≡ c.space → k.on ≡ c.on → IsRunning r k
@@ -41,13 +43,14 @@ moved r c k here s space on = record {
 
 ended_kept : (slot : ℕ) (d : Domain) (c : Context) (a : AfterInstruction) (e : Ran) (w : World) → a.ending ≡ e →
     AfterOne c a → KeepsLimits d.control → IsRunning d.control.resources c →
-    KeepsLimits (instruction_ended slot d a.context e w).answer.domain.control
+    KeepsLimits (played (instruction_ended slot d a.context e) w).answer.domain.control
 unfolding instruction_ended
 ended_kept slot d c a (ran.Trap cause address) w is one keeps here =
     leaves_kept slot a.context d.control keeps (moved _ c a.context here one.steady one.space one.on)
 ended_kept slot d c a ran.Ecall w is one keeps here =
-    hypercall_kept _ slot a.context d.control w one.phase keeps
-    (moved _ c a.context here one.steady one.space one.on)
+    by_ecall (λ t. KeepsLimits t.answer.domain.control) slot d a.context w
+    (hypercall_kept _ slot a.context d.control w one.phase keeps
+    (moved _ c a.context here one.steady one.space one.on))
 ended_kept slot d c a ran.Stopped w is one keeps here = keeps
 ended_kept slot d c a _ w is one keeps here =
     stays_kept slot a.context d.control keeps (moved _ c a.context here one.steady one.space one.on)
@@ -106,42 +109,15 @@ written_kept (Some place) s keeps = record {
   regions = keeps.regions;
 }
 
-at_phase : (c : Context) (phase : Phase) → c.phase ≡ phase → IsSteady c → IsPhase c.regs phase
-at_phase c phase is s = subst (IsPhase c.regs) is s.phase
-
-phase_kept : (phase : Phase) (slot : ℕ) (c : Context) (d : Domain) (w : World) → c.phase ≡ phase →
-    KeepsLimits d.control → IsContext d.control.resources c →
-    KeepsLimits (phase_step phase slot c d w).answer.domain.control
-unfolding phase_step
-phase_kept Plain slot c d w is keeps here =
-    let domain = d.control.number in
-    let r = d.control.resources in
-    let t = instruction_inside domain r c w in
-    written_kept t.answer.wrote (instruction_ended slot d t.answer.context t.answer.ending t.world).answer
-    (ended_kept slot d c t.answer t.answer.ending t.world refl
-    (instruction_one c is here.steady domain r w (pages_there domain r c.space keeps.resources)) keeps (runs _ c here))
-phase_kept (CopyIn done) slot c d w is keeps here =
-    copy_kept slot d c _ (copy_in_one c here.steady done (at_phase c (CopyIn done) is here.steady) _ _ w) keeps (runs _ c here)
-phase_kept Waiting slot c d w is keeps here = stays_kept slot c d.control keeps (runs _ c here) here.waiting
-phase_kept (CopyOut done total) slot c d w is keeps here =
-    let domain = d.control.number in
-    let r = d.control.resources in
-    let k = (copy_out_step domain r c done total w).answer in
-    written_kept k.wrote (copy_ended slot d k.context k.ending)
-    (copy_kept slot d c k
-    (copy_out_one c here.steady done total (at_phase c (CopyOut done total) is here.steady) domain r w) keeps
-    (runs _ c here))
-
-step_if_kept : (o : Option Context) (slot : ℕ) (d : Domain) (w : World) → KeepsLimits d.control →
-    IfSome o (IsContext d.control.resources) → KeepsLimits (step_if o slot d w).answer.domain.control
-unfolding step_if
-step_if_kept None slot d w keeps here = keeps
-step_if_kept (Some c) slot d w keeps here = phase_kept c.phase slot c d w refl keeps here
-
 pub step_kept : (slot : ℕ) (d : Domain) (w : World) → KeepsLimits d.control →
     KeepsLimits (domain_step slot d w).answer.domain.control
-unfolding domain_step
-step_kept slot d w keeps = step_if_kept _ slot d w keeps (keeps.contexts slot)
+step_kept slot d w keeps =
+    step_holds (λ s. KeepsLimits s.domain.control) slot d w keeps keeps (λ c is here. record {
+      ended = λ a v one. ended_kept slot d c a a.ending v refl one keeps (runs _ c here);
+      copied = λ k one. copy_kept slot d c k one keeps (runs _ c here);
+      waits = stays_kept slot c d.control keeps (runs _ c here) here.waiting;
+      written = written_kept;
+    })
 
 interrupt_if_kept : (o : Option Context) (slot : ℕ) (d : Control) → KeepsLimits d →
     IfSome o (IsContext d.resources) → KeepsLimits (interrupt_if o slot d).control
@@ -159,7 +135,7 @@ answer_is_context : (phase : Phase) (answer : ℕ) (r : Resources) (c : Context)
     IsContext r (answer_in phase answer c)
 unfolding answer_in
 answer_is_context Waiting answer r c is here =
-    let one = finish_one c here.steady answer (at_phase c Waiting is here.steady) in
+    let one = finish_one c here.steady answer (subst (IsPhase c.regs) is here.steady.phase) in
     record {
       steady = one.steady;
       waiting = one.idle (finish_call answer c).on;

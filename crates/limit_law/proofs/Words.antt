@@ -7,7 +7,7 @@ use Rattle.cloak_model.specs.Bundle.{IsInGrammar}
 use Rattle.cloak_model.specs.Contexts.{Context}
 use Rattle.cloak_model.specs.DomainState.{Domain}
 use Rattle.cloak_model.specs.Hart.{Hart}
-use Rattle.cloak_model.specs.Opening.{Opened}
+use Rattle.cloak_model.specs.Opening.{RunEdge}
 use Rattle.cloak_model.specs.Parts.{Joint}
 use Rattle.range_law.specs.Writing.{IsOfBytes, IsBeginningOfBytes}
 use Rattle.range_law.proofs.Controls.{SlotFits}
@@ -42,7 +42,7 @@ words j fits = record {
 }
 
 pub opened_words : (b : Bundle) (from : Beginning) → IsInGrammar b → IsOfBytes b → IsBeginningOfBytes b from →
-    (o : Opened) → opening_from b from ≡ Ok o → JointFits o.joint
+    (o : RunEdge) → opening_from b from ≡ Ok o → JointFits o.joint
 opened_words b from grammar bytes all o opens = (opened_fits b from o grammar bytes all opens).joint
 
 pub runs_have_words : RunsHaveWords

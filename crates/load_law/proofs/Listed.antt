@@ -8,7 +8,7 @@ use Rattle.cloak_model.specs.declared.image.Bundle.{Bundle}
 use Rattle.cloak_model.specs.Beginning.{Beginning, opening_from}
 use Rattle.cloak_model.specs.Bundle.{IsInGrammar}
 use Rattle.cloak_model.specs.Joint.{Moment, Turn, next_hart, domain_met, answers_violation, step_before_end, joint_step}
-use Rattle.cloak_model.specs.Opening.{Opened}
+use Rattle.cloak_model.specs.Opening.{RunEdge}
 use Rattle.cloak_model.specs.Parts.{Joint}
 use Rattle.cloak_model.specs.Run.{Run, run_from, turns_from, joint_after, closing, first_moment, run_of}
 use Rattle.kernel_isolation.specs.Isolation.{joint_until}
@@ -99,7 +99,7 @@ module _ (b : Bundle) (from : Beginning) (budget : ℕ) (r : Run) (grammar : IsI
 abbrev ClosesSo : Run → Type 0
 ClosesSo r = r.closed.joint.ended ≡ (joint_until (length r.turns) r).ended
 
-opened_closes : (b : Bundle) (budget : ℕ) (o : Opened) → ClosesSo (run_of b budget o)
+opened_closes : (b : Bundle) (budget : ℕ) (o : RunEdge) → ClosesSo (run_of b budget o)
 unfolding run_of closing
 opened_closes b budget o =
     let turns : List Turn = turns_from budget (first_moment b o.joint) in

@@ -19,16 +19,16 @@ use Rattle.cloak_model.specs.declared.answer.Answer.{Answer}
 use Rattle.cloak_model.specs.declared.answer.Answer.TheVariants as told
 use Rattle.cloak_model.specs.declared.item.Item.{Item}
 use Rattle.cloak_model.specs.declared.item.Item.TheVariants as item
-use Rattle.cloak_model.specs.Ask.{ask_word, ask_walk, ask_inside, ask_translate, ask_led, opened}
+use Rattle.cloak_model.specs.Ask.{ask_word, ask_walk, ask_in_ram, ask_translate, ask_led, opened}
 use Rattle.cloak_model.proofs.WalkParts.{ask_second, ask_after, ask_first}
 use Rattle.cloak_model.specs.AskPages.{answer_item, inside_access, is_store, offer_events, replies, if_drawn, ask_inside_address, offered_by, ask_offer, reached, reach_by_table, put_at, stored_inside, put_by_table, ask_reach, ask_put}
 use Rattle.cloak_model.specs.Asking.{Told, Asking}
-use Rattle.cloak_model.specs.Cloaking.{CloakedMemory, AfterSettling, AfterOffer, Offer, Ready, Mismatch, Missed, settle, settle_if, settle_owed, settle_frame_if, owing_frame, owes, owed_in, with_comparison, taken, compared, unless_missed, offer}
+use Rattle.cloak_model.specs.Cloaking.{CloakedMemory, AfterSettling, AfterOffer, OfferEnd, Ready, Mismatch, Missed, settle, settle_if, settle_owed, settle_frame_if, owing_frame, owes, owed_in, with_comparison, taken, compared, unless_missed, offer}
 use Rattle.cloak_model.specs.Events.{Event}
 use Rattle.cloak_model.specs.Ledger.{vector_of}
 use Rattle.cloak_model.specs.Memory.{is_in_ram}
 use Rattle.cloak_model.specs.Walk.{Walk, FirstWord, Ends, GoesOn, access_fault, page_fault, first_entry, has_paging, is_valid, is_pointer, is_plain_pointer, allows, frame_at, first_leaf, second_leaf, first_word, second_word}
-use Rattle.cloak_model.specs.World.{World, Cloak, Flat, Cloaked, Alone, noted, stored_at, settled, written, cipher_items, is_missed, items_of, violation_of, regime_of, ram_of}
+use Rattle.cloak_model.specs.World.{World, MidStep, Flat, Cloaked, Alone, noted, stored_at, settled, written, cipher_items, is_missed, items_of, violation_of, regime_of, ram_of}
 use Rattle.domain_isolation.proofs.Steady.{is_cloaked}
 use Rattle.load_law.specs.Outcomes.{left_by, left_in, IsFaultOf}
 
@@ -159,8 +159,8 @@ LeadFits kind (Ok pa) = Unit {0}
 LeadFits kind (Err cause) = IsFaultOf kind cause
 
 quiet_inside : (a : Access) (walk : Walk) (w : World) → WalkFits a.kind walk → IsQuiet w →
-    QuietTold (LeadFits a.kind) (ask_inside a walk w)
-unfolding ask_inside
+    QuietTold (LeadFits a.kind) (ask_in_ram a walk w)
+unfolding ask_in_ram
 quiet_inside a (Err cause) w fits q = record { answer = fits; world = q }
 quiet_inside a (Ok walked) w fits q = record {
   answer = either (LeadFits a.kind) (is_in_ram (ram_of w) walked.pa) (Ok walked.pa) (Err (access_fault a.kind)) tt
@@ -208,7 +208,7 @@ frame_missed None m drawn = drawn
 frame_missed (Some f) m drawn = settled_missed f m drawn
 
 -- an offer says that a draw was missing, or none was
-abbrev OfferSays : Offer → Bool → Type 0
+abbrev OfferSays : OfferEnd → Bool → Type 0
 OfferSays Ready missed = missed ≡ false
 OfferSays Mismatch missed = Unit {0}
 OfferSays Missed missed = missed ≡ true
@@ -311,8 +311,9 @@ says_drawn page kind ask w false is q more = more is
 
 -- A page is reached.
 
-offered_says : (q : PageId) (va : ℕ) (kind : Kind) (g : ℕ) (c : Cloak) (m : CloakedMemory) (ciphers : List (ℕ × List ℕ))
-    (events : List Event) (a : Offer) → IsQuiet (Cloaked c) → OfferSays a m.ledger.missed →
+offered_says : (q : PageId) (va : ℕ) (kind : Kind) (g : ℕ) (c : MidStep) (m : CloakedMemory)
+    (ciphers : List (ℕ × List ℕ)) (events : List Event) (a : OfferEnd) → IsQuiet (Cloaked c) →
+    OfferSays a m.ledger.missed →
     SaysTold (Some q) kind (offered_by q va kind g a
     (Cloaked (record c { memory = m; items = c.items ++ cipher_items ciphers; events = events })))
 unfolding offered_by replies
@@ -394,8 +395,8 @@ unfolding stored_inside if_drawn
 stored_says va width value (Err cause) w fits quiet drawn = says_fault None Store cause w fits quiet drawn
 stored_says va width value (Ok pa) w fits quiet drawn =
     let there = quiet_opened (regime_of w).satp (inside_access w va Store) pa w quiet in
-    says_drawn None Store (put_at pa width value) (opened (regime_of w).satp (inside_access w va Store) pa w) _ refl there
-    (λ drawn'. put_at_says pa width value _ there drawn')
+    says_drawn None Store (put_at pa width value) (opened (regime_of w).satp (inside_access w va Store) pa w) _ refl
+    there (λ drawn'. put_at_says pa width value _ there drawn')
 
 put_table_says : (va width value : ℕ) (w : World) → IsQuiet w → SaysTold None Store (put_by_table va width value w)
 unfolding put_by_table if_drawn

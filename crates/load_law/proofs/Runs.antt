@@ -10,7 +10,7 @@ use Rattle.cloak_model.specs.Contexts.{Context, context_at, domain_of, slot_of}
 use Rattle.cloak_model.specs.DomainState.{Domain}
 use Rattle.cloak_model.specs.Halves.{inward_half}
 use Rattle.cloak_model.specs.Joint.{Moment, Turn, joint_step, after_turn, stop_of}
-use Rattle.cloak_model.specs.Opening.{Opened}
+use Rattle.cloak_model.specs.Opening.{RunEdge}
 use Rattle.cloak_model.specs.Parts.{Joint}
 use Rattle.cloak_model.specs.Run.{Run, run_from, unless_stopped, turns_from, joint_after, last_stop, first_moment, run_of}
 use Rattle.kernel_isolation.specs.Isolation.{joint_until}
@@ -42,7 +42,7 @@ pub record IsMade (b : Bundle) (r : Run) (n : ℕ) (t : Turn) : Type 0 where
 abbrev pub StepsMade : Bundle → Run → Type 0
 StepsMade b r = (n : ℕ) (t : Turn) → slice_get r.turns n ≡ Some t → IsMade b r n t
 
-opened_made : (b : Bundle) (from : Beginning) (budget : ℕ) (o : Opened) → opening_from b from ≡ Ok o →
+opened_made : (b : Bundle) (from : Beginning) (budget : ℕ) (o : RunEdge) → opening_from b from ≡ Ok o →
     StepsMade b (run_of b budget o)
 unfolding run_of
 opened_made b from budget o opens n t is =
@@ -85,7 +85,7 @@ turns_drawn (suc budget) (suc n) m drawn low =
 abbrev StepsDrawn : Run → Type 0
 StepsDrawn r = (n : ℕ) → n < length r.turns → JointDrawn (joint_until n r)
 
-steps_drawn : (b : Bundle) (from : Beginning) (budget : ℕ) (o : Opened) → opening_from b from ≡ Ok o →
+steps_drawn : (b : Bundle) (from : Beginning) (budget : ℕ) (o : RunEdge) → opening_from b from ≡ Ok o →
     StepsDrawn (run_of b budget o)
 unfolding run_of
 steps_drawn b from budget o opens n low =
@@ -209,7 +209,7 @@ reported : (missed : Bool) (o : Option Stop) → o ≡ Some stop.NoRandom →
 reported true o is = refl
 reported false o is = ap (λ (x : Option Stop). unwrap_or x stop.Budget) is
 
-opened_stops : (b : Bundle) (budget : ℕ) (o : Opened) → MissesAreLast (run_of b budget o)
+opened_stops : (b : Bundle) (budget : ℕ) (o : RunEdge) → MissesAreLast (run_of b budget o)
 unfolding run_of
 opened_stops b budget o n t is misses =
     let stops = turns_stop budget n (first_moment b o.joint) t stop.NoRandom is misses in

@@ -1,5 +1,5 @@
 -- The step of a hart whose context is to make a load: how its domain's step ended, and then a violation.
-use Rattle.std.proofs.Common.{◌≡◌, ◌∙◌, ℕ, zero, suc, ◌+◌, ◌<◌, Bool, true, false, cond, List, [], ◌∷◌, ◌++◌, length, Option, Some, None, refl, sym, ap, subst, arith, append_assoc, append-nil, eq-eqb}
+use Rattle.std.proofs.Common.{◌≡◌, ◌∙◌, ℕ, zero, suc, ◌<◌, Bool, true, false, cond, List, [], ◌∷◌, ◌++◌, length, Option, Some, None, refl, sym, ap, subst, arith, append_assoc, append-nil, eq-eqb}
 use Rattle.std.specs.Prelude.{is_some, option_and_then, slice_get, slice_set, slice_index_or}
 use Rattle.std.proofs.lemmas.Bool.{false≢true}
 use Rattle.std.proofs.lemmas.Grind.{flat_map-append}
@@ -16,23 +16,23 @@ use Rattle.cloak_model.specs.declared.inside.Went.TheVariants as went
 use Rattle.cloak_model.specs.declared.item.Item.{Item}
 use Rattle.cloak_model.specs.declared.item.Item.TheVariants as item
 use Rattle.cloak_model.specs.Asking.{Told}
-use Rattle.cloak_model.specs.AskPages.{settled_if_marked, ask_forget, is_marked}
+use Rattle.cloak_model.specs.AskPages.{ask_forget}
 use Rattle.cloak_model.specs.Cloaking.{CloakedMemory}
 use Rattle.cloak_model.specs.Contexts.{Context, context_at, context_number, domain_of, slot_of, suspended, shown}
 use Rattle.cloak_model.specs.DomainAlone.{runs_on}
 use Rattle.cloak_model.specs.DomainState.{Domain}
 use Rattle.cloak_model.specs.DomainStep.{DomainStepped, domain_step}
-use Rattle.cloak_model.specs.Ending.{all_marked, settled_for, ask_end, cloak_for, ended_domain}
-use Rattle.cloak_model.specs.Fork.{ask_forgets}
+use Rattle.cloak_model.specs.Ending.{ask_end, cloak_for, ended_domain}
 use Rattle.cloak_model.specs.Halves.{is_inward, inward_half}
 use Rattle.cloak_model.specs.Hart.{Hart}
 use Rattle.cloak_model.specs.Joint.{Moment, Turn, next_hart, cloak_of, pages_for, memory_of, domain_ended, with_domain, after_domain_step, by_interrupt, by_running, inside_step, turn_of, end_domain, ends_asked, answers_violation, step_before_end, joint_step, stop_of, stop_without_miss}
 use Rattle.cloak_model.specs.KernelStep.{ticked}
 use Rattle.cloak_model.specs.Parts.{Joint}
-use Rattle.cloak_model.specs.World.{World, Cloaked, items_of, is_missed, owed_of}
+use Rattle.cloak_model.specs.World.{World, Cloaked, items_of, is_missed}
 use Rattle.domain_isolation.proofs.Endings.{end_world, end_leaves}
 use Rattle.domain_isolation.proofs.InOrder.{get_set_same}
-use Rattle.script_fold.proofs.InstructionScripts.{IsOwn}
+use Rattle.script_fold.proofs.Endings.{keeps_end}
+use Rattle.script_fold.proofs.InstructionScripts.{IsOwnPage}
 use Rattle.domain_isolation.proofs.Steady.{is_cloaked}
 use Rattle.frozen_state.specs.Limits.{has_ended, TellsEnded}
 use Rattle.latest_store.specs.Moves.{Move}
@@ -170,33 +170,20 @@ misses c ctx due j number h w x earlier q asks told missing stands stays =
 
 -- The end of a domain shows no leave.
 
-quiet_if : (b : Bool) (w v : World) → IsQuiet w → IsQuiet v → IsQuiet (cond b v w)
-quiet_if true w v here there = there
-quiet_if false w v here there = here
-
-quiet_marked : (d : ℕ) (marked : List Bool) (f : ℕ) (w : World) → IsQuiet w → IsQuiet (settled_if_marked d marked f w)
-unfolding settled_if_marked
-quiet_marked d marked f w q =
-    quiet_if (is_marked d marked (slice_index_or (owed_of w) f None)) w _ q (quiet_settled f w q)
-
-quiet_for : (d f n : ℕ) (w : World) → IsQuiet w → IsQuiet (settled_for d f n w)
-unfolding settled_for
-quiet_for d f zero w q = q
-quiet_for d f (suc n) w q = quiet_for d (f + 1) n _ (quiet_marked d all_marked f w q)
-
 quiet_forget : (d resource : ℕ) (w : World) → IsQuiet w → IsQuiet (ask_forget d resource w).world
 unfolding ask_forget
 quiet_forget d resource (Cloaked c) q = record { form = refl; left = q.left; met = q.met }
 quiet_forget d resource _ q = absurd (false≢true q.form)
 
-quiet_forgets : (d : ℕ) (list : List ℕ) (w : World) → IsQuiet w → IsQuiet (ask_forgets d list w).world
-unfolding ask_forgets
-quiet_forgets d [] w q = q
-quiet_forgets d (n ∷ rest) w q = quiet_forgets d rest _ (quiet_forget d n w q)
-
 quiet_end : (d : ℕ) (w : World) → IsQuiet w → IsQuiet (ask_end d w).world
-unfolding ask_end
-quiet_end d w q = quiet_forgets d _ _ (quiet_for d 0 _ w q)
+quiet_end d w q =
+    keeps_end (λ u v. IsQuiet u → IsQuiet v)
+    (record {
+      same = λ u there. there;
+      chained = λ u v x first second there. second (first there);
+      settled = quiet_settled;
+    })
+    quiet_forget d w q
 
 -- a place that is written and then taken has what was written
 taken_place : (places : List (Option Violation)) (d : ℕ) (v : Violation) →
@@ -252,7 +239,7 @@ domain_ends c ctx due x t earlier q p f asks page own none told left there tells
 refuses : (c : Context) (ctx : ℕ) (due : DueLoad) (j : Joint) (number : ℕ) (h : Hart) (w : World) (x : Domain)
     (earlier : List Item) (q : Question) → Asks (domain_of ctx) due earlier q →
     inward_half (domain_of ctx) (items_of w) ≡ earlier ++ item.Stopped (domain_of ctx) ∷ [] →
-    IsOwn (domain_of ctx) q.page → IsRefused q.page w → Stands j ctx w x →
+    IsOwnPage (domain_of ctx) q.page → IsRefused q.page w → Stands j ctx w x →
     TellsEnded (after_went j number h ctx w went.Stopped).joint →
     EndsSo c ctx due (after_went j number h ctx w went.Stopped)
 unfolding domain_ended answers_violation ends_asked
@@ -265,7 +252,7 @@ refuses c ctx due j number h w x earlier q asks told own refused stands =
     ∙ ap (λ (o : Option Domain). ends_asked o d v t) stands.there in
     subst (λ (t' : Turn). TellsEnded t'.joint → EndsSo c ctx due t') (sym turn)
     (domain_ends c ctx due x t earlier q refused.found refused.frame asks refused.is
-    (subst (IsOwn d) refused.is own) refl told refused.left stands.there)
+    (subst (IsOwnPage d) refused.is own) refl told refused.left stands.there)
 
 -- The step of the hart is that of its context.
 context_turn : (m : Moment) (s : StepsInside m) →
@@ -349,7 +336,7 @@ went_ends c ctx d due j number h answers x w own there told stands tells
     EndsSo c ctx due (after_went j number h ctx w g)) (sym stops)
     (refuses c ctx due j number h w x.domain earlier q (subst (λ (n : ℕ). Asks n due earlier q) own asks)
     (told ∙ (is ∙ ap (λ (n : ℕ). earlier ++ item.Stopped n ∷ []) own))
-    (subst (λ (n : ℕ). IsOwn n q.page) own page) refused stands) tells
+    (subst (λ (n : ℕ). IsOwnPage n q.page) own page) refused stands) tells
 went_ends c ctx d due j number h answers x w own there told stands tells (Misses earlier q asks is stops same missing) =
     subst (λ (g : Went). EndsSo c ctx due (after_went j number h ctx w g)) (sym stops)
     (misses c ctx due j number h w x.domain earlier q (subst (λ (n : ℕ). Asks n due earlier q) own asks)

@@ -29,7 +29,8 @@ use Rattle.cloak_model.specs.Contexts.{Context, context_at, domain_of, slot_of, 
 use Rattle.cloak_model.specs.Csr.{interrupt_due}
 use Rattle.cloak_model.specs.DomainAlone.{runs_on}
 use Rattle.cloak_model.specs.DomainState.{Control, Domain}
-use Rattle.cloak_model.specs.DomainStep.{phase_step, step_if, domain_step, interrupt}
+use Rattle.cloak_model.specs.Asking.{Told}
+use Rattle.cloak_model.specs.DomainStep.{domain_script, DomainStepped, phase_step, step_if, domain_step, interrupt}
 use Rattle.cloak_model.specs.Effect.{effect}
 use Rattle.cloak_model.specs.Fork.{copies, private_numbers}
 use Rattle.cloak_model.specs.Halves.{inward_half}
@@ -40,6 +41,8 @@ use Rattle.cloak_model.specs.Joint.{Moment, Turn, next_hart, domain_ended, with_
 use Rattle.cloak_model.specs.KernelStep.{atomic_kind, ticked}
 use Rattle.cloak_model.specs.Parts.{Joint}
 use Rattle.cloak_model.specs.World.{World, items_of, violation_of}
+use Rattle.cloak_model.specs.Script.{played}
+use Rattle.cloak_model.proofs.Playing.{by_copy_in}
 use Rattle.latest_store.specs.Moves.{Move, Stores, Copies, Drops, Loads, latest_value}
 use Rattle.latest_store.specs.Deeds.{both_granted, first_granted, page_for, load_at, store_at, atomic_at, made_moves, file_moves, hypercall_moves, ecall_moves, effect_moves, atomic_moves, word_moves, fetched_moves, byte_moves, phase_moves, context_moves, program_moves}
 use Rattle.cause_law.specs.Presented.{hart_of_step, StepsInside, world_inside}
@@ -263,11 +266,12 @@ in_stays false slot d c done w is = placed_stays slot d c done _ _ w is
 copy_stays : (slot : ℕ) (d : Domain) (c : Context) (done : ℕ) (w : World) →
     context_at d.control.contexts slot ≡ Some c → c.phase ≡ CopyIn done → copy_due d.control c done ≡ None →
     (domain_step slot d w).world ≡ w
-unfolding domain_step step_if phase_step copy_in_step copy_due
+unfolding domain_step domain_script step_if phase_step copy_in_step copy_due
 copy_stays slot d c done w there phase is =
-    ap (λ (o : Option Context). (step_if o slot d w).world) there
-    ∙ (ap (λ (p : Phase). (phase_step p slot c d w).world) phase
-    ∙ in_stays (nat_le (call_length c) done) slot d c done w is)
+    ap (λ (o : Option Context). (played (step_if o slot d) w).world) there
+    ∙ (ap (λ (p : Phase). (played (phase_step p slot c d) w).world) phase
+    ∙ by_copy_in (λ (t : Told DomainStepped). t.world ≡ w) done slot c d w
+    (in_stays (nat_le (call_length c) done) slot d c done w is))
 
 -- without a violation, what was told stays so
 went_half : (j : Joint) (number : ℕ) (h : Hart) (ctx : ℕ) (w : World) (g : Went) → violation_of w ≡ None →

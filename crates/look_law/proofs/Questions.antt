@@ -10,16 +10,18 @@ use Rattle.cloak_model.specs.declared.answer.Answer.{Answer}
 use Rattle.cloak_model.specs.declared.answer.Answer.TheVariants as told
 use Rattle.cloak_model.specs.declared.item.Item.{Item}
 use Rattle.rv_atomic.specs.declared.atomic.AtomicOp.{AtomicOp}
-use Rattle.cloak_model.specs.Ask.{ask_word, ask_walk, ask_inside, ask_translate, ask_led, opened, ask_value, ask_store, loaded_at, ask_load, stored_to, ask_store_at, ask_frame, ask_fill, ask_mark, ask_unmark, ask_marked, stored_if, reserved_at, ask_reserve, conditional_at, ask_store_conditional, combined_at, ask_combine}
+use Rattle.cloak_model.specs.Ask.{ask_word, ask_walk, ask_in_ram, ask_translate, ask_led, opened, ask_value, ask_store, loaded_at, ask_load, stored_to, ask_store_at, ask_frame, ask_fill, ask_mark, ask_unmark, ask_marked, stored_if, reserved_at, ask_reserve, conditional_at, ask_store_conditional, combined_at, ask_combine}
 use Rattle.cloak_model.proofs.WalkParts.{ask_second, ask_after, ask_first}
 use Rattle.cloak_model.specs.AskPages.{answer_item, replies, if_drawn, is_store, offer_events, inside_access, ask_inside_address, offered_by, ask_offer, reached, reach_by_table, get_at, got, get_by_table, put_at, stored_inside, put_by_table, settled_if_marked, clear_from, next_answer, ask_reach, ask_write, ask_get, ask_put, ask_clear, ask_copy, ask_forget}
 use Rattle.cloak_model.specs.Asking.{Told, Asking}
-use Rattle.cloak_model.specs.Cloaking.{CloakedMemory, Offer, Ready, Mismatch, Missed, settle, offer}
+use Rattle.cloak_model.specs.Cloaking.{CloakedMemory, OfferEnd, Ready, Mismatch, Missed, settle, offer}
 use Rattle.cloak_model.specs.Events.{Event, Look, Touch, Read, Write, Drop, births_by}
 use Rattle.cloak_model.specs.Events.{Offer as offers}
-use Rattle.cloak_model.specs.Fork.{ask_copies, ask_forgets}
+use Rattle.cloak_model.specs.Fork.{copy_each, forget_each}
 use Rattle.cloak_model.specs.Walk.{Walk, FirstWord, Ends, GoesOn, first_entry, walk}
 use Rattle.cloak_model.specs.World.{World, Handed, Flat, Cloaked, Alone, ram_of, regime_of, events_of, noted, settled, stored_at, filled_frame, written, with_plain, with_marks, cipher_items}
+use Rattle.cloak_model.specs.Script.{played}
+use Rattle.script_fold.proofs.Endings.{keeps_forgets}
 use Rattle.shadow_fold.specs.Reads.{is_look, looks_in}
 
 -- From one world to the other there were at most n looks.
@@ -34,9 +36,6 @@ none w = record { few = omega arith }
 
 pub at_most_one : (w v : World) → Looks 0 w v → Looks 1 w v
 at_most_one w v p = record { few = (let few = p.few in omega (arith, few)) }
-
-pub at_most_two : (w v : World) → Looks 1 w v → Looks 2 w v
-at_most_two w v p = record { few = (let few = p.few in omega (arith, few)) }
 
 -- one after the other
 pub then_one : (u v w : World) → Looks 1 u v → Looks 1 v w → Looks 2 u w
@@ -123,8 +122,8 @@ pub still_walk : (satp : ℕ) (a : Access) (w : World) → Looks 0 w (ask_walk s
 unfolding ask_walk
 still_walk satp a w = either _ _ _ w (still_first a (first_entry satp a.va) w) (still w)
 
-pub still_inside : (a : Access) (walk : Walk) (w : World) → Looks 0 w (ask_inside a walk w).world
-unfolding ask_inside
+pub still_inside : (a : Access) (walk : Walk) (w : World) → Looks 0 w (ask_in_ram a walk w).world
+unfolding ask_in_ram
 still_inside a (Err cause) w = still w
 still_inside a (Ok walked) w = still w
 
@@ -205,11 +204,11 @@ missed_quiet : (b : Bool) (q : PageId) (g : ℕ) → looks_in (cond b (Touch g) 
 missed_quiet true q g = omega arith
 missed_quiet false q g = omega arith
 
-offer_quiet : (q : PageId) (g : ℕ) (m : CloakedMemory) (o : Offer) → looks_in (offer_events q g m o) ≤ 0
+offer_quiet : (q : PageId) (g : ℕ) (m : CloakedMemory) (o : OfferEnd) → looks_in (offer_events q g m o) ≤ 0
 offer_quiet q g m Missed = missed_quiet (settle g m).missed q g
 offer_quiet q g m _ = omega arith
 
-pub still_offered : (q : PageId) (va : ℕ) (kind : Kind) (g : ℕ) (o : Offer) (w : World) →
+pub still_offered : (q : PageId) (va : ℕ) (kind : Kind) (g : ℕ) (o : OfferEnd) (w : World) →
     Looks 0 w (offered_by q va kind g o w).world
 unfolding offered_by
 still_offered q va kind g Ready w =
@@ -297,16 +296,14 @@ still_forget domain resource (Flat ram) = still (Flat ram)
 still_forget domain resource (Cloaked c) = record { few = few_then 0 c.events (Drop domain resource ∷ []) (omega arith) }
 still_forget domain resource (Alone h) = record { few = omega arith }
 
-pub asks_copies : (domain : ℕ) (list : List (ℕ × ℕ)) (w : World) → Looks 0 w (ask_copies domain list w).world
-unfolding ask_copies
+pub asks_copies : (domain : ℕ) (list : List (ℕ × ℕ)) (w : World) → Looks 0 w (played (copy_each domain list) w).world
+unfolding copy_each
 asks_copies domain [] w = still w
 asks_copies domain (copy ∷ rest) w =
     still_then _ _ _ (still_copy domain copy.0 copy.1 w) (asks_copies domain rest _)
 
-pub asks_forgets : (domain : ℕ) (list : List ℕ) (w : World) → Looks 0 w (ask_forgets domain list w).world
-unfolding ask_forgets
-asks_forgets domain [] w = still w
-asks_forgets domain (n ∷ rest) w = still_then _ _ _ (still_forget domain n w) (asks_forgets domain rest _)
+pub asks_forgets : (domain : ℕ) (list : List ℕ) (w : World) → Looks 0 w (played (forget_each domain list) w).world
+asks_forgets domain list w = keeps_forgets (Looks 0) still still_then still_forget domain list w
 
 -- Those of a hart outside.
 

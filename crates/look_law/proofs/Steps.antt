@@ -1,5 +1,5 @@
 -- A step of the joint machine asks at most twice where an access leads, and the end of a domain after it does not.
-use Rattle.std.proofs.Common.{◌≤◌, ℕ, zero, suc, ◌+◌, Bool, true, false, length, Option, Some, None, arith}
+use Rattle.std.proofs.Common.{◌≤◌, ℕ, Bool, true, false, Option, Some, None, arith}
 use Rattle.std.specs.Prelude.{slice_get}
 use Rattle.cloak_base.specs.declared.causes.Violation.{Violation}
 use Rattle.cloak_model.specs.Cloaking.{CloakedMemory}
@@ -7,17 +7,17 @@ use Rattle.cloak_model.specs.Contexts.{Context, context_at, domain_of, slot_of}
 use Rattle.cloak_model.specs.Csr.{interrupt_due}
 use Rattle.cloak_model.specs.DomainAlone.{runs_on}
 use Rattle.cloak_model.specs.DomainState.{Domain}
-use Rattle.cloak_model.specs.Ending.{all_marked, settled_for, ask_end, cloak_for}
+use Rattle.cloak_model.specs.Ending.{ask_end, cloak_for}
 use Rattle.cloak_model.specs.Hart.{Hart}
 use Rattle.cloak_model.specs.Joint.{next_hart, hart_in, cloak_of, cloak_outside, domain_met, pages_for, turn_of}
 use Rattle.cloak_model.specs.KernelStep.{ticked}
-use Rattle.cloak_model.specs.Opening.{numbers_below}
 use Rattle.cloak_model.specs.Parts.{Joint}
-use Rattle.cloak_model.specs.World.{World, Cloaked, events_of, ram_of}
+use Rattle.cloak_model.specs.World.{World, Cloaked, events_of}
 use Rattle.shadow_fold.specs.Events.{asked_if, asked_running, asked_inside, asked_of, with_end, ended_once, ended_resumed, ended_asked, ended_by}
 use Rattle.shadow_fold.specs.Reads.{AskedByStep, looks_in}
 use Rattle.look_law.specs.Looks.{StepLooksTwice}
-use Rattle.look_law.proofs.Questions.{Looks, still, still_then, still_if_marked, asks_forgets, looks_then}
+use Rattle.script_fold.proofs.Endings.{keeps_end}
+use Rattle.look_law.proofs.Questions.{Looks, still, still_then, still_settled, still_forget, looks_then}
 use Rattle.look_law.proofs.Inside.{looks_domain}
 use Rattle.look_law.proofs.Outside as outside
 
@@ -54,14 +54,10 @@ few_of j number h (Some ctx) =
 
 -- The end of a domain.
 
-still_for : (domain f n : ℕ) (w : World) → Looks 0 w (settled_for domain f n w)
-unfolding settled_for
-still_for domain f zero w = still w
-still_for domain f (suc n) w = still_then _ _ _ (still_if_marked domain all_marked f w) (still_for domain (f + 1) n _)
-
 asks_end : (domain : ℕ) (w : World) → Looks 0 w (ask_end domain w).world
-unfolding ask_end
-asks_end domain w = still_then _ _ _ (still_for domain 0 (length (ram_of w)) w) (asks_forgets domain (numbers_below 16) _)
+asks_end domain w =
+    keeps_end (Looks 0) (record { same = still; chained = still_then; settled = still_settled })
+    still_forget domain w
 
 few_with_end : (d : ℕ) (domain : Domain) (m : CloakedMemory) (a : AskedByStep) → FewLooks a → FewLooks (with_end d domain m a)
 few_with_end d domain m a few =

@@ -1,18 +1,17 @@
 -- A step that met a violation has changed no page: a resuming changes none, and a program's step meets it with its last
 -- question, before it changes one.
-use Rattle.std.proofs.Common.{◌≡◌, ◌∙◌, ℕ, suc, Bool, true, false, List, Option, Some, None, Result, Ok, Err, refl, sym, ap, subst, arith}
+use Rattle.std.proofs.Common.{◌≡◌, ◌∙◌, ℕ, suc, Bool, true, false, List, Option, Some, None, Result, Ok, Err, refl, ap, arith}
 use Rattle.cloak_base.specs.declared.names.PageId.{PageId}
 use Rattle.cloak_model.specs.declared.context.ResumeFault.{ResumeFault}
 use Rattle.cloak_model.specs.declared.inside.Went.{Went}
 use Rattle.cloak_model.specs.declared.inside.Went.TheVariants as went
 use Rattle.cloak_model.specs.declared.item.Item.{Item}
 use Rattle.cloak_model.specs.declared.outcome.Kernel.{Kernel}
-use Rattle.cloak_model.specs.declared.outcome.Kernel.TheVariants.{Stay, Resume}
+use Rattle.cloak_model.specs.declared.outcome.Kernel.TheVariants.{Resume}
 use Rattle.cloak_model.specs.Ahead.{settled_step, made_after}
-use Rattle.cloak_model.specs.Asking.{Told}
 use Rattle.cloak_model.specs.Contexts.{Admitted, domain_of, slot_of}
 use Rattle.cloak_model.specs.DomainState.{Control, Domain}
-use Rattle.cloak_model.specs.DomainStep.{DomainStepped, domain_step}
+use Rattle.cloak_model.specs.DomainStep.{domain_script, domain_step}
 use Rattle.cloak_model.specs.Hart.{Hart}
 use Rattle.cloak_model.specs.Joint.{cloak_of, memory_of, outside_ended, after_outside, outside_step, domain_ended, after_domain_step, interrupt_ended, after_interrupt, by_interrupt, by_running, inside_step, turn_of}
 use Rattle.cloak_model.specs.KernelStep.{ticked}
@@ -23,17 +22,11 @@ use Rattle.cloak_model.specs.World.{World, Cloaked}
 use Rattle.script_fold.proofs.StepScripts.{step_scripted}
 use Rattle.domain_isolation.proofs.Steady.{is_cloaked}
 use Rattle.page_law.proofs.Settlings.{touched_draws}
-use Rattle.std.proofs.lemmas.Bool.{false≢true}
 use Rattle.std.specs.Prelude.{is_some}
-use Rattle.cloak_base.specs.declared.causes.Violation.{Violation}
-use Rattle.cloak_model.specs.declared.answer.Answer.{Answer}
-use Rattle.cloak_model.specs.declared.answer.Answer.TheVariants as told
-use Rattle.cloak_model.specs.World.{Cloak, violation_of}
-use Rattle.script_fold.proofs.Scripts.{Question, Script, Gives, Asks, Reads, Changes, asked, changed, played, EndClaims, IsStop, EndsSo}
-use Rattle.domain_isolation.proofs.Answers.{question_answered, change_leaves}
+use Rattle.cloak_model.specs.World.{MidStep, violation_of}
 use Rattle.script_fold.proofs.StepScripts.{of_domain}
-use Rattle.cloak_model.specs.AskPages.{ask_read}
 use Rattle.page_law.proofs.Steps.{ends_domain_step}
+use Rattle.domain_isolation.proofs.Played.{met_stops}
 use Rattle.domain_isolation.proofs.InsideSteps.{ended_met}
 
 -- A hart outside.
@@ -73,39 +66,6 @@ pub outside_keeps : (j : Joint) (number : ℕ) (h : Hart) → (outside_step j nu
 unfolding outside_step after_outside settled_step made_after
 outside_keeps j number h = ended_keeps _ number _ _ ∙ (touched_draws {count = 0} h j.disk j.memory).plain
 
--- If a script has met a violation, it was stopped.
-
-stop_gives : {d : ℕ} {A : Type 0} (e : EndClaims A) (s : Script d A) (w : World) → IsStop e s → e.stopped (played s w).answer
-unfolding IsStop
-stop_gives e (Gives a) w is = is
-stop_gives e _ w is = absurd is
-
-met_by : {d : ℕ} {A : Type 0} (e : EndClaims A) (question : Question d) (more : Answer → Script d A) (w : World) →
-    is_cloaked w ≡ true → violation_of w ≡ None → IsStop e (more told.Stopped) → (o : Option Violation) →
-    violation_of (asked question w).world ≡ o →
-    (o ≡ None → e.stopped (played (more (asked question w).answer) (asked question w).world).answer) →
-    e.stopped (played (more (asked question w).answer) (asked question w).world).answer
-met_by e question more w form none stops None is later = later refl
-met_by e question more w form none stops (Some v) is later =
-    let t = asked question w in
-    let stop : t.answer ≡ told.Stopped = (question_answered question w form).replied.meets none (ap is_some is) in
-    stop_gives e (more t.answer) t.world (subst (λ (a : Answer). IsStop e (more a)) (sym stop) stops)
-
-met_stops : {d : ℕ} {A : Type 0} (e : EndClaims A) (s : Script d A) (w : World) → EndsSo e s → is_cloaked w ≡ true →
-    violation_of w ≡ None → is_some (violation_of (played s w).world) ≡ true → e.stopped (played s w).answer
-unfolding EndsSo ask_read
-met_stops e (Gives a) w ends form none some = absurd (false≢true (sym (ap is_some none) ∙ some))
-met_stops e (Asks question more) w ends form none some =
-    let t = asked question w in
-    met_by e question more w form none ends.1 (violation_of t.world) refl
-    (λ still. met_stops e (more t.answer) t.world (ends.0 t.answer) ((question_answered question w form).replied.form ∙ form)
-    still some)
-met_stops e (Reads q own at width more) w ends form none some =
-    met_stops e (more (ask_read q at width w).answer) w (ends (ask_read q at width w).answer) form none some
-met_stops e (Changes change more) w ends form none some =
-    let left = change_leaves change w form in
-    met_stops e more (changed change w).world ends (left.form ∙ form) (left.violation ∙ none) some
-
 -- A hart inside.
 
 domain_ended_plain : (j : Joint) (number : ℕ) (h : Hart) (e : ℕ) (w : World) (how : Went) →
@@ -122,18 +82,17 @@ interrupt_ended_plain j number h items _ = refl
 
 told_stopped : (slot : ℕ) (was : Domain) (w : World) → is_cloaked w ≡ true → violation_of w ≡ None →
     is_some (violation_of (domain_step slot was w).world) ≡ true → (domain_step slot was w).answer.went ≡ went.Stopped
+unfolding domain_step
 told_stopped slot was w form none some =
     let s = step_scripted slot was in
-    subst (λ (t : Told DomainStepped). t.answer.went ≡ went.Stopped) (sym (s.plays w))
-    (met_stops (of_domain slot was) s.script w s.ends form none
-    (subst (λ (t : Told DomainStepped). is_some (violation_of t.world) ≡ true) (s.plays w) some))
+    (met_stops was.control.number (of_domain slot was) (domain_script slot was) s.own w s.ends form none some).stopped
 
 step_calm : (slot : ℕ) (was : Domain) (j : Joint) (number : ℕ) (h : Hart) (e : ℕ) (pages : ℕ → Option PageId) →
     let t = after_domain_step j number h e (domain_step slot was (Cloaked (cloak_of j.memory h e pages))) in
     is_some t.violation ≡ true → t.joint.memory.plain ≡ j.memory.plain
 unfolding after_domain_step
 step_calm slot was j number h e pages some =
-    let c : Cloak = cloak_of j.memory h e pages in
+    let c : MidStep = cloak_of j.memory h e pages in
     let t = domain_step slot was (Cloaked c) in
     let stopped = told_stopped slot was (Cloaked c) refl refl (ended_met _ number h e t.world t.answer.went some) in
     let steps = ends_domain_step {count = suc was.control.number} slot was (Cloaked c) (omega arith) in

@@ -7,7 +7,7 @@ use Rattle.cloak_model.specs.Beginning.{Beginning, opening_from}
 use Rattle.cloak_model.specs.Bundle.{IsInGrammar}
 use Rattle.cloak_model.specs.Cloaking.{CloakedMemory}
 use Rattle.cloak_model.specs.Joint.{Turn}
-use Rattle.cloak_model.specs.Opening.{Opened}
+use Rattle.cloak_model.specs.Opening.{RunEdge}
 use Rattle.cloak_model.specs.Run.{Run, turns_from, joint_after, first_moment, run_of, closing}
 use Rattle.page_law.specs.Ciphers.{keys_drawn, ShowsPage, ShowPages, pages_of_programs, ciphers_of_steps, draws_before, placing_draw, ciphers_in, InOpening, InStep, InClosing, items_of_turn, ShowsPages, CiphersShowPages}
 use Rattle.page_law.specs.Keys.{HaveOwnKeys, PagesKeepTheirKeys, ClosingKeepsKeys}
@@ -22,7 +22,7 @@ pub nothing_there : (at : ℕ) (i : Item) → slice_get [] at ≡ Some i → ⊥
 nothing_there zero i is = cc
 nothing_there (suc at) i is = cc
 
-opened_shows : (b : Bundle) (from : Beginning) (budget : ℕ) (o : Opened) → IsInGrammar b → opening_from b from ≡ Ok o →
+opened_shows : (b : Bundle) (from : Beginning) (budget : ℕ) (o : RunEdge) → IsInGrammar b → opening_from b from ≡ Ok o →
     let r = run_of b budget o in
     (at f : ℕ) (bytes : List ℕ) → slice_get r.opened.items at ≡ Some (item.Cipher f bytes) →
     ShowsPage b.programs from r.opened.joint.memory.plain (placing_draw (keys_drawn b.programs from) b.programs f) bytes
@@ -37,12 +37,12 @@ count_is b from turns n =
     omega (arith, count)
 
 -- the steps of a run, with the draws that its opening made
-record RunUses (b : Bundle) (from : Beginning) (budget : ℕ) (o : Opened) : Type 0 where
+record RunUses (b : Bundle) (from : Beginning) (budget : ℕ) (o : RunEdge) : Type 0 where
   pub turns : TurnsUse (length b.programs) o.joint (turns_from budget (first_moment b o.joint))
   pub drawn : HasDrawn (length b.programs) b.programs from (keys_drawn b.programs from + pages_of_programs b.programs)
       o.joint.memory.ledger
 
-run_uses : (b : Bundle) (from : Beginning) (budget : ℕ) (o : Opened) → IsInGrammar b → opening_from b from ≡ Ok o →
+run_uses : (b : Bundle) (from : Beginning) (budget : ℕ) (o : RunEdge) → IsInGrammar b → opening_from b from ≡ Ok o →
     RunUses b from budget o
 run_uses b from budget o grammar opens =
     let shows = opening_shows b from o grammar opens in
@@ -52,7 +52,7 @@ run_uses b from budget o grammar opens =
       drawn = shows.drawn;
     }
 
-steps_show : (b : Bundle) (from : Beginning) (budget : ℕ) (o : Opened) → IsInGrammar b → opening_from b from ≡ Ok o →
+steps_show : (b : Bundle) (from : Beginning) (budget : ℕ) (o : RunEdge) → IsInGrammar b → opening_from b from ≡ Ok o →
     let r = run_of b budget o in
     (n : ℕ) (t : Turn) → slice_get r.turns n ≡ Some t →
     ShowPages b.programs from (joint_until n r).memory.plain (draws_before b from r n) t.items
@@ -67,7 +67,7 @@ steps_show b from budget o grammar opens n t is =
     (count_is b from turns n) shown)
 
 -- after n steps
-until_drawn : (b : Bundle) (from : Beginning) (budget : ℕ) (o : Opened) → IsInGrammar b → opening_from b from ≡ Ok o →
+until_drawn : (b : Bundle) (from : Beginning) (budget : ℕ) (o : RunEdge) → IsInGrammar b → opening_from b from ≡ Ok o →
     (n : ℕ) → let r = run_of b budget o in
     HasDrawn (length b.programs) b.programs from (draws_before b from r n) (joint_until n r).memory.ledger
 unfolding run_of
@@ -79,26 +79,26 @@ until_drawn b from budget o grammar opens n =
     (drawn_behind b.programs from (keys_drawn b.programs from + pages_of_programs b.programs) n o.joint turns uses.turns
     uses.drawn)
 
-all_steps : (b : Bundle) (budget : ℕ) (o : Opened) → let r = run_of b budget o in
+all_steps : (b : Bundle) (budget : ℕ) (o : RunEdge) → let r = run_of b budget o in
     closing (joint_until (length r.turns) r) ≡ r.closed
 unfolding run_of
 all_steps b budget o =
     let turns : List Turn = turns_from budget (first_moment b o.joint) in
     ap (λ (ts : List Turn). closing (joint_after o.joint ts)) (take_all (length turns) turns (omega arith))
 
-closing_shows : (b : Bundle) (from : Beginning) (budget : ℕ) (o : Opened) → IsInGrammar b → opening_from b from ≡ Ok o →
+closing_shows : (b : Bundle) (from : Beginning) (budget : ℕ) (o : RunEdge) → IsInGrammar b → opening_from b from ≡ Ok o →
     let r = run_of b budget o in let n = length r.turns in
     ShowPages b.programs from (joint_until n r).memory.plain (draws_before b from r n) r.closed.items
 closing_shows b from budget o grammar opens =
     let r = run_of b budget o in
     let j = joint_until (length r.turns) r in
     each_shown b.programs from _ _ r.closed.items
-    (subst (λ (c : Opened). AreShown b.programs from j.memory.plain (draws_before b from r (length r.turns)) c.items)
+    (subst (λ (c : RunEdge). AreShown b.programs from j.memory.plain (draws_before b from r (length r.turns)) c.items)
     (all_steps b budget o)
     (closing_shown b.programs from _ j (until_drawn b from budget o grammar opens (length r.turns))))
 
 -- every Cipher
-ciphers_show : (b : Bundle) (from : Beginning) (budget : ℕ) (o : Opened) → IsInGrammar b → opening_from b from ≡ Ok o →
+ciphers_show : (b : Bundle) (from : Beginning) (budget : ℕ) (o : RunEdge) → IsInGrammar b → opening_from b from ≡ Ok o →
     ShowsPages b from (run_of b budget o)
 ciphers_show b from budget o grammar opens (InOpening at) frame bytes is =
     opened_shows b from budget o grammar opens at frame bytes is
@@ -126,12 +126,12 @@ pages_keep_their_keys b from budget r grammar is n =
     of_opened b budget (λ (x : Run). HaveOwnKeys b.programs from (joint_until n x).memory.ledger) (opening_from b from) r
     is (λ o opens. (until_drawn b from budget o grammar opens n).keys)
 
-closing_has_keys : (b : Bundle) (from : Beginning) (budget : ℕ) (o : Opened) → IsInGrammar b → opening_from b from ≡ Ok o →
+closing_has_keys : (b : Bundle) (from : Beginning) (budget : ℕ) (o : RunEdge) → IsInGrammar b → opening_from b from ≡ Ok o →
     HaveOwnKeys b.programs from (run_of b budget o).closed.joint.memory.ledger
 closing_has_keys b from budget o grammar opens =
     let r = run_of b budget o in
     let j = joint_until (length r.turns) r in
-    subst (λ (c : Opened). HaveOwnKeys b.programs from c.joint.memory.ledger) (all_steps b budget o)
+    subst (λ (c : RunEdge). HaveOwnKeys b.programs from c.joint.memory.ledger) (all_steps b budget o)
     (closing_drawn b.programs from _ j (until_drawn b from budget o grammar opens (length r.turns))).keys
 
 pub closing_keeps_keys : ClosingKeepsKeys

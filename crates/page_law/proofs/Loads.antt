@@ -14,13 +14,13 @@ use Rattle.cloak_model.specs.declared.inside.Went.{Went}
 use Rattle.cloak_model.specs.declared.inside.Went.TheVariants as went
 use Rattle.cloak_model.specs.declared.item.Item.{Item}
 use Rattle.cloak_model.specs.declared.outcome.Kernel.{Kernel}
-use Rattle.cloak_model.specs.declared.outcome.Kernel.TheVariants.{Stay, Resume}
+use Rattle.cloak_model.specs.declared.outcome.Kernel.TheVariants.{Resume}
 use Rattle.cloak_model.specs.Asking.{Told}
 use Rattle.cloak_model.specs.Beginning.{opening_from}
 use Rattle.cloak_model.specs.Calls.{Copy, copy_in_step, copy_out_step}
 use Rattle.cloak_model.specs.Contexts.{Context, Admitted, context_at, domain_of, slot_of}
 use Rattle.cloak_model.specs.DomainState.{Control, Domain}
-use Rattle.cloak_model.specs.DomainStep.{DomainStepped, instruction_ended, copy_ended, after_write, phase_step, step_if, domain_step}
+use Rattle.cloak_model.specs.DomainStep.{domain_script, DomainStepped, instruction_ended, copy_ended, after_write, phase_step, step_if, domain_step}
 use Rattle.cloak_model.specs.Hart.{Hart}
 use Rattle.cloak_model.specs.InsideStep.{AfterInstruction, instruction_inside}
 use Rattle.cloak_base.specs.declared.causes.Violation.{Violation}
@@ -28,12 +28,14 @@ use Rattle.cloak_model.specs.Ending.{ended_domain}
 use Rattle.cloak_model.specs.Joint.{next_hart, hart_in, end_domain, ends_once, ends_resumed, ends_asked, answers_violation}
 use Rattle.cloak_model.specs.Joint.{Moment, Turn, cloak_of, outside_ended, after_outside, outside_step, domain_ended, after_domain_step, pages_for, interrupt_ended, after_interrupt, by_interrupt, by_running, inside_step, turn_of, joint_step}
 use Rattle.cloak_model.specs.KernelStep.{ticked}
-use Rattle.cloak_model.specs.Opening.{Opened}
+use Rattle.cloak_model.specs.Opening.{RunEdge}
 use Rattle.cloak_model.specs.Parts.{Joint}
 use Rattle.cloak_model.specs.Resuming.{resume}
 use Rattle.cloak_model.proofs.ResumeParts.{by_root, by_context, by_domain}
 use Rattle.cloak_model.specs.Run.{Run, turns_from, first_moment, run_of}
-use Rattle.cloak_model.specs.World.{World, Cloak, Cloaked}
+use Rattle.cloak_model.specs.World.{World, MidStep, Cloaked}
+use Rattle.cloak_model.specs.Script.{played}
+use Rattle.cloak_model.proofs.Playing.{by_plain, by_copy_in, by_copy_out, by_ecall}
 use Rattle.page_law.specs.Ciphers.{}
 use Rattle.kernel_isolation.specs.Isolation.{joint_until}
 use Rattle.page_law.specs.Loads.{LoadsNewest, NoLoad, OneLoad, StepsLoadNewest}
@@ -46,16 +48,19 @@ use Rattle.page_law.proofs.StepLoads.{HasPlain, LoadsIn, CopiesIn, loads_instruc
 
 instruction_loads : (plain : PageId → List ℕ) (slot : ℕ) (d : Domain) (c : Context) (t : Told AfterInstruction)
     (e : Ran) → t.answer.ending ≡ e → context_at d.control.contexts slot ≡ Some c →
-    LoadsIn d.control.number d.control.resources c.space plain t →
-    LoadsNewest d plain (instruction_ended slot d t.answer.context e t.world).answer.domain
+    LoadsIn d.control.number d.control.resources c.space plain t.answer →
+    LoadsNewest d plain (played (instruction_ended slot d t.answer.context e) t.world).answer.domain
 unfolding instruction_ended
 instruction_loads plain slot d c t (ran.Loaded va value) is at loads =
     OneLoad slot c at va value refl (loads va value is)
+instruction_loads plain slot d c t ran.Ecall is at loads =
+    by_ecall (λ (x : Told DomainStepped). LoadsNewest d plain x.answer.domain) slot d t.answer.context t.world
+    (NoLoad refl)
 instruction_loads plain slot d c t _ is at loads = NoLoad refl
 
 copy_loads : (plain : PageId → List ℕ) (slot : ℕ) (d : Domain) (c : Context) (t : Told Copy) (e : Copied) →
     t.answer.ending ≡ e → context_at d.control.contexts slot ≡ Some c →
-    CopiesIn d.control.number d.control.resources c.space plain t →
+    CopiesIn d.control.number d.control.resources c.space plain t.answer →
     LoadsNewest d plain (copy_ended slot d t.answer.context e).domain
 unfolding copy_ended
 copy_loads plain slot d c t (copied.Loaded va value) is at loads = OneLoad slot c at va value refl (loads va value is)
@@ -74,32 +79,36 @@ written_loads (Some place) s = refl
 
 phase_loads : (plain : PageId → List ℕ) (phase : Phase) (slot : ℕ) (c : Context) (d : Domain) (w : World) →
     context_at d.control.contexts slot ≡ Some c → HasPlain plain w →
-    LoadsNewest d plain (phase_step phase slot c d w).answer.domain
+    LoadsNewest d plain (played (phase_step phase slot c d) w).answer.domain
 unfolding phase_step
 phase_loads plain Plain slot c d w at has =
     let n = d.control.number in
     let r = d.control.resources in
-    let t = instruction_inside n r c w in
-    loads_stay d plain _ _ (written_loads t.answer.wrote _)
-    (instruction_loads plain slot d c t _ refl at (loads_instruction n r plain c w has))
+    let t = played (instruction_inside n r c) w in
+    by_plain (λ (x : Told DomainStepped). LoadsNewest d plain x.answer.domain) slot c d w
+    (loads_stay d plain _ _ (written_loads t.answer.wrote _)
+    (instruction_loads plain slot d c t _ refl at (loads_instruction n r plain c w has)))
 phase_loads plain (CopyIn done) slot c d w at has =
-    copy_loads plain slot d c (copy_in_step d.control.number d.control.resources c done w) _ refl at
-    (copies_in d.control.number d.control.resources plain c done w has)
+    let t = played (copy_in_step d.control.number d.control.resources c done) w in
+    by_copy_in (λ (x : Told DomainStepped). LoadsNewest d plain x.answer.domain) done slot c d w
+    (copy_loads plain slot d c t _ refl at (copies_in d.control.number d.control.resources plain c done w has))
 phase_loads plain Waiting slot c d w at has = NoLoad refl
 phase_loads plain (CopyOut done total) slot c d w at has =
-    let t = copy_out_step d.control.number d.control.resources c done total w in
-    loads_stay d plain _ _ (written_loads t.answer.wrote _)
-    (copy_loads plain slot d c t _ refl at (copies_out d.control.number d.control.resources plain c done total w))
+    let t = played (copy_out_step d.control.number d.control.resources c done total) w in
+    by_copy_out (λ (x : Told DomainStepped). LoadsNewest d plain x.answer.domain) done total slot c d w
+    (loads_stay d plain _ _ (written_loads t.answer.wrote _)
+    (copy_loads plain slot d c t _ refl at (copies_out d.control.number d.control.resources plain c done total w has)))
 
 step_if_loads : (plain : PageId → List ℕ) (o : Option Context) (slot : ℕ) (d : Domain) (w : World) →
-    context_at d.control.contexts slot ≡ o → HasPlain plain w → LoadsNewest d plain (step_if o slot d w).answer.domain
+    context_at d.control.contexts slot ≡ o → HasPlain plain w →
+    LoadsNewest d plain (played (step_if o slot d) w).answer.domain
 unfolding step_if
 step_if_loads plain None slot d w at has = NoLoad refl
 step_if_loads plain (Some c) slot d w at has = phase_loads plain c.phase slot c d w at has
 
 step_loads : (plain : PageId → List ℕ) (slot : ℕ) (d : Domain) (w : World) → HasPlain plain w →
     LoadsNewest d plain (domain_step slot d w).answer.domain
-unfolding domain_step
+unfolding domain_step domain_script
 step_loads plain slot d w has = step_if_loads plain _ slot d w refl has
 
 -- A step of the joint machine.
@@ -188,7 +197,7 @@ by_load true j number h e slot found there =
     subst (DomainsLoad j.domains j.memory.plain) (sym (interrupt_ended_same _ number h _ _))
     (set_load j.domains j.memory.plain e found (record found { control = _ }) there (NoLoad refl))
 by_load false j number h e slot found there =
-    let c : Cloak = cloak_of j.memory h e (pages_for found (context_at found.control.contexts slot)) in
+    let c : MidStep = cloak_of j.memory h e (pages_for found (context_at found.control.contexts slot)) in
     subst (DomainsLoad j.domains j.memory.plain) (sym (domain_ended_same _ number h e _ _))
     (set_load j.domains j.memory.plain e found _ there
     (step_loads j.memory.plain slot found (Cloaked c) (record { cloak = c; is = refl; same = refl })))
@@ -262,7 +271,7 @@ joint_load m =
     answers_load h.inside _ m.joint.domains m.joint.memory.plain (turn_of m.joint (next_hart m) h h.inside)
     (turn_load m.joint (next_hart m) h h.inside)
 
-run_loads : (b : Bundle) (budget : ℕ) (o : Opened) → let r = run_of b budget o in
+run_loads : (b : Bundle) (budget : ℕ) (o : RunEdge) → let r = run_of b budget o in
     (n : ℕ) (t : Turn) → slice_get r.turns n ≡ Some t →
     DomainsLoad (joint_until n r).domains (joint_until n r).memory.plain t.joint.domains
 unfolding run_of

@@ -16,7 +16,7 @@ use Rattle.cloak_model.specs.Beginning.{Beginning, Fresh, Stored, opening_from}
 use Rattle.cloak_model.specs.Bundle.{IsInGrammar}
 use Rattle.cloak_model.specs.Cloaking.{CloakedMemory}
 use Rattle.cloak_model.specs.Ledger.{Keys, key_in, key_of, vector_of}
-use Rattle.cloak_model.specs.Opening.{key_count, started_domains, numbers_below, started_ledger, started_memory, program_page, place_pages, place_programs, started_joint, is_placed, opening_items, Opened}
+use Rattle.cloak_model.specs.Opening.{key_count, started_domains, numbers_below, started_ledger, started_memory, program_page, place_pages, place_programs, started_joint, is_placed, opening_items, RunEdge}
 use Rattle.cloak_model.specs.PageMoves.{place, place_with}
 use Rattle.kernel_isolation.proofs.FilesAdded.{added_keep, HasKeys, files_of, opens_over}
 use Rattle.page_law.specs.Ciphers.{draw_at, stream_of, keys_drawn, shown_under, ShowsPage, pages_of_programs, placing_draw}
@@ -448,7 +448,7 @@ pub record OpeningPlaces (b : Bundle) (items : List Item) : Type 0 where
       slice_get items at' ≡ Some (item.Cipher f bytes') → at ≡ at'
 
 -- The opening shows each page as it begins, and the draws after it are known.
-pub record OpeningShows (b : Bundle) (from : Beginning) (o : Opened) : Type 0 where
+pub record OpeningShows (b : Bundle) (from : Beginning) (o : RunEdge) : Type 0 where
   pub drawn : HasDrawn (length b.programs) b.programs from (keys_drawn b.programs from + pages_of_programs b.programs)
       o.joint.memory.ledger
   pub count : length o.joint.domains ≡ length b.programs
@@ -528,13 +528,13 @@ started_drawn b (Stored handed stream files) keys rest grammar has = record {
   next = ap next_draw has.stays;
 }
 
-pub opening_places : (b : Bundle) (from : Beginning) (o : Opened) → opening_from b from ≡ Ok o →
+pub opening_places : (b : Bundle) (from : Beginning) (o : RunEdge) → opening_from b from ≡ Ok o →
     OpeningPlaces b o.items
 opening_places b from o opens =
     let over = opens_over b from o opens in
     subst (OpeningPlaces b) (sym over.items) (items_place b over.memory.ram)
 
-pub opening_shows : (b : Bundle) (from : Beginning) (o : Opened) → IsInGrammar b → opening_from b from ≡ Ok o →
+pub opening_shows : (b : Bundle) (from : Beginning) (o : RunEdge) → IsInGrammar b → opening_from b from ≡ Ok o →
     OpeningShows b from o
 unfolding started_joint
 opening_shows b from o grammar opens =

@@ -7,7 +7,7 @@ use Rattle.cloak_model.specs.declared.item.Item.{Item}
 use Rattle.cloak_model.specs.declared.item.Item.TheVariants as item
 use Rattle.cloak_model.specs.Beginning.{Beginning, opening_from}
 use Rattle.cloak_model.specs.Joint.{Turn}
-use Rattle.cloak_model.specs.Opening.{Opened, is_placed}
+use Rattle.cloak_model.specs.Opening.{RunEdge, is_placed}
 use Rattle.cloak_model.specs.Run.{Run, run_of}
 use Rattle.page_law.specs.Ciphers.{keys_drawn, cipher_count, ciphers_in, pages_of_programs, ciphers_of_steps, draws_before, placing_draw, ItemPlace, InOpening, InStep, InClosing, items_of_turn, item_at, draw_number, HaveOwnDraws, CiphersHaveOwnDraws}
 use Rattle.page_law.proofs.Opened.{inside_or_apart, apart_later, OpeningPlaces, opening_places}
@@ -232,12 +232,12 @@ own_draws b from r places = record { not_key = later; apart = apart }
         ap (λ (x : ℕ). InClosing x)
         (not_as_many r.closed.items at at' f f' bytes bytes' is is' (omega (arith, same)))
 
-run_opens : (b : Bundle) (from : Beginning) (budget : ℕ) (o : Opened) → opening_from b from ≡ Ok o →
+run_opens : (b : Bundle) (from : Beginning) (budget : ℕ) (o : RunEdge) → opening_from b from ≡ Ok o →
     OpeningPlaces b (run_of b budget o).opened.items
 unfolding run_of
 run_opens b from budget o opens = opening_places b from o opens
 
-run_has_own_draws : (b : Bundle) (from : Beginning) (budget : ℕ) (o : Opened) → opening_from b from ≡ Ok o →
+run_has_own_draws : (b : Bundle) (from : Beginning) (budget : ℕ) (o : RunEdge) → opening_from b from ≡ Ok o →
     HaveOwnDraws b from (run_of b budget o)
 run_has_own_draws b from budget o opens =
     own_draws b from (run_of b budget o) (run_opens b from budget o opens)

@@ -12,14 +12,15 @@ use Rattle.cloak_model.specs.Beginning.{Beginning, opening_from}
 use Rattle.cloak_model.specs.Cloaking.{CloakedMemory}
 use Rattle.cloak_model.specs.Contexts.{domain_of, slot_of}
 use Rattle.cloak_model.specs.DomainState.{Domain}
-use Rattle.cloak_model.specs.DomainStep.{DomainStepped, domain_step}
+use Rattle.cloak_model.specs.DomainStep.{domain_script, DomainStepped, domain_step}
 use Rattle.cloak_model.specs.Hart.{Hart}
 use Rattle.cloak_model.specs.Joint.{Moment, Turn, next_hart, hart_in, cloak_of, memory_of, domain_ended, after_domain_step, interrupt_ended, after_interrupt, by_interrupt, by_running, inside_step, turn_of, joint_step, after_turn, stop_of}
 use Rattle.cloak_model.specs.KernelStep.{ticked}
-use Rattle.cloak_model.specs.Opening.{Opened}
+use Rattle.cloak_model.specs.Opening.{RunEdge}
 use Rattle.cloak_model.specs.Parts.{Joint, domain_pages}
 use Rattle.cloak_model.specs.Run.{Run, unless_stopped, turns_from, joint_after, first_moment, run_of, closing}
 use Rattle.cloak_model.specs.World.{World, Cloaked, plain_of}
+use Rattle.cloak_model.specs.Script.{played}
 use Rattle.domain_isolation.proofs.Played.{played_serving, played_others}
 use Rattle.script_fold.proofs.StepScripts.{step_scripted}
 use Rattle.domain_isolation.proofs.Answers.{IsServing}
@@ -75,16 +76,15 @@ told_keeps d j number h e told form kept =
 step_keeps : (d slot : ℕ) (was : Domain) (j : Joint) (number : ℕ) (h : Hart) (e : ℕ) (pages : ℕ → Option PageId) →
     was.control.number ≡ e → d ≢ e →
     Keeps d j (after_domain_step j number h e (domain_step slot was (Cloaked (cloak_of j.memory h e pages)))).joint
+unfolding domain_step
 step_keeps d slot was j number h e pages own other =
     let w : World = Cloaked (cloak_of j.memory h e pages) in
-    let s = step_scripted slot was in
-    let serving : IsServing was.control.number w = record { form = refl; regime = sym own } in
-    let serves = played_serving s.script w serving in
-    let apart : d ≢ was.control.number = λ is. other (is ∙ own) in
-    told_keeps d j number h e (domain_step slot was w)
-    (ap (λ (t : Told DomainStepped). is_cloaked t.world) (s.plays w) ∙ serves.form)
-    (ap (λ (t : Told DomainStepped). domain_pages d (plain_of t.world)) (s.plays w)
-    ∙ played_others s.script w serving d apart)
+    let n = was.control.number in
+    let s = domain_script slot was in
+    let of_it = (step_scripted slot was).own in
+    let serving : IsServing n w = record { form = refl; regime = sym own } in
+    told_keeps d j number h e (played s w) (played_serving n s of_it w serving).form
+    (played_others n s of_it w serving d (λ is. other (is ∙ own)))
 
 by_keeps : (d : ℕ) (due : Bool) (j : Joint) (number : ℕ) (h : Hart) (e slot : ℕ) (was : Domain) →
     was.control.number ≡ e → d ≢ e → Keeps d j (by_interrupt due j number h e slot was).joint
@@ -214,7 +214,7 @@ joint_keeps d m programs other gone =
     answers_keep d h.inside _ m.joint (turn_of m.joint (next_hart m) h h.inside)
     (turn_keeps d m.joint (next_hart m) h h.inside programs other) gone
 
-steps_keep : (b : Bundle) (from : Beginning) (budget : ℕ) (o : Opened) → opening_from b from ≡ Ok o →
+steps_keep : (b : Bundle) (from : Beginning) (budget : ℕ) (o : RunEdge) → opening_from b from ≡ Ok o →
     let r = run_of b budget o in
     (n : ℕ) (t : Turn) → slice_get r.turns n ≡ Some t → (d : ℕ) → program_of_step b r n ≢ Some d →
     ends_in d t.items ≡ false → domain_pages d t.joint.memory.plain ≡ domain_pages d (joint_until n r).memory.plain
@@ -236,7 +236,7 @@ closing_is_kept : (j : Joint) → (closing j).joint.memory.plain ≡ j.memory.pl
 unfolding closing
 closing_is_kept j = (below_draws {count = 0} (length j.memory.ram) j.memory (hart_in j 0)).plain
 
-closing_keeps : (b : Bundle) (budget : ℕ) (o : Opened) → let r = run_of b budget o in
+closing_keeps : (b : Bundle) (budget : ℕ) (o : RunEdge) → let r = run_of b budget o in
     r.closed.joint.memory.plain ≡ (joint_until (length r.turns) r).memory.plain
 unfolding run_of
 closing_keeps b budget o =

@@ -1,5 +1,5 @@
 -- What a program's questions show: pages as they are, under draws one after another; and its changes show nothing.
-use Rattle.std.proofs.Common.{◌≡◌, ℕ, ◌<◌, ◌+◌, ◌*◌, ◌%◌, ◌^◌, Bool, List, [], ◌∷◌, ◌++◌, Ok, refl, sym}
+use Rattle.std.proofs.Common.{◌≡◌, ℕ, ◌<◌, ◌*◌, ◌%◌, ◌^◌, Bool, List, [], ◌∷◌, ◌++◌, refl, sym}
 use Rattle.std.proofs.lemmas.List.{append-nil}
 use Rattle.cloak_base.specs.declared.names.Kind.{Kind}
 use Rattle.cloak_base.specs.declared.names.PageId.{PageId}
@@ -10,7 +10,7 @@ use Rattle.cloak_model.specs.AskPages.{offer_events, answer_item, replies, put_a
 use Rattle.cloak_model.specs.Cloaking.{offer, settle}
 use Rattle.cloak_model.specs.Events.{Event}
 use Rattle.cloak_model.specs.PageMoves.{copy_pages, drop_pages}
-use Rattle.cloak_model.specs.World.{World, Cloak, Flat, Cloaked, Alone, settled, cipher_items, noted, written, stored_at}
+use Rattle.cloak_model.specs.World.{World, MidStep, Flat, Cloaked, Alone, settled, cipher_items, noted, written, stored_at}
 use Rattle.script_fold.proofs.Questions.{Replies, opens_by, keeps_reached_page, keeps_get, keeps_stored, keeps_clear}
 use Rattle.page_law.proofs.Draws.{draws_same}
 use Rattle.page_law.proofs.Settlings.{settle_draws, offer_draws}
@@ -32,7 +32,7 @@ shows_noted events (Alone h) = no_alone h _
 
 -- Answers.
 
-inward_shows : {count : ℕ} (c : Cloak) (d : ℕ) (a : Answer) →
+inward_shows : {count : ℕ} (c : MidStep) (d : ℕ) (a : Answer) →
     OnlyShows count (Cloaked c) (Cloaked (record c { items = c.items ++ answer_item d a ∷ [] }))
 inward_shows c d answer.Ok = shows_item c (item.Ok d) (λ n. refl) (λ p s plain n. tt)
 inward_shows c d (answer.Absent cause) = shows_item c (item.Absent d cause) (λ n. refl) (λ p s plain n. tt)
@@ -45,7 +45,7 @@ shows_replies a (Flat seen) = no_flat seen _
 shows_replies a (Cloaked c) = inward_shows c c.regime.domain a
 shows_replies a (Alone h) = no_alone h _
 
-offer_shows : {count : ℕ} (q : PageId) (g : ℕ) (write : Bool) (c : Cloak) → q.domain < count →
+offer_shows : {count : ℕ} (q : PageId) (g : ℕ) (write : Bool) (c : MidStep) → q.domain < count →
     let o = offer q g write c.memory in
     OnlyShows count (Cloaked c)
     (Cloaked
@@ -116,7 +116,7 @@ shows_clear {count} domain marked w = keeps_clear (OnlyShows count) show_replies
 
 -- Changes of its own pages.
 
-quiet : (c c' : Cloak) → c'.items ≡ c.items → c'.memory.ledger.keys ≡ c.memory.ledger.keys →
+quiet : (c c' : MidStep) → c'.items ≡ c.items → c'.memory.ledger.keys ≡ c.memory.ledger.keys →
     c'.memory.ledger.owed ≡ c.memory.ledger.owed → c'.memory.ledger.stream ≡ c.memory.ledger.stream →
     OnlyChanges (Cloaked c) (Cloaked c')
 quiet c c' items keys owed stream =

@@ -9,7 +9,7 @@ use Rattle.cloak_model.specs.Joint.{Moment, Turn, joint_step, after_turn, stop_o
 use Rattle.cloak_model.specs.Cloaking.{CloakedMemory}
 use Rattle.cloak_model.specs.Parts.{Joint}
 use Rattle.cloak_model.specs.Run.{unless_stopped, turns_from, joint_after, settled_below, closing}
-use Rattle.cloak_model.specs.World.{Cloak, cipher_items}
+use Rattle.cloak_model.specs.World.{MidStep, cipher_items}
 use Rattle.page_law.specs.Ciphers.{ciphers_of_steps}
 use Rattle.kernel_isolation.proofs.Turns.{IsSteady, turn_is_alone}
 use Rattle.page_law.proofs.Counts.{step_counts}
@@ -80,7 +80,7 @@ pub below_draws : {count : ℕ} (n : ℕ) (m : CloakedMemory) (h : Hart) → let
 unfolding settled_below
 below_draws zero m h = draws_same m m refl refl
 below_draws (suc n) m h =
-    let c : Cloak = settled_below n (cloak_outside m h) in
+    let c : MidStep = settled_below n (cloak_outside m h) in
     draws_then m c.memory _ c.items (cipher_items (settle n c.memory).ciphers) (below_draws n m h)
     (settle_draws n c.memory)
 

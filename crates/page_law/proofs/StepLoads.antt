@@ -1,13 +1,10 @@
 -- What a step of a program loads of its own pages is what they have newest.
-use Rattle.std.proofs.Common.{◌≡◌, ◌∙◌, ℕ, suc, ◌%◌, inl, inr, Bool, true, false, List, Option, Some, None, ℤ, refl, ap, subst, arith}
+use Rattle.std.proofs.Common.{◌≡◌, ◌∙◌, ℕ, suc, ◌%◌, inl, inr, Bool, true, false, List, Option, Some, None, ℤ, refl, ap, subst, sym, arith}
 use Rattle.std.specs.Prelude.{◌==◌}
-use Rattle.cloak_base.specs.declared.names.Kind.{Kind}
-use Rattle.cloak_base.specs.declared.names.Kind.TheVariants.{Fetch, Load}
 use Rattle.cloak_base.specs.declared.names.PageId.{PageId}
 use Rattle.cloak_base.specs.Registers.{register}
 use Rattle.rv_isa.specs.declared.instr.Instr.{Instr}
 use Rattle.rv_isa.specs.declared.instr.Instr.TheVariants as instr
-use Rattle.rv_isa.specs.Table.{instruction}
 use Rattle.rv_atomic.specs.Table.{atomic_instruction}
 use Rattle.rv_atomic.specs.declared.atomic.Atomic.{Atomic}
 use Rattle.rv_atomic.specs.declared.atomic.AtomicOp.{AtomicOp}
@@ -18,25 +15,28 @@ use Rattle.cloak_model.specs.declared.inside.Ran.TheVariants as ran
 use Rattle.cloak_model.specs.declared.inside.Copied.TheVariants as copied
 use Rattle.cloak_model.specs.declared.outcome.Effect.{Effect}
 use Rattle.cloak_model.specs.declared.outcome.Effect.TheVariants as does
-use Rattle.cloak_model.specs.Asking.{Told}
-use Rattle.cloak_model.specs.AskPages.{ask_reach, ask_read}
+use Rattle.cloak_model.specs.AskPages.{ask_read}
+use Rattle.cloak_model.specs.Calls as calls
 use Rattle.cloak_model.specs.Calls.{Copy, copy_in_step, copy_out_step, byte_address, buffer}
-use Rattle.cloak_model.proofs.CallParts.{in_put, in_reached, in_placed, in_step, out_reached, out_got, out_placed, out_step}
-use Rattle.cloak_model.specs.Contexts.{Context}
+use Rattle.cloak_model.proofs.CallParts.{in_placed, in_step, out_placed, out_step}
+use Rattle.cloak_model.specs.Contexts.{Context, word_of_page, is_reserved}
 use Rattle.cloak_model.specs.Effect.{IsWidth, offset, effect, jump, go, branch, load_effect, store_effect}
-use Rattle.cloak_model.specs.InsideStep.{AfterInstruction, load_inside, store_inside, atomic_granted, atomic_placed, atomic_inside, system_inside, done_inside, decoded_inside, fetch, instruction_inside}
-use Rattle.cloak_model.proofs.InsideParts.{loaded_inside, load_reached, load_got, store_reached, store_put, conditional_inside, atomic_reached, executed_inside, fetched_inside}
+use Rattle.cloak_model.specs.InsideStep.{AfterInstruction, if_reached, if_got, load_inside, store_inside, atomic_granted, atomic_placed, atomic_inside, system_inside, done_inside, decoded_inside, fetch, instruction_inside}
 use Rattle.cloak_model.specs.Memory.{value_in}
 use Rattle.cloak_model.specs.Resources.{Resources, page_at}
-use Rattle.cloak_model.specs.World.{World, Cloak, Cloaked, plain_of}
+use Rattle.cloak_model.specs.World.{World, MidStep, Cloaked, plain_of}
+use Rattle.cloak_model.specs.Script.{Script, Gives, Asks, Reads, Changes, asked, changed, played}
+use Rattle.script_fold.proofs.Scripts.{IsOwn, ChangesOnly, ChangesLast}
+use Rattle.script_fold.proofs.InstructionScripts.{of_instruction, instruction_scripted}
+use Rattle.script_fold.proofs.CopyScripts.{of_copy, copy_in_scripted, copy_out_scripted}
 use Rattle.page_law.specs.Loads.{IsLoadOf}
 use Rattle.kernel_isolation.proofs.Shown.{either}
 use Rattle.page_law.proofs.Worlds.{OnlyShows}
-use Rattle.page_law.proofs.Questions.{shows_reach}
+use Rattle.page_law.proofs.Steps.{shows_asked}
 
 -- A world of the joint machine in which pages have these bytes.
 pub record HasPlain (plain : PageId → List ℕ) (w : World) : Type 0 where
-  pub cloak : Cloak
+  pub cloak : MidStep
   pub is : w ≡ Cloaked cloak
   pub same : cloak.memory.plain ≡ plain
 
@@ -45,11 +45,6 @@ has_still : {count : ℕ} (plain : PageId → List ℕ) (w v : World) → OnlySh
 has_still plain w v shows has =
     let s = shows.by has.cloak has.is in
     record { cloak = s.ended.to; is = s.ended.is; same = s.plain ∙ has.same }
-
-has_reached : (plain : PageId → List ℕ) (q : PageId) (va : ℕ) (kind : Kind) (w : World) → HasPlain plain w →
-    HasPlain plain (ask_reach q va kind w).world
-has_reached plain q va kind w has =
-    has_still {count = suc q.domain} plain w _ (shows_reach q va kind w (omega arith)) has
 
 plain_here : (plain : PageId → List ℕ) (w : World) (q : PageId) → HasPlain plain w → plain_of w q ≡ plain q
 plain_here plain w q has =
@@ -111,234 +106,186 @@ effect_width (instr.Sh rs1 rs2 imm) r pc = store_width _ 2 _
 effect_width (instr.Sw rs1 rs2 imm) r pc = store_width _ 4 _
 effect_width _ r pc = no_load _ (λ rd va width signed x. cc)
 
--- An instruction that loads gives the bytes of the page at the address.
-abbrev pub LoadsIn : ℕ → Resources → ℕ → (PageId → List ℕ) → Told AfterInstruction → Type 0
-LoadsIn n r space plain t =
-    (va value : ℕ) → t.answer.ending ≡ ran.Loaded va value → IsLoadOf n r space plain va value
+-- A script's end, where what it reads is what pages have.
 
-loads_reached : (n : ℕ) (r : Resources) (plain : PageId → List ℕ) (c : Context) (q : PageId) (rd va width : ℕ)
-    (signed : Bool) (a : Answer) (w : World) → page_at n r c.space va ≡ Some q → IsWidth width → HasPlain plain w →
-    LoadsIn n r c.space plain (load_reached c q rd va width signed a w)
-unfolding ask_read
-loads_reached n r plain c q rd va width signed told.Ok w lies is has = λ va' value' same.
-    let address : va ≡ va' = cc in
-    let value = plain_here plain w q has in
-    subst (λ (x : ℕ). IsLoadOf n r c.space plain x value') address (record {
-      page = q;
-      lies = lies;
-      width = width;
-      is_width = is;
-      same = cc;
-    })
-loads_reached n r plain c q rd va width signed (told.Absent cause) w lies is has = λ va' value' same. absurd cc
-loads_reached n r plain c q rd va width signed (told.Word x) w lies is has = λ va' value' same. absurd cc
-loads_reached n r plain c q rd va width signed told.Stopped w lies is has = λ va' value' same. absurd cc
+-- each end of a script is so, if its reads are of these pages
+abbrev EndsOn : {A : Type 0} → (PageId → List ℕ) → (A → Type 0) → Script A → Type 0
+EndsOn plain P (Gives a) = P a
+EndsOn plain P (Asks question more) = (answer : Answer) → EndsOn plain P (more answer)
+EndsOn plain P (Reads q at width more) = EndsOn plain P (more (value_in (plain q) at width))
+EndsOn plain P (Changes change more) = EndsOn plain P more
 
-nothing_got : (n : ℕ) (r : Resources) (plain : PageId → List ℕ) (c : Context) (rd va width : ℕ) (signed : Bool)
-    (a : Answer) (w : World) → LoadsIn n r c.space plain (load_got c rd va width signed a w)
-nothing_got n r plain c rd va width signed told.Ok w = λ va' value' same. absurd cc
-nothing_got n r plain c rd va width signed _ w = λ va' value' same. absurd cc
+changed_ends : {A : Type 0} (C P : A → Type 0) (plain : PageId → List ℕ) (s : Script A) (w : World) →
+    ChangesOnly C s → EndsOn plain P s → P (played s w).answer
+unfolding ChangesOnly
+changed_ends C P plain (Gives a) w only ends = ends
+changed_ends C P plain (Changes change more) w only ends =
+    changed_ends C P plain more (changed change w).world only ends
+changed_ends C P plain _ w only ends = absurd only
 
-loads_load : (n : ℕ) (r : Resources) (plain : PageId → List ℕ) (c : Context) (rd va width : ℕ) (signed : Bool)
-    (place : Option PageId) (w : World) → page_at n r c.space va ≡ place → IsWidth width → HasPlain plain w →
-    LoadsIn n r c.space plain (load_inside c rd va width signed place w)
-unfolding load_inside
-loads_load n r plain c rd va width signed None w lies is has = nothing_got n r plain c rd va width signed _ _
-loads_load n r plain c rd va width signed (Some q) w lies is has =
-    loads_reached n r plain c q rd va width signed _ _ lies is
-    (has_reached plain q va Load w has)
+played_ends : (d : ℕ) {A : Type 0} (C P : A → Type 0) (plain : PageId → List ℕ) (s : Script A) (w : World) →
+    IsOwn d s → ChangesLast C s → EndsOn plain P s → HasPlain plain w → P (played s w).answer
+unfolding IsOwn ChangesLast ask_read
+played_ends d C P plain (Gives a) w own last ends has = ends
+played_ends d C P plain (Asks question more) w own last ends has =
+    let t = asked question w in
+    played_ends d C P plain (more t.answer) t.world (own.1 t.answer) (last t.answer) (ends t.answer)
+    (has_still {count = suc d} plain w t.world (shows_asked d question own.0 w (omega arith)) has)
+played_ends d C P plain (Reads q at width more) w own last ends has =
+    let value = value_in (plain_of w q) at width in
+    played_ends d C P plain (more value) w (own.1 value) (last value)
+    (subst (λ (bytes : List ℕ). EndsOn plain P (more (value_in bytes at width)))
+    (sym (plain_here plain w q has)) ends) has
+played_ends d C P plain (Changes change more) w own last ends has =
+    changed_ends C P plain more (changed change w).world last ends
 
-nothing_stored : (n : ℕ) (r : Resources) (plain : PageId → List ℕ) (c : Context) (q : PageId) (va width value : ℕ)
-    (a : Answer) (w : World) → LoadsIn n r c.space plain (store_reached c q va width value a w)
-nothing_stored n r plain c q va width value told.Ok w = λ va' value' same. absurd cc
-nothing_stored n r plain c q va width value _ w = λ va' value' same. absurd cc
+-- An instruction, or a copying step, that loads gives the bytes of the page at the address.
 
-nothing_put : (n : ℕ) (r : Resources) (plain : PageId → List ℕ) (c : Context) (va : ℕ) (a : Answer) (w : World) →
-    LoadsIn n r c.space plain (store_put c va a w)
-nothing_put n r plain c va told.Ok w = λ va' value' same. absurd cc
-nothing_put n r plain c va _ w = λ va' value' same. absurd cc
+abbrev pub LoadsIn : ℕ → Resources → ℕ → (PageId → List ℕ) → AfterInstruction → Type 0
+LoadsIn n r space plain made =
+    (va value : ℕ) → made.ending ≡ ran.Loaded va value → IsLoadOf n r space plain va value
 
-loads_store : (n : ℕ) (r : Resources) (plain : PageId → List ℕ) (c : Context) (va width value : ℕ)
-    (place : Option PageId) (w : World) → LoadsIn n r c.space plain (store_inside c va width value place w)
-unfolding store_inside
-loads_store n r plain c va width value None w = nothing_put n r plain c va _ _
-loads_store n r plain c va width value (Some q) w = nothing_stored n r plain c q va width value _ _
+abbrev pub CopiesIn : ℕ → Resources → ℕ → (PageId → List ℕ) → Copy → Type 0
+CopiesIn n r space plain made =
+    (va value : ℕ) → made.ending ≡ copied.Loaded va value → IsLoadOf n r space plain va value
 
-loads_system : (n : ℕ) (r : Resources) (plain : PageId → List ℕ) (c : Context) (i : Instr) (w : World) →
-    LoadsIn n r c.space plain (system_inside c i w)
-unfolding system_inside
-loads_system n r plain c instr.Ecall w = λ va' value' same. absurd cc
-loads_system n r plain c instr.Ebreak w = λ va' value' same. absurd cc
-loads_system n r plain c _ w = λ va' value' same. absurd cc
+module _ (n : ℕ) (r : Resources) (plain : PageId → List ℕ) (c : Context) where
+  abbrev Loads : Script AfterInstruction → Type 0
+  Loads s = EndsOn plain (LoadsIn n r c.space plain) s
 
-loads_done : (n : ℕ) (r : Resources) (plain : PageId → List ℕ) (c : Context) (i : Instr) (e : Effect) (w : World) →
-    LoadsWidth e → HasPlain plain w → LoadsIn n r c.space plain (done_inside n r c i e w)
-unfolding done_inside
-loads_done n r plain c i (does.Load rd va width signed) w widths has =
-    loads_load n r plain c rd va width signed _ w refl (widths.is rd va width signed refl) has
-loads_done n r plain c i (does.Store va width value) w widths has = loads_store n r plain c va width value _ w
-loads_done n r plain c i does.System w widths has = loads_system n r plain c i w
-loads_done n r plain c i _ w widths has = λ va' value' same. absurd cc
+  loaded : (q : PageId) (va width : ℕ) → page_at n r c.space va ≡ Some q → IsWidth width → (va' value : ℕ) →
+      ran.Loaded va (value_in (plain q) (va % 4096) width) ≡ ran.Loaded va' value → IsLoadOf n r c.space plain va' value
+  loaded q va width lies is va' value same =
+      let address : va ≡ va' = cc in
+      subst (λ (x : ℕ). IsLoadOf n r c.space plain x value) address
+      (record { page = q; lies = lies; width = width; is_width = is; same = cc })
 
--- An atomic instruction that loads gives the word that stood there.
+  reached_loads : (made : Context) (va : ℕ) (next : Script AfterInstruction) → Loads next → (a : Answer) →
+      Loads (if_reached made va a next)
+  reached_loads made va next ends told.Ok = ends
+  reached_loads made va next ends _ = λ va' value same. absurd cc
 
--- the word of a page that is reached
-loads_word : (n : ℕ) (r : Resources) (plain : PageId → List ℕ) (space : ℕ) (q : PageId) (va : ℕ) (w : World) →
-    page_at n r space va ≡ Some q → HasPlain plain w → (va' value' : ℕ) →
-    ran.Loaded va (value_in (plain_of w q) (va % 4096) 4) ≡ ran.Loaded va' value' → IsLoadOf n r space plain va' value'
-loads_word n r plain space q va w lies has va' value' same =
-    let address : va ≡ va' = cc in
-    let value = plain_here plain w q has in
-    subst (λ (x : ℕ). IsLoadOf n r space plain x value') address (record {
-      page = q;
-      lies = lies;
-      width = 4;
-      is_width = inr (inr refl);
-      same = cc;
-    })
+  got_loads : (made : Context) (va : ℕ) (next : ℕ → Script AfterInstruction) → ((value : ℕ) → Loads (next value)) →
+      (a : Answer) → Loads (if_got made va a next)
+  got_loads made va next ends (told.Word value) = ends value
+  got_loads made va next ends _ = λ va' value same. absurd cc
 
-nothing_conditional : (reserved : Bool) (n : ℕ) (r : Resources) (plain : PageId → List ℕ) (c : Context) (rd : ℕ)
-    (q : PageId) (va operand : ℕ) (w : World) →
-    LoadsIn n r c.space plain (conditional_inside reserved c rd q va operand w)
-nothing_conditional true n r plain c rd q va operand w = λ va' value' same. absurd cc
-nothing_conditional false n r plain c rd q va operand w = λ va' value' same. absurd cc
+  load_loads : (rd va width : ℕ) (signed : Bool) (place : Option PageId) → page_at n r c.space va ≡ place →
+      IsWidth width → Loads (load_inside c rd va width signed place)
+  unfolding load_inside
+  load_loads rd va width signed None lies is = got_loads c va _ (λ x va' value same. absurd cc)
+  load_loads rd va width signed (Some q) lies is = reached_loads c va _ (loaded q va width lies is)
 
-loads_granted : (n : ℕ) (r : Resources) (plain : PageId → List ℕ) (c : Context) (rd : ℕ) (op : AtomicOp) (q : PageId)
-    (va operand : ℕ) (w : World) → page_at n r c.space va ≡ Some q → HasPlain plain w →
-    LoadsIn n r c.space plain (atomic_granted c rd op q va operand w)
-unfolding atomic_granted ask_read
-loads_granted n r plain c rd Lr q va operand w lies has = loads_word n r plain c.space q va w lies has
-loads_granted n r plain c rd Sc q va operand w lies has = nothing_conditional _ n r plain c rd q va operand w
-loads_granted n r plain c rd op q va operand w lies has = loads_word n r plain c.space q va w lies has
+  store_loads : (va width value : ℕ) (place : Option PageId) → Loads (store_inside c va width value place)
+  unfolding store_inside
+  store_loads va width value None = reached_loads c va _ (λ va' value' same. absurd cc)
+  store_loads va width value (Some q) = reached_loads c va _ (λ va' value' same. absurd cc)
 
-loads_atomic_reached : (n : ℕ) (r : Resources) (plain : PageId → List ℕ) (c : Context) (rd : ℕ) (op : AtomicOp)
-    (q : PageId) (va operand : ℕ) (a : Answer) (w : World) → page_at n r c.space va ≡ Some q → HasPlain plain w →
-    LoadsIn n r c.space plain (atomic_reached c rd op q va operand a w)
-loads_atomic_reached n r plain c rd op q va operand told.Ok w lies has =
-    loads_granted n r plain c rd op q va operand w lies has
-loads_atomic_reached n r plain c rd op q va operand _ w lies has = λ va' value' same. absurd cc
+  system_loads : (i : Instr) → Loads (system_inside c i)
+  unfolding system_inside
+  system_loads instr.Ecall = λ va value same. absurd cc
+  system_loads instr.Ebreak = λ va value same. absurd cc
+  system_loads _ = λ va value same. absurd cc
 
-loads_atomic_placed : (n : ℕ) (r : Resources) (plain : PageId → List ℕ) (c : Context) (rd : ℕ) (op : AtomicOp)
-    (va operand : ℕ) (place : Option PageId) (w : World) → page_at n r c.space va ≡ place → HasPlain plain w →
-    LoadsIn n r c.space plain (atomic_placed c rd op va operand place w)
-unfolding atomic_placed
-loads_atomic_placed n r plain c rd op va operand None w lies has = λ va' value' same. absurd cc
-loads_atomic_placed n r plain c rd op va operand (Some q) w lies has =
-    loads_atomic_reached n r plain c rd op q va operand _ _ lies (has_reached plain q va _ w has)
+  done_loads : (i : Instr) (e : Effect) → LoadsWidth e → Loads (done_inside n r c i e)
+  unfolding done_inside
+  done_loads i (does.Load rd va width signed) widths =
+      load_loads rd va width signed _ refl (widths.is rd va width signed refl)
+  done_loads i (does.Store va width value) widths = store_loads va width value _
+  done_loads i does.System widths = system_loads i
+  done_loads i _ widths = λ va value same. absurd cc
 
-loads_atomic : (n : ℕ) (r : Resources) (plain : PageId → List ℕ) (c : Context) (a : Option Atomic) (w : World) →
-    HasPlain plain w → LoadsIn n r c.space plain (atomic_inside n r c a w)
-unfolding atomic_inside
-loads_atomic n r plain c None w has = λ va' value' same. absurd cc
-loads_atomic n r plain c (Some a) w has =
-    let va = register c.regs a.rs1 in
-    either (LoadsIn n r c.space plain) (va % 4 == 0) _ _
-    (loads_atomic_placed n r plain c a.rd a.op va _ (page_at n r c.space va) w refl has)
-    (λ va' value' same. absurd cc)
+  -- An atomic instruction that loads gives the word that stood there.
 
-loads_decoded : (n : ℕ) (r : Resources) (plain : PageId → List ℕ) (c : Context) (word : ℕ) (i : Option Instr)
-    (w : World) → HasPlain plain w → LoadsIn n r c.space plain (decoded_inside n r c word i w)
-unfolding decoded_inside
-loads_decoded n r plain c word None w has = loads_atomic n r plain c (atomic_instruction word) w has
-loads_decoded n r plain c word (Some i) w has =
-    loads_done n r plain c i (effect i c.regs c.pc) w (effect_width i c.regs c.pc) has
+  granted_loads : (rd : ℕ) (op : AtomicOp) (q : PageId) (va operand : ℕ) → page_at n r c.space va ≡ Some q →
+      Loads (atomic_granted c rd op q va operand)
+  unfolding atomic_granted
+  granted_loads rd Lr q va operand lies = loaded q va 4 lies (inr (inr refl))
+  granted_loads rd Sc q va operand lies =
+      either Loads (is_reserved (word_of_page q va) c.mark) _ _ (λ va' value same. absurd cc)
+      (λ va' value same. absurd cc)
+  granted_loads rd op q va operand lies = loaded q va 4 lies (inr (inr refl))
 
-loads_executed : (n : ℕ) (r : Resources) (plain : PageId → List ℕ) (c : Context) (word : ℕ) (w : World) →
-    HasPlain plain w → LoadsIn n r c.space plain (executed_inside n r c word w)
-loads_executed n r plain c word w has = loads_decoded n r plain c word (instruction word) w has
+  placed_loads : (rd : ℕ) (op : AtomicOp) (va operand : ℕ) (place : Option PageId) → page_at n r c.space va ≡ place →
+      Loads (atomic_placed c rd op va operand place)
+  unfolding atomic_placed
+  placed_loads rd op va operand None lies = λ va' value same. absurd cc
+  placed_loads rd op va operand (Some q) lies = reached_loads c va _ (granted_loads rd op q va operand lies)
 
-loads_fetched : (n : ℕ) (r : Resources) (plain : PageId → List ℕ) (c : Context) (q : PageId) (a : Answer) (w : World) →
-    HasPlain plain w → LoadsIn n r c.space plain (fetched_inside n r c q a w)
-unfolding ask_read
-loads_fetched n r plain c q told.Ok w has = loads_executed n r plain c _ w has
-loads_fetched n r plain c q _ w has = λ va' value' same. absurd cc
+  atomic_loads : (a : Option Atomic) → Loads (atomic_inside n r c a)
+  unfolding atomic_inside
+  atomic_loads None = λ va value same. absurd cc
+  atomic_loads (Some a) =
+      let va = register c.regs a.rs1 in
+      either Loads (va % 4 == 0) _ _ (placed_loads a.rd a.op va _ (page_at n r c.space va) refl)
+      (λ va' value same. absurd cc)
 
-loads_fetch : (n : ℕ) (r : Resources) (plain : PageId → List ℕ) (c : Context) (place : Option PageId) (w : World) →
-    HasPlain plain w → LoadsIn n r c.space plain (fetch n r c place w)
-unfolding fetch
-loads_fetch n r plain c None w has = λ va' value' same. absurd cc
-loads_fetch n r plain c (Some q) w has =
-    loads_fetched n r plain c q _ _ (has_reached plain q c.pc Fetch w has)
+  decoded_loads : (word : ℕ) (i : Option Instr) → Loads (decoded_inside n r c word i)
+  unfolding decoded_inside
+  decoded_loads word None = atomic_loads (atomic_instruction word)
+  decoded_loads word (Some i) = done_loads i (effect i c.regs c.pc) (effect_width i c.regs c.pc)
 
-pub loads_instruction : (n : ℕ) (r : Resources) (plain : PageId → List ℕ) (c : Context) (w : World) →
-    HasPlain plain w → LoadsIn n r c.space plain (instruction_inside n r c w)
-unfolding instruction_inside
-loads_instruction n r plain c w has = loads_fetch n r plain c _ w has
+  fetch_loads : (place : Option PageId) → Loads (fetch n r c place)
+  unfolding fetch
+  fetch_loads None = λ va value same. absurd cc
+  fetch_loads (Some q) = reached_loads c c.pc _ (decoded_loads _ _)
 
--- A copying step that loads a byte.
-abbrev pub CopiesIn : ℕ → Resources → ℕ → (PageId → List ℕ) → Told Copy → Type 0
-CopiesIn n r space plain t =
-    (va value : ℕ) → t.answer.ending ≡ copied.Loaded va value → IsLoadOf n r space plain va value
+  pub loads_instruction : (w : World) → HasPlain plain w →
+      LoadsIn n r c.space plain (played (instruction_inside n r c) w).answer
+  unfolding instruction_inside
+  loads_instruction w has =
+      let is = instruction_scripted n r c in
+      played_ends n (of_instruction c).changed (LoadsIn n r c.space plain) plain (instruction_inside n r c) w is.own
+      is.last (fetch_loads _) has
 
-copies_put : (n : ℕ) (r : Resources) (plain : PageId → List ℕ) (c : Context) (done byte : ℕ) (a : Answer) (w : World) →
-    IsLoadOf n r c.space plain (byte_address (buffer c) done) byte →
-    CopiesIn n r c.space plain (in_put c done byte a w)
-copies_put n r plain c done byte told.Ok w load = λ va value same.
-    let address : byte_address (buffer c) done ≡ va = cc in
-    let given : byte ≡ value = cc in
-    subst (λ (x : ℕ). IsLoadOf n r c.space plain va x) given
-    (subst (λ (x : ℕ). IsLoadOf n r c.space plain x byte) address load)
-copies_put n r plain c done byte (told.Absent cause) w load = λ va value same. absurd cc
-copies_put n r plain c done byte (told.Word x) w load = λ va value same. absurd cc
-copies_put n r plain c done byte told.Stopped w load = λ va value same. absurd cc
+  -- Copies.
 
-copies_reached : (n : ℕ) (r : Resources) (plain : PageId → List ℕ) (c : Context) (q : PageId) (done : ℕ) (a : Answer)
-    (w : World) → page_at n r c.space (byte_address (buffer c) done) ≡ Some q → HasPlain plain w →
-    CopiesIn n r c.space plain (in_reached c q done a w)
-unfolding ask_read
-copies_reached n r plain c q done told.Ok w lies has =
-    let here = plain_here plain w q has in
-    copies_put n r plain c done _ _ _ (record {
-      page = q;
-      lies = lies;
-      width = 1;
-      is_width = inl refl;
-      same = rw here refl;
-    })
-copies_reached n r plain c q done (told.Absent cause) w lies has = λ va value same. absurd cc
-copies_reached n r plain c q done (told.Word x) w lies has = λ va value same. absurd cc
-copies_reached n r plain c q done told.Stopped w lies has = λ va value same. absurd cc
+  abbrev Copies : Script Copy → Type 0
+  Copies s = EndsOn plain (CopiesIn n r c.space plain) s
 
-copies_placed : (n : ℕ) (r : Resources) (plain : PageId → List ℕ) (c : Context) (done : ℕ) (place : Option PageId)
-    (cloaked : Bool) (w : World) → page_at n r c.space (byte_address (buffer c) done) ≡ place → HasPlain plain w →
-    CopiesIn n r c.space plain (in_placed c done place cloaked w)
-copies_placed n r plain c done None cloaked w lies has = λ va value same. absurd cc
-copies_placed n r plain c done (Some q) true w lies has = λ va value same. absurd cc
-copies_placed n r plain c done (Some q) false w lies has =
-    copies_reached n r plain c q done _ _ lies (has_reached plain q _ Load w has)
+  reached_copies : (va : ℕ) (next : Script Copy) → Copies next → (a : Answer) → Copies (calls.if_reached c va a next)
+  reached_copies va next ends told.Ok = ends
+  reached_copies va next ends _ = λ va' value same. absurd cc
 
-copies_in_step : (all : Bool) (n : ℕ) (r : Resources) (plain : PageId → List ℕ) (c : Context) (done : ℕ) (w : World) →
-    HasPlain plain w → CopiesIn n r c.space plain (in_step all n r c done w)
-copies_in_step true n r plain c done w has = λ va value same. absurd cc
-copies_in_step false n r plain c done w has = copies_placed n r plain c done _ _ w refl has
+  got_copies : (va : ℕ) (next : ℕ → Script Copy) → ((byte : ℕ) → Copies (next byte)) → (a : Answer) →
+      Copies (calls.if_got c va a next)
+  got_copies va next ends (told.Word byte) = ends byte
+  got_copies va next ends _ = λ va' value same. absurd cc
 
-pub copies_in : (n : ℕ) (r : Resources) (plain : PageId → List ℕ) (c : Context) (done : ℕ) (w : World) →
-    HasPlain plain w → CopiesIn n r c.space plain (copy_in_step n r c done w)
-unfolding copy_in_step
-copies_in n r plain c done w has = copies_in_step _ n r plain c done w has
+  in_loads : (done : ℕ) (place : Option PageId) (cloaked : Bool) →
+      page_at n r c.space (byte_address (buffer c) done) ≡ place → Copies (in_placed c done place cloaked)
+  in_loads done (Some q) false lies =
+      reached_copies _ _ (reached_copies _ _ (λ va value same.
+      loaded q (byte_address (buffer c) done) 1 lies (inl refl) va value cc))
+  in_loads done (Some q) true lies = λ va value same. absurd cc
+  in_loads done None cloaked lies = λ va value same. absurd cc
 
-none_reached : (n : ℕ) (r : Resources) (plain : PageId → List ℕ) (c : Context) (q : PageId) (done total byte : ℕ)
-    (a : Answer) (w : World) → CopiesIn n r c.space plain (out_reached c q done total byte a w)
-none_reached n r plain c q done total byte told.Ok w = λ va value same. absurd cc
-none_reached n r plain c q done total byte _ w = λ va value same. absurd cc
+  in_step_loads : (all : Bool) (done : ℕ) → Copies (in_step all n r c done)
+  in_step_loads true done = λ va value same. absurd cc
+  in_step_loads false done = in_loads done _ _ refl
 
-none_got : (n : ℕ) (r : Resources) (plain : PageId → List ℕ) (c : Context) (q : PageId) (done total : ℕ) (a : Answer)
-    (w : World) → CopiesIn n r c.space plain (out_got c q done total a w)
-none_got n r plain c q done total (told.Word byte) w = none_reached n r plain c q done total byte _ _
-none_got n r plain c q done total _ w = λ va value same. absurd cc
+  pub copies_in : (done : ℕ) (w : World) → HasPlain plain w →
+      CopiesIn n r c.space plain (played (copy_in_step n r c done) w).answer
+  unfolding copy_in_step
+  copies_in done w has =
+      let is = copy_in_scripted n r c done in
+      played_ends n (of_copy c).changed (CopiesIn n r c.space plain) plain (copy_in_step n r c done) w is.own
+      is.last (in_step_loads _ done) has
 
-none_placed : (n : ℕ) (r : Resources) (plain : PageId → List ℕ) (c : Context) (done total : ℕ) (place : Option PageId)
-    (cloaked : Bool) (w : World) → CopiesIn n r c.space plain (out_placed c done total place cloaked w)
-none_placed n r plain c done total None cloaked w = λ va value same. absurd cc
-none_placed n r plain c done total (Some q) true w = λ va value same. absurd cc
-none_placed n r plain c done total (Some q) false w = none_got n r plain c q done total _ _
+  out_loads : (done total : ℕ) (place : Option PageId) (cloaked : Bool) → Copies (out_placed c done total place cloaked)
+  out_loads done total (Some q) false =
+      got_copies _ _ (λ byte. reached_copies _ _ (λ va value same. absurd cc))
+  out_loads done total (Some q) true = λ va value same. absurd cc
+  out_loads done total None cloaked = λ va value same. absurd cc
 
-none_out_step : (all : Bool) (n : ℕ) (r : Resources) (plain : PageId → List ℕ) (c : Context) (done total : ℕ)
-    (w : World) → CopiesIn n r c.space plain (out_step all n r c done total w)
-none_out_step true n r plain c done total w = λ va value same. absurd cc
-none_out_step false n r plain c done total w = none_placed n r plain c done total _ _ w
+  out_step_loads : (all : Bool) (done total : ℕ) → Copies (out_step all n r c done total)
+  out_step_loads true done total = λ va value same. absurd cc
+  out_step_loads false done total = out_loads done total _ _
 
-pub copies_out : (n : ℕ) (r : Resources) (plain : PageId → List ℕ) (c : Context) (done total : ℕ) (w : World) →
-    CopiesIn n r c.space plain (copy_out_step n r c done total w)
-unfolding copy_out_step
-copies_out n r plain c done total w = none_out_step _ n r plain c done total w
+  pub copies_out : (done total : ℕ) (w : World) → HasPlain plain w →
+      CopiesIn n r c.space plain (played (copy_out_step n r c done total) w).answer
+  unfolding copy_out_step
+  copies_out done total w has =
+      let is = copy_out_scripted n r c done total in
+      played_ends n (of_copy c).changed (CopiesIn n r c.space plain) plain (copy_out_step n r c done total) w
+      is.own is.last (out_step_loads _ done total) has

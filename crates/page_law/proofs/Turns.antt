@@ -25,13 +25,12 @@ use Rattle.cloak_model.specs.KernelStep.{ticked}
 use Rattle.cloak_model.specs.Parts.{Joint}
 use Rattle.cloak_model.specs.Resuming.{AfterResume, resume}
 use Rattle.cloak_model.proofs.ResumeParts.{by_root, by_context, by_domain}
-use Rattle.cloak_model.specs.World.{World, Cloak, Cloaked, items_of}
+use Rattle.cloak_model.specs.World.{World, MidStep, Cloaked, items_of}
 use Rattle.kernel_isolation.proofs.Numbers.{AreFrom, number_at}
 use Rattle.page_law.proofs.Draws.{OwesPagesOf, HasDrawn, draws_stay, draw_behind, draw_behind-append, AreShown, shown-append, Draws}
 use Rattle.page_law.proofs.Settlings.{touched_draws}
 use Rattle.page_law.proofs.Worlds.{ShowsFirstFrom}
 use Rattle.std.specs.Prelude.{length, slice_get, is_some}
-use Rattle.std.proofs.Common.{◌+◌}
 use Rattle.cloak_base.specs.declared.causes.Violation.{Violation}
 use Rattle.cloak_model.specs.Ending.{ask_end, cloak_for}
 use Rattle.cloak_model.specs.Opening.{numbers_below}
@@ -162,7 +161,7 @@ domain_ends m j number h d w (went.SpaceGone space s) u =
     uses_more m j.memory _ (items_of w) _ u (silent_leave s) (record { keys = refl; owed = refl; stream = refl })
 domain_ends m j number h d w _ u = u
 
-ended_uses : {count : ℕ} (was : CloakedMemory) (c : Cloak) (v : World) → c.items ≡ [] → ShowsFirstFrom count c v →
+ended_uses : {count : ℕ} (was : CloakedMemory) (c : MidStep) (v : World) → c.items ≡ [] → ShowsFirstFrom count c v →
     Uses count c.memory (items_of v) (memory_of v was)
 ended_uses {count} was c v none e =
     let written : e.to.items ≡ e.items = e.written ∙ ap (λ (l : List Item). l ++ e.items) none in
@@ -170,7 +169,7 @@ ended_uses {count} was c v none e =
     (subst (λ (l : List Item). Uses count c.memory l e.to.memory) (sym written)
     (record { drawn = e.drawn; shown = e.shown }))
 
-told_uses : {count : ℕ} (j : Joint) (number : ℕ) (h : Hart) (d : ℕ) (c : Cloak) (told : Told DomainStepped) →
+told_uses : {count : ℕ} (j : Joint) (number : ℕ) (h : Hart) (d : ℕ) (c : MidStep) (told : Told DomainStepped) →
     c.memory ≡ j.memory → c.items ≡ [] → ShowsFirstFrom count c told.world →
     TurnUses count j (after_domain_step j number h d told)
 unfolding after_domain_step
@@ -205,7 +204,7 @@ domain_uses : {count : ℕ} (due : Bool) (j : Joint) (number : ℕ) (h : Hart) (
 unfolding by_interrupt
 domain_uses true j number h d slot was low = after_interrupt_uses j number h d was _
 domain_uses false j number h d slot was low =
-    let c : Cloak = cloak_of j.memory h d (pages_for was (context_at was.control.contexts slot)) in
+    let c : MidStep = cloak_of j.memory h d (pages_for was (context_at was.control.contexts slot)) in
     told_uses j number h d c _ refl refl ((ends_domain_step slot was (Cloaked c) low).ends.by c refl)
 
 left_uses : {count : ℕ} (j : Joint) (number : ℕ) (h : Hart) (s : Shown) → TurnUses count j (left j number h [] s)
@@ -271,7 +270,7 @@ end_uses : {count : ℕ} (d : ℕ) (was : Domain) (v : Violation) (j : Joint) (t
 unfolding end_domain
 end_uses d was v j t u plain =
     let m = t.joint.memory in
-    let c : Cloak = cloak_for m d in
+    let c : MidStep = cloak_for m d in
     let w = (ask_end d (Cloaked c)).world in
     uses_then j.memory m _ t.items _ u plain
     (uses_more m (memory_of w m) _ (items_of w) (item.Ended d ∷ [])

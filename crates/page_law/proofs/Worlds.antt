@@ -6,12 +6,12 @@ use Rattle.cloak_model.specs.declared.image.Program.{Program}
 use Rattle.cloak_model.specs.declared.item.Item.{Item}
 use Rattle.cloak_model.specs.Beginning.{Beginning}
 use Rattle.cloak_model.specs.Memory.{Seen}
-use Rattle.cloak_model.specs.World.{World, Cloak, Flat, Cloaked, Alone, Handed}
+use Rattle.cloak_model.specs.World.{World, MidStep, Flat, Cloaked, Alone, Handed}
 use Rattle.page_law.proofs.Draws.{OwesPagesOf, HasDrawn, draws_stay, draw_behind, draw_behind-append, draw_behind_one, IsShown, AreShown, shown-append, Draws}
 
 -- What was written since shows pages as they were at first.
-pub record ShowsFirstFrom (count : ℕ) (c : Cloak) (v : World) : Type 0 where
-  pub to : Cloak
+pub record ShowsFirstFrom (count : ℕ) (c : MidStep) (v : World) : Type 0 where
+  pub to : MidStep
   pub is : v ≡ Cloaked to
   pub items : List Item
   pub written : to.items ≡ c.items ++ items
@@ -21,19 +21,19 @@ pub record ShowsFirstFrom (count : ℕ) (c : Cloak) (v : World) : Type 0 where
       AreShown programs from c.memory.plain n items
 
 pub record ShowsFirst (count : ℕ) (w v : World) : Type 0 where
-  pub by : (c : Cloak) → w ≡ Cloaked c → ShowsFirstFrom count c v
+  pub by : (c : MidStep) → w ≡ Cloaked c → ShowsFirstFrom count c v
 
 -- And no page has changed.
-pub record OnlyShowsFrom (count : ℕ) (c : Cloak) (v : World) : Type 0 where
+pub record OnlyShowsFrom (count : ℕ) (c : MidStep) (v : World) : Type 0 where
   pub ended : ShowsFirstFrom count c v
   pub plain : ended.to.memory.plain ≡ c.memory.plain
 
 pub record OnlyShows (count : ℕ) (w v : World) : Type 0 where
-  pub by : (c : Cloak) → w ≡ Cloaked c → OnlyShowsFrom count c v
+  pub by : (c : MidStep) → w ≡ Cloaked c → OnlyShowsFrom count c v
 
 -- Nothing was shown, and no draw was made.
-pub record OnlyChangesFrom (c : Cloak) (v : World) : Type 0 where
-  pub to : Cloak
+pub record OnlyChangesFrom (c : MidStep) (v : World) : Type 0 where
+  pub to : MidStep
   pub is : v ≡ Cloaked to
   pub items : to.items ≡ c.items
   pub keys : to.memory.ledger.keys ≡ c.memory.ledger.keys
@@ -41,13 +41,13 @@ pub record OnlyChangesFrom (c : Cloak) (v : World) : Type 0 where
   pub stream : to.memory.ledger.stream ≡ c.memory.ledger.stream
 
 pub record OnlyChanges (w v : World) : Type 0 where
-  pub by : (c : Cloak) → w ≡ Cloaked c → OnlyChangesFrom c v
+  pub by : (c : MidStep) → w ≡ Cloaked c → OnlyChangesFrom c v
 
 -- nothing need be said of another world
-flat_not : (seen : Seen) (c : Cloak) → Flat seen ≡ Cloaked c → ⊥
+flat_not : (seen : Seen) (c : MidStep) → Flat seen ≡ Cloaked c → ⊥
 flat_not seen c is = cc
 
-alone_not : (h : Handed) (c : Cloak) → Alone h ≡ Cloaked c → ⊥
+alone_not : (h : Handed) (c : MidStep) → Alone h ≡ Cloaked c → ⊥
 alone_not h c is = cc
 
 pub no_flat : {count : ℕ} (seen : Seen) (v : World) → OnlyShows count (Flat seen) v
@@ -63,17 +63,17 @@ pub unchanged_alone : (h : Handed) (v : World) → OnlyChanges (Alone h) v
 unchanged_alone h v = record { by = λ c is. absurd (alone_not h c is) }
 
 -- of the joint machine's
-pub shows_from : {count : ℕ} (c : Cloak) (v : World) → OnlyShowsFrom count c v → OnlyShows count (Cloaked c) v
+pub shows_from : {count : ℕ} (c : MidStep) (v : World) → OnlyShowsFrom count c v → OnlyShows count (Cloaked c) v
 shows_from {count} c v s =
-    record { by = λ c' is. let same : c ≡ c' = cc in subst (λ (x : Cloak). OnlyShowsFrom count x v) same s }
+    record { by = λ c' is. let same : c ≡ c' = cc in subst (λ (x : MidStep). OnlyShowsFrom count x v) same s }
 
-pub changes_from : (c : Cloak) (v : World) → OnlyChangesFrom c v → OnlyChanges (Cloaked c) v
+pub changes_from : (c : MidStep) (v : World) → OnlyChangesFrom c v → OnlyChanges (Cloaked c) v
 changes_from c v s =
-    record { by = λ c' is. let same : c ≡ c' = cc in subst (λ (x : Cloak). OnlyChangesFrom x v) same s }
+    record { by = λ c' is. let same : c ≡ c' = cc in subst (λ (x : MidStep). OnlyChangesFrom x v) same s }
 
 -- one after another
 
-ended_then : {count : ℕ} (a b : Cloak) (v w : World) → (p : ShowsFirstFrom count a v) →
+ended_then : {count : ℕ} (a b : MidStep) (v w : World) → (p : ShowsFirstFrom count a v) →
     p.to.memory.plain ≡ a.memory.plain → ShowsFirstFrom count p.to w → ShowsFirstFrom count a w
 ended_then {count} a b v w p plain q = record {
   to = q.to;
@@ -182,7 +182,7 @@ pub Shows-changes : {count : ℕ} {P : Type 0} (u v : World) → OnlyChanges u v
 Shows-changes u v p goes = record { ends = OnlyChanges-ends u v p; stops = λ stopped. absurd (goes stopped) }
 
 -- what draws of a memory make of the joint machine's world
-pub shows_by : {count : ℕ} (c c' : Cloak) (items : List Item) → c'.items ≡ c.items ++ items →
+pub shows_by : {count : ℕ} (c c' : MidStep) (items : List Item) → c'.items ≡ c.items ++ items →
     Draws count c.memory items c'.memory → OnlyShows count (Cloaked c) (Cloaked c')
 shows_by c c' items written draws = shows_from c (Cloaked c') (record {
   ended = record {
@@ -197,7 +197,7 @@ shows_by c c' items written draws = shows_from c (Cloaked c') (record {
 })
 
 -- an item that is no Cipher is written
-pub shows_item : {count : ℕ} (c : Cloak) (i : Item) → ((n : ℕ) → draw_behind_one i n ≡ n) →
+pub shows_item : {count : ℕ} (c : MidStep) (i : Item) → ((n : ℕ) → draw_behind_one i n ≡ n) →
     ((programs : List Program) (from : Beginning) (plain : PageId → List ℕ) (n : ℕ) →
     IsShown programs from plain n i) →
     OnlyShows count (Cloaked c) (Cloaked (record c { items = c.items ++ i ∷ [] }))

@@ -24,25 +24,26 @@ use Rattle.cloak_model.specs.declared.resource.Owner.{Owner}
 use Rattle.cloak_model.specs.declared.resource.Owner.TheVariants.{Space, File}
 use Rattle.cloak_model.specs.declared.resource.Region.{Region}
 use Rattle.cloak_model.specs.declared.resource.Resource.{Resource}
-use Rattle.cloak_model.specs.AskPages.{ask_copy, ask_forget}
-use Rattle.cloak_model.specs.Asking.{answered, then_ask}
+use Rattle.cloak_model.specs.Asking.{answered}
 use Rattle.cloak_model.specs.Calls.{copy_in_step, copy_out_step}
 use Rattle.cloak_model.specs.Contexts.{Context, in_phase, moved_on, suspended, context_at, context_number, shown, Resumed, resume_if, resume_at, is_reserved, unless_reserved}
 use Rattle.cloak_model.specs.DomainState.{Control, Domain}
-use Rattle.cloak_model.specs.DomainStep.{DomainStepped, within, with_load, instruction_ended, copy_ended, phase_step, step_if, domain_step, interrupt_if, interrupt, answer_in, answer_taken, resume_told, resume_slot, after_write}
+use Rattle.cloak_model.specs.DomainStep.{domain_script, DomainStepped, within, with_load, instruction_ended, copy_ended, phase_step, step_if, domain_step, interrupt_if, interrupt, answer_in, answer_taken, resume_told, resume_slot, after_write}
 use Rattle.cloak_model.specs.Files.{file_found, file_resource, holds_file}
-use Rattle.cloak_model.specs.Fork.{Spaces, marked, private_numbers, copies, with_copy, with_copies, forked_resources, child, forked, ask_copies, ask_forgets}
+use Rattle.cloak_model.specs.Fork.{Spaces, marked, private_numbers, copies, with_copy, with_copies, forked_resources, child, forked, copy_each, forget_each}
 use Rattle.cloak_model.specs.Hypercalls.{Stepped, with_slot, stays_inside, leaves, stopped, fault_word, with_answer, answers_word, number_word, number_told, with_spaces, Hypercall, hypercall, hypercall_of}
 use Rattle.cloak_model.specs.InsideStep.{instruction_inside}
 use Rattle.cloak_model.specs.Record.{IsItem, IsWord}
 use Rattle.cloak_model.specs.Resources.{Resources, resource_at, regions_in, pages_of, all_pages, first_free, Mapped, refused, made_at, new_resource, is_region, overlaps, mapped, map_region, starts_at, unmap_region, without_space, drop_space}
 use Rattle.cloak_model.specs.World.{World}
+use Rattle.cloak_model.specs.Script.{played}
+use Rattle.cloak_model.proofs.Playing.{by_plain, by_copy_in, by_copy_out, by_ecall}
 use Rattle.hypercall_kinds.specs.Kinds.{cleared, CallKind, Answers, MakesNew, MakesFile, Maps, Unmaps, Starts, BeginsCopy, Calls, Stops, Forks, Ends, EndsSpace, remaps, after}
 use Rattle.hypercall_kinds.proofs.ByKinds.{by_kinds}
 use Rattle.range_law.proofs.Bounds.{all_set, all_or, all_map}
 use Rattle.kernel_isolation.proofs.Shown.{either}
-use Rattle.range_law.proofs.Programs.{ContextFits, set_word_fits, moved_on_fits, in_phase_fits, register_fits, new_context_fits, WhyFits, shown_fits, RanFits, InstructionFits, instruction_told, CopiedFits, CopyFits, copy_in_told, copy_out_told, finish_call_fits}
-use Rattle.range_law.proofs.Worlds.{WorldFits, ToldFits, Anything, then_fits, clear_told, copy_told, forget_told}
+use Rattle.range_law.proofs.Programs.{ContextFits, set_word_fits, moved_on_fits, in_phase_fits, register_fits, new_context_fits, WhyFits, shown_fits, RanFits, instruction_told, CopiedFits, copy_in_told, copy_out_told, finish_call_fits}
+use Rattle.range_law.proofs.Worlds.{WorldFits, ToldFits, clear_told, copy_told, forget_told}
 
 abbrev pub SlotFits : Option Context → Type 0
 SlotFits None = Unit {0}
@@ -248,23 +249,19 @@ forked_fits c slot new r contexts here few slots = let same = copies_count new r
   numbers = omega (arith, few, same);
 }
 
-copies_told : (domain : ℕ) (list : List (ℕ × ℕ)) (w : World) → WorldFits w →
-    ToldFits Anything (ask_copies domain list w)
-unfolding ask_copies
-copies_told domain [] w world = record { answer = tt; world = world }
-copies_told domain (copy ∷ rest) w world =
-    then_fits Anything Anything (ask_copy domain copy.0 copy.1) (λ done. ask_copies domain rest) w
-    (copy_told domain copy.0 copy.1 w world) (λ done v p there. copies_told domain rest v there)
+copies_fit : (domain : ℕ) (list : List (ℕ × ℕ)) (w : World) → WorldFits w →
+    WorldFits (played (copy_each domain list) w).world
+unfolding copy_each
+copies_fit domain [] w world = world
+copies_fit domain (copy ∷ rest) w world = copies_fit domain rest _ (copy_told domain copy.0 copy.1 w world).world
 
 -- Ending.
 
-pub forgets_told : (domain : ℕ) (numbers : List ℕ) (w : World) → WorldFits w →
-    ToldFits Anything (ask_forgets domain numbers w)
-unfolding ask_forgets
-forgets_told domain [] w world = record { answer = tt; world = world }
-forgets_told domain (n ∷ rest) w world =
-    then_fits Anything Anything (ask_forget domain n) (λ done. ask_forgets domain rest) w
-    (forget_told domain n w world) (λ done v p there. forgets_told domain rest v there)
+pub forgets_fit : (domain : ℕ) (numbers : List ℕ) (w : World) → WorldFits w →
+    WorldFits (played (forget_each domain numbers) w).world
+unfolding forget_each
+forgets_fit domain [] w world = world
+forgets_fit domain (n ∷ rest) w world = forgets_fit domain rest _ (forget_told domain n w world).world
 
 drop_fits : (space : ℕ) (r : Resources) → NumbersFit r → NumbersFit (drop_space space r)
 unfolding drop_space
@@ -312,7 +309,7 @@ module _ (h : Hypercall) (slot : ℕ) (c : Context) (d : Control) (w : World) (l
         (with_spaces_fits (forked c free new d.resources d.contexts) d fits
         (forked_fits c free new d.resources d.contexts here fits.numbers fits.slots)) here
         (number_fits d.number free fits.number (free_low d.contexts free fits.slots slots));
-    world = (copies_told d.number (copies c.space d.resources) _ settled).world;
+    world = copies_fit d.number (copies c.space d.resources) _ settled;
   }
   kind_told Ends = record {
     answer = record {
@@ -332,10 +329,10 @@ module _ (h : Hypercall) (slot : ℕ) (c : Context) (d : Control) (w : World) (l
       });
       ended = exit_fits slot c d low fits here;
     };
-    world = (forgets_told d.number (private_numbers c.space d.resources) _ settled).world;
+    world = forgets_fit d.number (private_numbers c.space d.resources) _ settled;
   }
 
-  hypercall_told : ToldFits SteppedFits (hypercall h slot c d w)
+  hypercall_told : ToldFits SteppedFits (played (hypercall h slot c d) w)
   hypercall_told = by_kinds (λ t. ToldFits SteppedFits t) h slot c d w kind_told
 
 -- The step.
@@ -353,7 +350,7 @@ done_told d s w fits world = record { answer = step_of d s fits; world = world }
 
 instruction_ended_told : (slot : ℕ) (d : Domain) (c : Context) (e : Ran) (w : World) → slot < 8 →
     ControlFits d.control → ContextFits c → RanFits e → WorldFits w →
-    ToldFits DomainStepFits (instruction_ended slot d c e w)
+    ToldFits DomainStepFits (played (instruction_ended slot d c e) w)
 unfolding instruction_ended
 instruction_ended_told slot d c ran.Stay w low fits here e world =
     done_told d _ w (stays_fits slot c d.control fits here) world
@@ -362,9 +359,8 @@ instruction_ended_told slot d c (ran.Loaded address value) w low fits here e wor
 instruction_ended_told slot d c (ran.Trap cause address) w low fits here e world =
     done_told d _ w (leaves_fits slot c (why.Trap cause address) d.control low fits here e) world
 instruction_ended_told slot d c ran.Ecall w low fits here e world =
-    then_fits SteppedFits DomainStepFits (hypercall (hypercall_of c) slot c d.control)
-    (λ step. answered (within d step)) w (hypercall_told (hypercall_of c) slot c d.control w low fits here world)
-    (λ step v s there. done_told d step v s there)
+    let told = hypercall_told (hypercall_of c) slot c d.control w low fits here world in
+    by_ecall (ToldFits DomainStepFits) slot d c w (done_told d _ _ told.answer told.world)
 instruction_ended_told slot d c ran.Stopped w low fits here e world =
     done_told d _ w (stopped_fits d.control fits) world
 
@@ -411,35 +407,34 @@ after_write_fits (Some place) s fits =
     }
 
 phase_told : (phase : Phase) (slot : ℕ) (c : Context) (d : Domain) (w : World) → slot < 8 → ControlFits d.control →
-    ContextFits c → WorldFits w → ToldFits DomainStepFits (phase_step phase slot c d w)
+    ContextFits c → WorldFits w → ToldFits DomainStepFits (played (phase_step phase slot c d) w)
 unfolding phase_step
 phase_told Plain slot c d w low fits here world =
-    then_fits InstructionFits DomainStepFits (instruction_inside d.control.number d.control.resources c)
-    (λ made. then_ask (instruction_ended slot d made.context made.ending) (λ s. answered (after_write made.wrote s))) w
-    (instruction_told _ _ c w here world)
-    (λ made v m there.
-    let ended = instruction_ended_told slot d made.context made.ending v low fits m.context m.ending there in
-    record { answer = after_write_fits made.wrote _ ended.answer; world = ended.world })
+    let t = played (instruction_inside d.control.number d.control.resources c) w in
+    let made = instruction_told d.control.number d.control.resources c w here world in
+    let ended = instruction_ended_told slot d t.answer.context t.answer.ending t.world low fits made.answer.context
+    made.answer.ending made.world in
+    by_plain (ToldFits DomainStepFits) slot c d w
+    (record { answer = after_write_fits t.answer.wrote _ ended.answer; world = ended.world })
 phase_told (CopyIn done) slot c d w low fits here world =
-    then_fits CopyFits DomainStepFits (copy_in_step d.control.number d.control.resources c done)
-    (λ copy. answered (copy_ended slot d copy.context copy.ending)) w (copy_in_told _ _ c done w here world)
-    (λ copy v m there. record {
-      answer = copy_ended_fits slot d copy.context copy.ending low fits m.context m.ending;
-      world = there;
+    let k = (played (copy_in_step d.control.number d.control.resources c done) w).answer in
+    let copy = copy_in_told d.control.number d.control.resources c done w here world in
+    by_copy_in (ToldFits DomainStepFits) done slot c d w (record {
+      answer = copy_ended_fits slot d k.context k.ending low fits copy.answer.context copy.answer.ending;
+      world = copy.world;
     })
 phase_told Waiting slot c d w low fits here world = done_told d _ w (stays_fits slot c d.control fits here) world
 phase_told (CopyOut done total) slot c d w low fits here world =
-    then_fits CopyFits DomainStepFits (copy_out_step d.control.number d.control.resources c done total)
-    (λ copy. answered (after_write copy.wrote (copy_ended slot d copy.context copy.ending))) w
-    (copy_out_told _ _ c done total w here world)
-    (λ copy v m there. record {
-      answer = after_write_fits copy.wrote _
-          (copy_ended_fits slot d copy.context copy.ending low fits m.context m.ending);
-      world = there;
+    let k = (played (copy_out_step d.control.number d.control.resources c done total) w).answer in
+    let copy = copy_out_told d.control.number d.control.resources c done total w here world in
+    by_copy_out (ToldFits DomainStepFits) done total slot c d w (record {
+      answer = after_write_fits k.wrote _
+          (copy_ended_fits slot d k.context k.ending low fits copy.answer.context copy.answer.ending);
+      world = copy.world;
     })
 
 step_if_told : (o : Option Context) (slot : ℕ) (d : Domain) (w : World) → slot < 8 → ControlFits d.control →
-    SlotFits o → WorldFits w → ToldFits DomainStepFits (step_if o slot d w)
+    SlotFits o → WorldFits w → ToldFits DomainStepFits (played (step_if o slot d) w)
 unfolding step_if
 step_if_told None slot d w low fits here world =
     record { answer = record { control = fits; ended = tt }; world = world }
@@ -447,7 +442,7 @@ step_if_told (Some c) slot d w low fits here world = phase_told c.phase slot c d
 
 pub domain_step_told : (slot : ℕ) (d : Domain) (w : World) → slot < 8 → ControlFits d.control → WorldFits w →
     ToldFits DomainStepFits (domain_step slot d w)
-unfolding domain_step
+unfolding domain_step domain_script
 domain_step_told slot d w low fits world =
     step_if_told _ slot d w low fits (slot_fits d.control.contexts slot fits.slots) world
 

@@ -22,7 +22,7 @@ use Rattle.cloak_model.specs.DomainState.{started_control, started_domain}
 use Rattle.cloak_model.specs.Ledger.{Keys, key_in, key_of, vector_of}
 use Rattle.cloak_base.specs.Constants.{frame_of, place_of}
 use Rattle.cloak_model.specs.Memory.{zero_ram, with_byte, with_bytes}
-use Rattle.cloak_model.specs.Opening.{key_count, drawn_keys, filled_up, groups, keys_for, with_segments, started_harts, numbers_below, started_ledger, started_kernel, started_memory, program_page, place_pages, place_programs, started_domains, started_joint, is_placed, opening_items, Opened}
+use Rattle.cloak_model.specs.Opening.{key_count, drawn_keys, filled_up, groups, keys_for, with_segments, started_harts, numbers_below, started_ledger, started_kernel, started_memory, program_page, place_pages, place_programs, started_domains, started_joint, is_placed, opening_items, RunEdge}
 use Rattle.cloak_model.specs.PageMoves.{place, place_with}
 use Rattle.cloak_model.specs.Record.{IsItem, IsWord}
 use Rattle.cloak_model.specs.Resources.{started_resources}
@@ -304,7 +304,7 @@ items_fit programs ram few pages =
     (λ f low. (omega (arith, low, few), (by_place SealedFits ram pages f [] low).long))
     (all_filter (λ f. f < length ram) (is_placed programs) _ (below_fits (length ram) (length ram) (omega arith)))
 
-pub record OpenedFits (o : Opened) : Type 0 where
+pub record OpenedFits (o : RunEdge) : Type 0 where
   pub joint : JointFits o.joint
   pub items : AllByRecursion IsItem o.items
 
@@ -318,7 +318,7 @@ bare_fits b m grammar bytes fits = record {
       (by_recursion (IsProgramIn b.kernel.frames) b.programs grammar.programs);
 }
 
-pub opened_fits : (b : Bundle) (from : Beginning) (o : Opened) → IsInGrammar b → IsOfBytes b →
+pub opened_fits : (b : Bundle) (from : Beginning) (o : RunEdge) → IsInGrammar b → IsOfBytes b →
     IsBeginningOfBytes b from → opening_from b from ≡ Ok o → OpenedFits o
 opened_fits b from o grammar bytes all opens =
     let over = opens_over b from o opens in

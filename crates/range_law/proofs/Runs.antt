@@ -10,11 +10,11 @@ use Rattle.cloak_model.specs.Beginning.{Beginning, opening_from}
 use Rattle.cloak_model.specs.Bundle.{IsInGrammar}
 use Rattle.cloak_model.specs.Exchange.{steps_items}
 use Rattle.cloak_model.specs.Joint.{Moment, Turn, joint_step, after_turn, stop_of, cloak_outside, hart_in}
-use Rattle.cloak_model.specs.Opening.{Opened}
+use Rattle.cloak_model.specs.Opening.{RunEdge}
 use Rattle.cloak_model.specs.Parts.{Joint}
 use Rattle.cloak_model.specs.Record.{IsItem}
 use Rattle.cloak_model.specs.Run.{Run, unless_stopped, turns_from, joint_after, settled_below, closing, first_moment, run_of}
-use Rattle.cloak_model.specs.World.{Cloak}
+use Rattle.cloak_model.specs.World.{MidStep}
 use Rattle.kernel_isolation.specs.Isolation.{items_by_step}
 use Rattle.kernel_isolation.proofs.Isolated.{of_opened}
 use Rattle.kernel_isolation.proofs.TwoRuns.{writes_an_exchange}
@@ -53,7 +53,7 @@ steps_fit (suc budget) m fits =
 
 -- The closing.
 
-below_fits : (n : ℕ) (c : Cloak) → CloakFits c → CloakFits (settled_below n c)
+below_fits : (n : ℕ) (c : MidStep) → CloakFits c → CloakFits (settled_below n c)
 unfolding settled_below
 below_fits zero c fits = fits
 below_fits (suc n) c fits = settled_cloak n (settled_below n c) (below_fits n c fits)
@@ -75,7 +75,7 @@ record RunFits (most : ℕ) (r : Run) : Type 0 where
   pub closing : AreItems r.closed.items
 
 run_of_fits : (b : Bundle) (from : Beginning) (budget : ℕ) → IsInGrammar b → IsOfBytes b → IsBeginningOfBytes b from →
-    (o : Opened) → opening_from b from ≡ Ok o → RunFits budget (run_of b budget o)
+    (o : RunEdge) → opening_from b from ≡ Ok o → RunFits budget (run_of b budget o)
 unfolding run_of
 run_of_fits b from budget grammar bytes all o opens =
     let opened = opened_fits b from o grammar bytes all opens in

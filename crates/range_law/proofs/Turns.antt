@@ -33,7 +33,7 @@ use Rattle.cloak_model.specs.Parts.{Joint}
 use Rattle.cloak_model.specs.Record.{IsItem, IsWord}
 use Rattle.cloak_model.specs.Resuming.{AfterResume, resume}
 use Rattle.cloak_model.proofs.ResumeParts.{with_roots, by_root, by_context, by_domain}
-use Rattle.cloak_model.specs.World.{World, Cloak, Flat, Cloaked, items_of}
+use Rattle.cloak_model.specs.World.{World, MidStep, Flat, Cloaked, items_of}
 use Rattle.settling_ahead.proofs.Touching.{writes_touched_alone}
 use Rattle.kernel_isolation.proofs.Accounts.{is_joint, ram_seen}
 use Rattle.kernel_isolation.proofs.StepAccounts.{accounts_domain_step}
@@ -43,7 +43,7 @@ use Rattle.range_law.proofs.Harts.{HartFits, EndingFits, started_fits, ticked_fi
 use Rattle.range_law.proofs.Memories.{FramesFit, MemoryFits, ShowsFit, touched_fits}
 use Rattle.range_law.proofs.Worlds.{CloakFits, WorldFits, ToldFits, frames_of, marked_fits}
 use Rattle.range_law.proofs.KernelSteps.{kernel_step_told}
-use Rattle.range_law.proofs.Controls.{ControlFits, WentFits, SteppedFits, DomainStepFits, domain_step_told, interrupt_fits, resume_slot_fits, forgets_told}
+use Rattle.range_law.proofs.Controls.{ControlFits, WentFits, SteppedFits, DomainStepFits, domain_step_told, interrupt_fits, resume_slot_fits, forgets_fit}
 
 abbrev pub ProgramFits : Domain → Type 0
 ProgramFits d = ControlFits d.control
@@ -265,7 +265,7 @@ unfolding by_interrupt
 by_interrupt_fits true j number h d ctx was fits here program =
     after_interrupt_fits j number h d was _ fits here (interrupt_fits (slot_of ctx) was.control (low_slot ctx) program)
 by_interrupt_fits false j number h d ctx was fits here program =
-    let c : Cloak = cloak_of j.memory h d (pages_for was (context_at was.control.contexts (slot_of ctx))) in
+    let c : MidStep = cloak_of j.memory h d (pages_for was (context_at was.control.contexts (slot_of ctx))) in
     let world : CloakFits c = record { memory = fits.memory; items = tt } in
     let account = (accounts_domain_step (slot_of ctx) was (Cloaked c)).by
     (record { form = refl; places = fits.memory.places }) in
@@ -318,7 +318,7 @@ end_fits : (d : ℕ) (m : CloakedMemory) → MemoryFits m → WorldFits (ask_end
 unfolding ask_end
 end_fits d m fits =
     let w = Cloaked (cloak_for m d) in
-    (forgets_told d (numbers_below 16) _ (settled_for_fits d 0 (length m.ram) w (record { memory = fits; items = tt }))).world
+    forgets_fit d (numbers_below 16) _ (settled_for_fits d 0 (length m.ram) w (record { memory = fits; items = tt }))
 
 ended_program_fits : (domain : Domain) → ProgramFits domain → ProgramFits (ended_domain domain)
 unfolding ended_domain

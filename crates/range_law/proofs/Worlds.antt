@@ -15,11 +15,11 @@ use Rattle.cloak_model.specs.declared.access.Access.{Access}
 use Rattle.cloak_model.specs.declared.answer.Answer.{Answer}
 use Rattle.cloak_model.specs.declared.answer.Answer.TheVariants as answer
 use Rattle.cloak_model.specs.declared.item.Item.{Item}
-use Rattle.cloak_model.specs.Ask.{ask_word, ask_walk, ask_inside, ask_translate, ask_led, opened, ask_count, ask_value, ask_store, loaded_at, ask_load, stored_to, ask_store_at, ask_mark, ask_unmark, ask_marked, reserved_at, ask_reserve, is_reserved, stored_value, stored_if, conditional_at, ask_store_conditional, combined_at, ask_combine, ask_frame, ask_fill}
+use Rattle.cloak_model.specs.Ask.{ask_word, ask_walk, ask_in_ram, ask_translate, ask_led, opened, ask_count, ask_value, ask_store, loaded_at, ask_load, stored_to, ask_store_at, ask_mark, ask_unmark, ask_marked, reserved_at, ask_reserve, is_reserved, stored_value, stored_if, conditional_at, ask_store_conditional, combined_at, ask_combine, ask_frame, ask_fill}
 use Rattle.cloak_model.proofs.WalkParts.{ask_second, ask_after, ask_first}
 use Rattle.cloak_model.specs.AskPages.{answer_item, replies, if_drawn, inside_access, ask_inside_address, is_store, offered_by, ask_offer, reached, reach_by_table, get_at, got, get_by_table, put_at, stored_inside, put_by_table, settled_if_marked, clear_from, ask_reach, ask_read, ask_write, ask_get, ask_put, ask_clear, ask_copy, ask_forget}
 use Rattle.cloak_model.specs.Asking.{Told, Asking, answered, then_ask}
-use Rattle.cloak_model.specs.Cloaking.{Offer, Ready, Mismatch, Missed, seen_in, with_seen}
+use Rattle.cloak_model.specs.Cloaking.{OfferEnd, Ready, Mismatch, Missed, seen_in, with_seen}
 use Rattle.cloak_model.specs.Effect.{IsWidth}
 use Rattle.cloak_model.specs.Events.{Event}
 use Rattle.cloak_base.specs.Constants.{frame_of, place_of}
@@ -27,7 +27,7 @@ use Rattle.cloak_model.specs.Memory.{Seen, is_in_ram, with_value_at, value_at, s
 use Rattle.cloak_model.specs.PageMoves.{copy_pages, drop_pages}
 use Rattle.cloak_model.specs.Record.{IsItem, IsWord}
 use Rattle.cloak_model.specs.Walk.{Walk, FirstWord, Ends, GoesOn, access_fault, page_fault, first_entry, has_paging, is_valid, is_pointer, is_plain_pointer, allows, frame_at, first_leaf, second_leaf, first_word, second_word}
-use Rattle.cloak_model.specs.World.{World, Cloak, Flat, Cloaked, Alone, ram_of, settled, settled_in, with_marks, stored_at, filled_frame, written, noted, regime_of, plain_of, is_missed}
+use Rattle.cloak_model.specs.World.{World, MidStep, Flat, Cloaked, Alone, ram_of, settled, settled_in, with_marks, stored_at, filled_frame, written, noted, regime_of, plain_of, is_missed}
 use Rattle.range_law.specs.Writing.{AreBytes}
 use Rattle.range_law.proofs.Bounds.{all_append, all_or, both_true, zero_bytes, value_in_below, bytes_with_value}
 use Rattle.kernel_isolation.proofs.Shown.{either}
@@ -35,7 +35,7 @@ use Rattle.range_law.proofs.Memories.{FramesFit, MemoryFits, frame_set, settle_f
 
 -- The world of a step: its bytes are bytes, and what was written fits. A program alone is none.
 
-pub record CloakFits (c : Cloak) : Type 0 where
+pub record CloakFits (c : MidStep) : Type 0 where
   pub memory : MemoryFits c.memory
   pub items : AllByRecursion IsItem c.items
 
@@ -63,7 +63,7 @@ frames_of (Flat ram) fits = fits
 frames_of (Cloaked c) fits = fits.memory.ram
 frames_of (Alone h) fits = absurd fits
 
-pub settled_cloak : (f : ℕ) (c : Cloak) → CloakFits c → CloakFits (settled_in f c)
+pub settled_cloak : (f : ℕ) (c : MidStep) → CloakFits c → CloakFits (settled_in f c)
 settled_cloak f c fits =
     let shows = settle_fits f c.memory fits.memory in
     record { memory = shows.memory; items = all_append IsItem c.items _ fits.items shows.items }
@@ -73,7 +73,7 @@ settled_fits f (Flat ram) fits = fits
 settled_fits f (Cloaked c) fits = settled_cloak f c fits
 settled_fits f (Alone h) fits = absurd fits
 
-with_ram : (c : Cloak) (seen : Seen) (events : List Event) → length seen.ram ≡ length c.memory.ram → CloakFits c →
+with_ram : (c : MidStep) (seen : Seen) (events : List Event) → length seen.ram ≡ length c.memory.ram → CloakFits c →
     FramesFit seen.ram → CloakFits (record c { memory = with_seen seen c.memory; events = events })
 with_ram c seen events same fits here = record {
   memory = record {
@@ -221,8 +221,8 @@ in_ram_fits ram pa fits is =
     omega (arith, low, few)
 
 inside_told : (a : Access) (walk : Walk) (w : World) → CauseFits walk → WorldFits w →
-    ToldFits LeadFits (ask_inside a walk w)
-unfolding ask_inside
+    ToldFits LeadFits (ask_in_ram a walk w)
+unfolding ask_in_ram
 inside_told a (Err cause) w walks fits = record { answer = walks; world = fits }
 inside_told a (Ok walked) w walks fits = record {
   answer = cond_both (is_in_ram (ram_of w) walked.pa) (Ok walked.pa) (Err (access_fault a.kind)) LeadFits
@@ -233,7 +233,7 @@ inside_told a (Ok walked) w walks fits = record {
 translate_told : (satp : ℕ) (a : Access) (w : World) → WorldFits w → ToldFits LeadFits (ask_translate satp a w)
 unfolding ask_translate
 translate_told satp a w fits =
-    then_fits CauseFits LeadFits (ask_walk satp a) (ask_inside a) w (walk_told satp a w fits)
+    then_fits CauseFits LeadFits (ask_walk satp a) (ask_in_ram a) w (walk_told satp a w fits)
     (λ walk v walks there. inside_told a walk v walks there)
 
 led_told : (satp : ℕ) (a : Access) (w : World) → WorldFits w → ToldFits LeadFits (ask_led satp a w)
@@ -417,7 +417,7 @@ address_told : (va : ℕ) (kind : Kind) (w : World) → WorldFits w → ToldFits
 unfolding ask_inside_address
 address_told va kind w fits = led_told _ _ w fits
 
-offered_told : (q : PageId) (va : ℕ) (kind : Kind) (g : ℕ) (o : Offer) (w : World) → WorldFits w →
+offered_told : (q : PageId) (va : ℕ) (kind : Kind) (g : ℕ) (o : OfferEnd) (w : World) → WorldFits w →
     ToldFits AnswerFits (offered_by q va kind g o w)
 unfolding offered_by
 offered_told q va kind g Ready w fits = replies_told answer.Ok _ tt (noted_fits _ w fits)
@@ -550,7 +550,7 @@ pub read_told : (q : PageId) (at width : ℕ) (w : World) → WorldFits w → To
 unfolding ask_read
 read_told q at width w fits = record { answer = value_in_below _ at width (plain_fits w q fits); world = fits }
 
-pages_fit : (c : Cloak) (plain : PageId → List ℕ) → CloakFits c → ((q : PageId) → AreBytes (plain q)) →
+pages_fit : (c : MidStep) (plain : PageId → List ℕ) → CloakFits c → ((q : PageId) → AreBytes (plain q)) →
     CloakFits (record c { memory = record c.memory { plain = plain } })
 pages_fit c plain fits all = record {
   memory = record {

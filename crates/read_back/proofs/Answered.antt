@@ -15,7 +15,7 @@ use Rattle.command_parts.specs.Refusing.{Refuses}
 use Rattle.command_parts.proofs.FaultFacts.{raised}
 use Rattle.command_parts.proofs.Refused.{IsUnread, unread}
 use Rattle.read_back.specs.Answering.{AsksView, AsksSolo, OnlyShows, HasView, HasSolo, ViewAnswers, SoloAnswers, viewed_unfit, viewed_text, program_unfit, program_text}
-use Rattle.read_back.specs.Reading.{IsReadTo, ReadsBack, BreaksOff, ShowsRecord, status_of_ending}
+use Rattle.read_back.specs.Reading.{IsReadTo, ReadsRecord, BreaksOff, ShowsRecord, status_of_ending}
 use Rattle.read_back.specs.declared.ending.Ending.{Ending}
 use Rattle.read_back.specs.declared.ending.Ending.TheVariants as ending
 
@@ -83,7 +83,7 @@ read_since unfit told was m n k items ended same_told same_count read =
 pub reads_since : {S O : Type 0} {unfit : List Item → Option ℕ} {text : List Item → Option Ending → List ℕ}
     {name : List ℕ} {given : Status} (before mid after : Outside S O) → SameFiles before.files.held mid.files.held →
     mid.files.reading ≡ before.files.reading → mid.output ≡ before.output →
-    ReadsBack unfit text name given mid after → ReadsBack unfit text name given before after
+    ReadsRecord unfit text name given mid after → ReadsRecord unfit text name given before after
 reads_since {S} {O} {unfit} {text} {name} {given} before mid after held reading output r = record {
   items = r.items;
   ended = r.ended;
@@ -133,7 +133,7 @@ view_answers {S} {O} {asked} {name} {bundle} {before} {mid} {after} {given} asks
       record_name = name;
       bundle = bundle;
       asks = asks;
-      reads = subst (λ (x : Status). ReadsBack (viewed_unfit bundle.kernel) (viewed_text bundle.kernel) name x before after)
+      reads = subst (λ (x : Status). ReadsRecord (viewed_unfit bundle.kernel) (viewed_text bundle.kernel) name x before after)
           r.status r;
       only = only;
     }))
@@ -164,7 +164,7 @@ solo_answers {S} {O} {asked} {name} {bundle} {d} {p} {before} {mid} {after} {giv
       d = d;
       p = p;
       asks = asks;
-      reads = subst (λ (x : Status). ReadsBack (program_unfit d bundle.kernel p) (program_text d bundle.kernel p) name x
+      reads = subst (λ (x : Status). ReadsRecord (program_unfit d bundle.kernel p) (program_text d bundle.kernel p) name x
           before after) r.status r;
       only = only;
     }))

@@ -13,7 +13,7 @@ use Rattle.command_parts.specs.declared.status.Status.TheVariants as status
 use Rattle.command_parts.specs.Bundles.{IsInFile}
 use Rattle.command_parts.specs.NoRun.{IsRefused, LineFailed}
 use Rattle.command_parts.specs.Outside.{Outside, Raised}
-use Rattle.read_back.specs.Reading.{ReadsBack, BreaksOff}
+use Rattle.read_back.specs.Reading.{ReadsRecord, BreaksOff}
 use Rattle.read_back.specs.Text.{view_text, solo_text}
 use Rattle.read_back.specs.declared.ending.Ending.{Ending}
 
@@ -58,7 +58,7 @@ pub record HasView {S O : Type 0} (asked : spec.Asked) (answer : Status) (before
   pub record_name : List ℕ
   pub bundle : Bundle
   pub asks : AsksView asked before.files.held record_name bundle
-  pub reads : ReadsBack (viewed_unfit bundle.kernel) (viewed_text bundle.kernel) record_name answer before after
+  pub reads : ReadsRecord (viewed_unfit bundle.kernel) (viewed_text bundle.kernel) record_name answer before after
   pub only : OnlyShows before after
 
 pub record BreaksView {S O : Type 0} (asked : spec.Asked) (before after : Outside S O) : Type 0 where
@@ -74,7 +74,7 @@ pub record HasSolo {S O : Type 0} (asked : spec.Asked) (answer : Status) (before
   pub d : ℕ
   pub p : Program
   pub asks : AsksSolo asked before.files.held record_name bundle d p
-  pub reads : ReadsBack (program_unfit d bundle.kernel p) (program_text d bundle.kernel p) record_name answer before after
+  pub reads : ReadsRecord (program_unfit d bundle.kernel p) (program_text d bundle.kernel p) record_name answer before after
   pub only : OnlyShows before after
 
 pub record BreaksSolo {S O : Type 0} (asked : spec.Asked) (before after : Outside S O) : Type 0 where

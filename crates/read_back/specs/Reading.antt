@@ -65,7 +65,7 @@ pub record IsReadTo (unfit : List Item → Option ℕ) (told : Option (List ℕ)
   pub counts : ReadsAs reading reads ended
 
 -- A record was read to where reading ended, and what that gives was shown.
-pub record ReadsBack {S O : Type 0} (unfit : List Item → Option ℕ) (text : List Item → Option Ending → List ℕ)
+pub record ReadsRecord {S O : Type 0} (unfit : List Item → Option ℕ) (text : List Item → Option Ending → List ℕ)
     (name : List ℕ) (answer : Status) (before after : Outside S O) : Type 0 where
   pub items : List Item
   pub ended : Ending
@@ -87,5 +87,5 @@ pub record BreaksOff {S O : Type 0} (rose : ℕ → ℕ → Type 0) (unfit : Lis
 abbrev pub ShowsRecord : {S O : Type 0} → (List Item → Option ℕ) → (List Item → Option Ending → List ℕ) → List ℕ → Status →
     Outside S O → Outside S O → Type 0
 ShowsRecord unfit text name answer before after =
-    ReadsBack unfit text name answer before after
+    ReadsRecord unfit text name answer before after
     ⊎ ((answer ≡ status.WriteFault) × BreaksOff Rose unfit text name before after)

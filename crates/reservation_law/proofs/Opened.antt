@@ -14,7 +14,7 @@ use Rattle.cloak_model.specs.Beginning.{Beginning, opening_from}
 use Rattle.cloak_model.specs.Cloaking.{CloakedMemory}
 use Rattle.cloak_model.specs.Ledger.{Keys, key_of, vector_of}
 use Rattle.cloak_model.specs.Memory.{zero_ram, with_byte, with_bytes}
-use Rattle.cloak_model.specs.Opening.{with_segments, started_kernel, started_memory, started_joint, place_pages, place_programs, Opened}
+use Rattle.cloak_model.specs.Opening.{with_segments, started_kernel, started_memory, started_joint, place_pages, place_programs, RunEdge}
 use Rattle.cloak_model.specs.PageMoves.{place, place_with}
 use Rattle.kernel_isolation.proofs.FilesAdded.{added_keep, files_of, opens_over}
 use Rattle.reservation_law.proofs.Keeping.{AreWhole, whole_set}
@@ -89,7 +89,7 @@ joint_whole : (b : Bundle) (m : CloakedMemory) → AreWhole m.ram → AreWhole (
 unfolding started_joint
 joint_whole b m all = all
 
-pub opened_whole : (b : Bundle) (from : Beginning) (o : Opened) → opening_from b from ≡ Ok o →
+pub opened_whole : (b : Bundle) (from : Beginning) (o : RunEdge) → opening_from b from ≡ Ok o →
     AreWhole o.joint.memory.ram
 opened_whole b from o opens =
     let over = opens_over b from o opens in

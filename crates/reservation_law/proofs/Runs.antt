@@ -16,7 +16,7 @@ use Rattle.cloak_model.specs.Joint.{Moment, Turn, hart_in, joint_step, after_tur
 use Rattle.cloak_model.specs.KernelAlone.{kernel_seen}
 use Rattle.cloak_model.specs.Memory.{Seen, mark_of, filled}
 use Rattle.cloak_base.specs.Constants.{frame_of}
-use Rattle.cloak_model.specs.Opening.{Opened, started_harts, started_kernel}
+use Rattle.cloak_model.specs.Opening.{RunEdge, started_harts, started_kernel}
 use Rattle.cloak_model.specs.Parts.{Joint, KernelPart}
 use Rattle.cloak_model.specs.Run.{Run, run_from, unless_stopped, turns_from, joint_after, first_moment, run_of}
 use Rattle.kernel_isolation.specs.Isolation.{joint_until}
@@ -108,7 +108,7 @@ kernel_ids image k less =
     let count = started_count image.entry image.harts in
     started_ids image.entry image.harts k (omega (arith, less, count))
 
-opened_marks : (b : Bundle) (from : Beginning) (o : Opened) → opening_from b from ≡ Ok o → (k pa : ℕ) →
+opened_marks : (b : Bundle) (from : Beginning) (o : RunEdge) → opening_from b from ≡ Ok o → (k pa : ℕ) →
     mark_of k o.joint.memory.marks ≡ Some pa → ⊥
 opened_marks b from o opens k pa is =
     let opened = is_opened b from o opens in
@@ -117,7 +117,7 @@ opened_marks b from o opens k pa is =
     (shown_marks opened.ciphers (kernel_seen (started_kernel b.kernel)) k pa
     (subst (λ (l : List (Option ℕ)). mark_of k l ≡ Some pa) marks is))
 
-pub opened_orderly : (b : Bundle) (from : Beginning) (o : Opened) → opening_from b from ≡ Ok o → IsOrderly o.joint
+pub opened_orderly : (b : Bundle) (from : Beginning) (o : RunEdge) → opening_from b from ≡ Ok o → IsOrderly o.joint
 opened_orderly b from o opens =
     let opened = is_opened b from o opens in
     let harts : o.joint.harts ≡ (started_kernel b.kernel).harts = ap (λ (p : KernelPart). p.harts) opened.part in
@@ -182,7 +182,7 @@ record IsKnown (b : Bundle) (r : Run) : Type 0 where
   steps : (n : ℕ) → suc n ≤ length r.turns →
       StepDoes b n (joint_until n r) (items_of_turn (slice_get r.turns n)) (joint_until (suc n) r)
 
-known_step : (b : Bundle) (budget : ℕ) (o : Opened) → IsOrderly o.joint → (n : ℕ) →
+known_step : (b : Bundle) (budget : ℕ) (o : RunEdge) → IsOrderly o.joint → (n : ℕ) →
     let turns = turns_from budget (first_moment b o.joint) in suc n ≤ length turns →
     StepDoes b n (joint_after o.joint (take n turns)) (items_of_turn (slice_get turns n))
     (joint_after o.joint (take (suc n) turns))
@@ -202,7 +202,7 @@ known_step b budget o orderly n less =
     (sym found.1)
     (subst (λ (j' : Joint). StepDoes b n j t.items j') (sym (one_more o.joint turns n t found.1)) does')
 
-known_run : (b : Bundle) (from : Beginning) (budget : ℕ) (o : Opened) → opening_from b from ≡ Ok o →
+known_run : (b : Bundle) (from : Beginning) (budget : ℕ) (o : RunEdge) → opening_from b from ≡ Ok o →
     IsKnown b (run_of b budget o)
 unfolding run_of
 known_run b from budget o opens =

@@ -1,5 +1,5 @@
 -- What is written while a program asks: a Cipher has the 4096 bytes of a page, and a Put a width.
-use Rattle.std.proofs.Common.{◌≡◌, ℕ, zero, suc, ◌+◌, ◌*◌, ◌%◌, ◌^◌, Bool, true, false, List, [], ◌∷◌, ◌++◌, length, take, drop, slice_index_or, Option, Some, None, Ok, refl, sym, subst, arith, append_assoc}
+use Rattle.std.proofs.Common.{◌≡◌, ℕ, zero, suc, ◌*◌, ◌%◌, ◌^◌, Bool, true, List, [], ◌∷◌, ◌++◌, length, take, drop, slice_index_or, Option, Some, None, refl, sym, subst, arith, append_assoc}
 use Rattle.std.specs.List.{AllByRecursion, concat, find}
 use Rattle.std.specs.Str.{bytes_eq}
 use Rattle.std.proofs.lemmas.Bool.{false≢true}
@@ -27,7 +27,7 @@ use Rattle.cloak_model.specs.Ledger.{key_of, vector_of}
 use Rattle.cloak_model.specs.Memory.{Seen}
 use Rattle.cloak_model.specs.PageMoves.{copy_pages, drop_pages}
 use Rattle.cloak_model.specs.Touched.{touched}
-use Rattle.cloak_model.specs.World.{World, Cloak, Flat, Cloaked, Alone, Handed, items_of, noted, settled, settled_in, cipher_items}
+use Rattle.cloak_model.specs.World.{World, MidStep, Flat, Cloaked, Alone, Handed, items_of, noted, settled, settled_in, cipher_items}
 use Rattle.script_fold.proofs.ByQuestions.{StepKept, keeps_by}
 use Rattle.script_fold.proofs.Endings.{keeps_end}
 use Rattle.script_fold.proofs.Folding.{step_keeps}
@@ -172,11 +172,11 @@ no_alone : (h : Handed) (v : World) → Sizes (Alone h) v
 no_alone h v = record { by = λ is. absurd (false≢true is.form) }
 
 -- nothing is written
-same_sizes : (c c' : Cloak) → c'.items ≡ c.items → Sizes (Cloaked c) (Cloaked c')
+same_sizes : (c c' : MidStep) → c'.items ≡ c.items → Sizes (Cloaked c) (Cloaked c')
 same_sizes c c' same = record { by = λ is. record { form = refl; items = subst HaveSizes (sym same) is.items } }
 
 -- this is written
-more_sizes : (c c' : Cloak) (items : List Item) → c'.items ≡ c.items ++ items → HaveSizes items →
+more_sizes : (c c' : MidStep) (items : List Item) → c'.items ≡ c.items ++ items → HaveSizes items →
     Sizes (Cloaked c) (Cloaked c')
 more_sizes c c' items same all = record {
   by = λ is. record { form = refl; items = subst HaveSizes (sym same) (all_both HasSize c.items items is.items all) };
@@ -198,7 +198,7 @@ Sizes-noted events (Alone h) = no_alone h _
 
 -- Answers.
 
-answer_sizes : (c : Cloak) (d : ℕ) (a : Answer) →
+answer_sizes : (c : MidStep) (d : ℕ) (a : Answer) →
     Sizes (Cloaked c) (Cloaked (record c { items = c.items ++ answer_item d a ∷ [] }))
 answer_sizes c d answer.Ok = more_sizes c _ (item.Ok d ∷ []) refl (tt, tt)
 answer_sizes c d (answer.Absent cause) = more_sizes c _ (item.Absent d cause ∷ []) refl (tt, tt)
@@ -211,7 +211,7 @@ sizes_replies a (Flat ram) = no_flat ram _
 sizes_replies a (Cloaked c) = answer_sizes c c.regime.domain a
 sizes_replies a (Alone h) = no_alone h _
 
-offer_sizes : (q : PageId) (g : ℕ) (write : Bool) (events : List Event) (c : Cloak) →
+offer_sizes : (q : PageId) (g : ℕ) (write : Bool) (events : List Event) (c : MidStep) →
     let o = offer q g write c.memory in
     Sizes (Cloaked c)
     (Cloaked (record c { memory = o.memory; items = c.items ++ cipher_items o.ciphers; events = events }))

@@ -30,7 +30,7 @@ use Rattle.cloak_model.specs.Memory.{Seen, value_at, mark_of}
 use Rattle.cloak_model.specs.Parts.{Joint}
 use Rattle.cloak_model.specs.Resuming.{AfterResume, resume}
 use Rattle.cloak_model.proofs.ResumeParts.{by_root, by_context, by_domain}
-use Rattle.cloak_model.specs.World.{World, Cloak, Flat, Cloaked, Alone, items_of, seen_of, violation_of, cipher_items}
+use Rattle.cloak_model.specs.World.{World, MidStep, Flat, Cloaked, Alone, items_of, seen_of, violation_of, cipher_items}
 use Rattle.kernel_isolation.proofs.Accounts.{is_joint, IsJointWorld, Account, ram_seen}
 use Rattle.kernel_isolation.proofs.Ends.{EndsIn, end_shows}
 use Rattle.kernel_isolation.proofs.Items.{with_items}
@@ -366,7 +366,7 @@ domain_done j j' number h d w (went.SpaceGone space s) same reached =
     leaving j _ number h (items_of w) s same
     (record { harts = reached.harts; keeps = reached.keeps; places = reached.places })
 
-told_done : (j : Joint) (number : ℕ) (h : Hart) (d : ℕ) (c : Cloak) (told : Told DomainStepped) →
+told_done : (j : Joint) (number : ℕ) (h : Hart) (d : ℕ) (c : MidStep) (told : Told DomainStepped) →
     h.id ≡ id_in j.harts number → c.memory ≡ j.memory → c.items ≡ [] → Account (Cloaked c) told.world →
     Sizes (Cloaked c) told.world → TurnDone Idle number j (after_domain_step j number h d told)
 unfolding after_domain_step
@@ -411,7 +411,7 @@ by_interrupt_done : (due : Bool) (j : Joint) (number : ℕ) (h : Hart) (d slot :
 unfolding by_interrupt
 by_interrupt_done true j number h d slot was places same = after_interrupt_done j number h d was _ places same
 by_interrupt_done false j number h d slot was places same =
-    let c : Cloak = cloak_of j.memory h d (pages_for was (context_at was.control.contexts slot)) in
+    let c : MidStep = cloak_of j.memory h d (pages_for was (context_at was.control.contexts slot)) in
     told_done j number h d c (domain_step slot was (Cloaked c)) same refl refl
     ((accounts_domain_step slot was (Cloaked c)).by (record { form = refl; places = places }))
     (sizes_domain_step slot was (Cloaked c))
@@ -447,7 +447,7 @@ end_done : (deed : Deed) (number : ℕ) (j : Joint) (t : Turn) (d : ℕ) (domain
     TurnDoes deed number j.harts (seen_in j.memory) u.items u.joint.harts (seen_in u.joint.memory)
 unfolding end_domain
 end_done deed number j t d domain v turn met =
-    let c : Cloak = cloak_for t.joint.memory d in
+    let c : MidStep = cloak_for t.joint.memory d in
     let w : World = (ask_end d (Cloaked c)).world in
     let e : EndsIn c w = end_shows d t.joint.memory turn.places in
     let sized = (sizes_end d (Cloaked c)).by (record { form = refl; items = tt }) in

@@ -1,5 +1,5 @@
 -- The bytes of RAM that a step of a run writes, whoever writes them: the kernel, or what it is shown of programs.
-use Rattle.std.specs.Prelude.{ℕ, ◌+◌, ◌*◌, ◌%◌, nat_lt, nat_le, Bool, not, ◌&&◌, List, [], ◌∷◌, ◌++◌, length, slice_get, slice_index, Option, Some, None}
+use Rattle.std.specs.Prelude.{ℕ, ◌+◌, ◌*◌, nat_lt, nat_le, Bool, not, ◌&&◌, List, [], ◌∷◌, ◌++◌, slice_get, Option, Some, None}
 use Rattle.std.specs.List.{flat_map, list_any}
 use Rattle.cloak_base.specs.Constants.{ram_start}
 use Rattle.cloak_model.specs.declared.image.Bundle.{Bundle}

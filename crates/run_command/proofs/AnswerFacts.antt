@@ -12,7 +12,7 @@ use Rattle.command_words.specs.Command as spec
 use Rattle.cloak_model.specs.Exchange.{Piece, recorded, shown, recorded_bytes, shown_bytes}
 use Rattle.std.specs.Result.{result_map_both}
 use Rattle.cloak_model.specs.Beginning.{Fresh}
-use Rattle.cloak_model.specs.Opening.{Opened, Lack}
+use Rattle.cloak_model.specs.Opening.{RunEdge, Lack}
 use Rattle.cloak_model.specs.Run.{Run, run_of, due}
 use Rattle.command_parts.specs.declared.refusal.Refusal.{Refusal}
 use Rattle.command_parts.specs.declared.refusal.Refusal.TheVariants as refusal
@@ -22,7 +22,8 @@ use Rattle.run_command.specs.declared.outlet.Outlet.{Outlet}
 use Rattle.command_parts.specs.Outside.{Raised, Output, Outside, OnlyRead, outside}
 use Rattle.run_command.specs.Outlet.{pieces_left, FailedAt, WroteAll, WroteFront, Writes, Gave}
 use Rattle.command_parts.specs.Refusal.{status_of_refusal}
-use Rattle.run_command.specs.Running.{NoClash, IsStatusOfStop, run_status, status_of, unless_refused}
+use Rattle.run_command.specs.Running.{IsStatusOfStop, run_status, status_of, unless_refused}
+use Rattle.cloak_model.specs.Run.{NoClash}
 use Rattle.run_command.specs.Preparing.{IsPrepared}
 use Rattle.run_command.specs.Recording.{Records, GrowsSome}
 use Rattle.command_parts.specs.Refusing.{Refuses}
@@ -223,7 +224,7 @@ asks_run {asked} {held} {record_name} {steps} {machine} prepared = record {
   bundle = prepared.bundle;
   stream = prepared.stream;
   asks = prepared.asks;
-  joint = ap (λ (opened : Result Opened Lack). result_map_both (run_of prepared.bundle steps) (λ lack. lack) opened)
+  joint = ap (λ (opened : Result RunEdge Lack). result_map_both (run_of prepared.bundle steps) (λ lack. lack) opened)
       prepared.opens;
 }
 

@@ -3,10 +3,10 @@ use Rattle.std.proofs.Common.{ℕ, zero, suc, List, Option, Some, None}
 use Rattle.cloak_base.specs.declared.causes.Stop.{Stop}
 use Rattle.cloak_model.specs.declared.image.Bundle.{Bundle}
 use Rattle.cloak_model.specs.Joint.{Moment, Turn, joint_step, next_hart, after_turn, stop_of}
-use Rattle.cloak_model.specs.Opening.{Opened}
+use Rattle.cloak_model.specs.Opening.{RunEdge}
 use Rattle.cloak_model.specs.Run.{first_moment, joint_after, run_of, turns_from, unless_stopped}
 use Rattle.joint_machine.proofs.Clashed.{closing_unclashed, step_unclashed}
-use Rattle.run_command.specs.Running.{NoClash, NoClashYet}
+use Rattle.cloak_model.specs.Run.{NoClash, NoClashYet}
 
 before_step : (m : Moment) → NoClashYet (joint_step m).joint → NoClashYet m.joint
 unfolding joint_step
@@ -29,7 +29,7 @@ turns_unclashed (suc n) m none =
     (rest_unclashed (stop_of t) (turns_from n) (after_turn m t) (turns_unclashed n (after_turn m t)) none)
 
 -- and none clashed after the steps of a run in which none did
-pub run_unclashed : (b : Bundle) (steps : ℕ) (o : Opened) → NoClash (run_of b steps o) →
+pub run_unclashed : (b : Bundle) (steps : ℕ) (o : RunEdge) → NoClash (run_of b steps o) →
     NoClashYet (joint_after o.joint (turns_from steps (first_moment b o.joint)))
 unfolding run_of
 run_unclashed b steps o none = closing_unclashed (joint_after o.joint (turns_from steps (first_moment b o.joint))) none

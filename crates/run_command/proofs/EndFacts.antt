@@ -8,7 +8,7 @@ use Rattle.io_traits.specs.Told.{Grows, GrowsByFront, Tells}
 use Rattle.cloak_model.specs.declared.image.Bundle.{Bundle}
 use Rattle.cloak_model.specs.Exchange.{Piece}
 use Rattle.cloak_model.specs.Joint.{Moment}
-use Rattle.cloak_model.specs.Opening.{Opened}
+use Rattle.cloak_model.specs.Opening.{RunEdge}
 use Rattle.cloak_model.specs.Run.{any_refused, cause_of, closing, first_moment, joint_after, last_stop, run_of, turns_from}
 use Rattle.cloak_machine.specs.declared.end.RunEnd.{RunEnd}
 use Rattle.cloak_machine.specs.declared.machine.Machine.{Machine}
@@ -17,7 +17,7 @@ use Rattle.cloak_machine.specs.Standing.{FinishesAs, StandsForMoment}
 use Rattle.run_command.specs.Running.{IsEndOf, MadeAll, moment_behind}
 
 -- the end of a machine that made all steps of a run
-pub end_of : {E : Type 0} {gave : E → E → List Piece → Type 0} {e f : E} (b : Bundle) (steps : ℕ) (o : Opened)
+pub end_of : {E : Type 0} {gave : E → E → List Piece → Type 0} {e f : E} (b : Bundle) (steps : ℕ) (o : RunEdge)
     (machine : Machine) (stopped : Option Stop) (cause : Stop) (end : RunEnd) →
     MadeAll machine stopped (first_moment b o.joint) (turns_from steps (first_moment b o.joint)) →
     cause ≡ unwrap_or stopped stop.Budget →

@@ -7,7 +7,7 @@ use Rattle.cloak_base.specs.declared.causes.Stop.{Stop}
 use Rattle.cloak_base.specs.declared.causes.Stop.TheVariants as stop
 use Rattle.cloak_model.specs.declared.image.Bundle.{Bundle}
 use Rattle.cloak_model.specs.Exchange.{Piece, recorded, shown, record_magic, item_pieces, Emits, EmitsSome}
-use Rattle.cloak_model.specs.Opening.{Opened}
+use Rattle.cloak_model.specs.Opening.{RunEdge}
 use Rattle.cloak_model.specs.Parts.{Joint}
 use Rattle.cloak_model.specs.Report.{report}
 use Rattle.cloak_model.specs.Joint.{Moment, Turn, joint_step, after_turn, stop_of}
@@ -18,7 +18,8 @@ use Rattle.cloak_machine.specs.Standing.{StandsForMoment, ShowsOpening, MakesTur
 use Rattle.cloak_machine.specs.Ending.{end_is_refused, end_report}
 use Rattle.cloak_machine.specs.declared.end.RunEnd.{RunEnd}
 use Rattle.command_parts.specs.declared.status.Status.{Status}
-use Rattle.run_command.specs.Running.{BeginsRun, NoClashYet, RunsSteps, EndsRun, WritesRun, first_pieces, last_pieces, moment_behind, status_of}
+use Rattle.run_command.specs.Running.{BeginsRun, RunsSteps, EndsRun, WritesRun, first_pieces, last_pieces, moment_behind, status_of}
+use Rattle.cloak_model.specs.Run.{NoClashYet}
 use Rattle.run_command.proofs.ClashFacts.{rest_unclashed, turns_unclashed}
 use Rattle.cloaked_side.proofs.Emitting.{emits_then}
 
@@ -272,7 +273,7 @@ emits_text {E} {gave} {e} {f} {x} {y} same emits =
 
 -- the record's first bytes, the opening and the steps of a run
 pub begins_run : {E : Type 0} {gave : E → E → List Piece → Type 0} {failed : Bool} {e f g h : E}
-    {opened machine : Machine} {stopped : Option Stop} {b : Bundle} {o : Opened} {turns : List Turn} →
+    {opened machine : Machine} {stopped : Option Stop} {b : Bundle} {o : RunEdge} {turns : List Turn} →
     Emits gave e f (recorded record_magic ∷ []) → ShowsOpening gave f g opened b o →
     RunsSteps gave failed g h machine stopped (first_moment b o.joint) turns →
     BeginsRun gave failed e h machine stopped b o turns
@@ -280,7 +281,7 @@ begins_run {E} {gave} {failed} {e} {f} {g} {h} {opened} {machine} {stopped} {b} 
     record { emits = emits_then first (emits_then opens.emits runs.emits); made = runs.made }
 
 -- the pieces of a run
-pieces_of_run : (b : Bundle) (steps : ℕ) (o : Opened) →
+pieces_of_run : (b : Bundle) (steps : ℕ) (o : RunEdge) →
     let turns = turns_from steps (first_moment b o.joint) in
     let closed = closing (joint_after o.joint turns) in
     first_pieces o turns ++ last_pieces (cause_of closed.joint (last_stop None turns)) (length turns) closed ≡ due (run_of b steps o)
@@ -291,7 +292,7 @@ pieces_of_run b steps o =
 
 -- a run whose outlet failed before its steps were over, and is given the rest in vain
 pub writes-front : {E : Type 0} {gave : E → E → List Piece → Type 0} {failed : Bool} {e f : E} {machine : Machine}
-    {stopped : Option Stop} (given : Status) (b : Bundle) (steps : ℕ) (o : Opened) →
+    {stopped : Option Stop} (given : Status) (b : Bundle) (steps : ℕ) (o : RunEdge) →
     BeginsRun gave failed e f machine stopped b o (turns_from steps (first_moment b o.joint)) → failed ≡ true →
     ((ps : List Piece) → Emits gave f f ps) → WritesRun gave failed e f given (run_of b steps o)
 writes-front {E} {gave} {failed} {e} {f} {machine} {stopped} given b steps o begins broken none = record {
@@ -301,7 +302,7 @@ writes-front {E} {gave} {failed} {e} {f} {machine} {stopped} given b steps o beg
 
 -- a run whose steps were made, and whose end was written
 pub writes-whole : {E : Type 0} {gave : E → E → List Piece → Type 0} {mid_failed failed : Bool} {e f g : E}
-    {machine : Machine} {stopped : Option Stop} {cause : Stop} {given : Status} (b : Bundle) (steps : ℕ) (o : Opened) →
+    {machine : Machine} {stopped : Option Stop} {cause : Stop} {given : Status} (b : Bundle) (steps : ℕ) (o : RunEdge) →
     BeginsRun gave mid_failed e f machine stopped b o (turns_from steps (first_moment b o.joint)) →
     mid_failed ≡ false → cause ≡ unwrap_or stopped stop.Budget →
     ((m : Moment) → StandsForMoment machine m → EndsRun gave f g given cause m.steps (closing m.joint)) →
@@ -326,7 +327,7 @@ writes-whole {E} {gave} {mid_failed} {failed} {e} {f} {g} {machine} {stopped} {c
 
 -- the end of a run, by what the machine's end emits and says
 pub ends_run : {E : Type 0} {gave : E → E → List Piece → Type 0} {e f g h : E} {end : RunEnd} {stopped : Stop}
-    {m : Moment} {closed : Opened} {given : Status} →
+    {m : Moment} {closed : RunEdge} {given : Status} →
     FinishesAs gave e f end stopped m closed → Emits gave f g (shown (codes "\n") ∷ []) →
     Emits gave g h (shown (end_report end) ∷ []) → given ≡ status_of end.stop (end_is_refused end) →
     EndsRun gave e h given stopped m.steps closed

@@ -7,7 +7,8 @@ use Rattle.cloak_model.specs.Joint.{Moment, Turn, joint_step, after_turn, stop_o
 use Rattle.cloak_model.specs.Run.{unless_stopped, turns_from, joint_after, last_stop}
 use Rattle.cloak_machine.specs.declared.machine.Machine.{Machine}
 use Rattle.cloak_machine.specs.Standing.{StandsForMoment}
-use Rattle.run_command.specs.Running.{MadeAll, NoClashYet, moment_behind}
+use Rattle.run_command.specs.Running.{MadeAll, moment_behind}
+use Rattle.cloak_model.specs.Run.{NoClashYet}
 use Rattle.run_command.proofs.RunFacts.{last_stop-last, behind_none, behind_last, turns_from-next, turns_from-none, next_unclashed}
 
 -- Steps after steps.

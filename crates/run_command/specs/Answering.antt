@@ -24,7 +24,7 @@ use Rattle.run_command.specs.Refusing.{RefusesRightly}
 use Rattle.run_command.specs.Recording.{IsWritten, IsCutOff, GrowsSome, FailedSome}
 use Rattle.run_command.specs.Isolated.{IsIsolated}
 use Rattle.run_command.specs.ReadingBack.{ReadsBack}
-use Rattle.run_command.specs.Running.{NoClash}
+use Rattle.cloak_model.specs.Run.{NoClash}
 
 -- The words ask for this joint run.
 pub record AsksRun (asked : spec.Asked) (held : List ℕ → Option (List ℕ)) (record_name : List ℕ) (r : Run) : Type 0

@@ -3,7 +3,7 @@ use Rattle.std.specs.Prelude.{ℕ, ◌≡◌, ◌≤◌, List, map, Option, Resu
 use Rattle.cloak_base.specs.Random.{Random}
 use Rattle.cloak_model.specs.declared.image.Bundle.{Bundle}
 use Rattle.command_words.specs.Command as spec
-use Rattle.cloak_model.specs.Opening.{Opened, opening}
+use Rattle.cloak_model.specs.Opening.{RunEdge, opening}
 use Rattle.cloak_model.specs.Run.{first_moment, most_steps}
 use Rattle.cloak_machine.specs.Standing.{StandsForMoment, placings_of}
 use Rattle.cloak_machine.specs.declared.machine.Machine.{Machine}
@@ -28,7 +28,7 @@ pub record IsPrepared (asked : spec.Asked) (held : List ℕ → Option (List ℕ
   pub bundle : Bundle
   pub stream : Random
   pub asks : AsksBundle asked held record_name steps bundle stream
-  pub opened : Opened
+  pub opened : RunEdge
   pub opens : opening bundle stream ≡ Ok opened
   pub stands : StandsForMoment machine (first_moment bundle opened.joint)
   pub placings : placings_of machine ≡ map placing bundle.programs

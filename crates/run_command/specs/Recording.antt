@@ -7,7 +7,8 @@ use Rattle.command_parts.specs.declared.status.Status.{Status}
 use Rattle.command_parts.specs.declared.status.Status.TheVariants as status
 use Rattle.command_parts.specs.Outside.{Outside, NothingRose}
 use Rattle.run_command.specs.Outlet.{Cut, pieces_left, FailedAt}
-use Rattle.run_command.specs.Running.{NoClash, IsStatusOfStop, run_status}
+use Rattle.run_command.specs.Running.{IsStatusOfStop, run_status}
+use Rattle.cloak_model.specs.Run.{NoClash}
 
 -- what is due of a run was written whole, and the answer is its status
 pub record IsWritten {S O : Type 0} (r : Run) (name : List ℕ) (given : Status) (before after : Outside S O) : Type 0

@@ -6,7 +6,7 @@ use Rattle.cloak_base.specs.declared.causes.Stop.TheVariants as stop
 use Rattle.cloak_model.specs.declared.item.Item.TheVariants as item
 use Rattle.cloak_model.specs.Exchange.{Piece, recorded, shown, record_magic, Emits, item_pieces}
 use Rattle.cloak_model.specs.declared.image.Bundle.{Bundle}
-use Rattle.cloak_model.specs.Opening.{Opened}
+use Rattle.cloak_model.specs.Opening.{RunEdge}
 use Rattle.cloak_model.specs.Report.{report}
 use Rattle.cloak_model.specs.Parts.{Joint}
 use Rattle.cloak_model.specs.Joint.{Moment, Turn}
@@ -38,17 +38,17 @@ pub record RunsSteps {E : Type 0} (gave : E → E → List Piece → Type 0) (fa
   pub made : failed ≡ false → MadeAll machine stopped m turns
 
 -- the pieces of a run that was opened so, up to the last of these steps
-abbrev pub first_pieces : Opened → List Turn → List Piece
+abbrev pub first_pieces : RunEdge → List Turn → List Piece
 first_pieces o turns = recorded record_magic ∷ (item_pieces o.items ++ turns_pieces 1 turns)
 
 -- these were given, and all of the steps were made unless the outlet failed
 pub record BeginsRun {E : Type 0} (gave : E → E → List Piece → Type 0) (failed : Bool) (e e' : E) (machine : Machine)
-    (stopped : Option Stop) (b : Bundle) (o : Opened) (turns : List Turn) : Type 0 where
+    (stopped : Option Stop) (b : Bundle) (o : RunEdge) (turns : List Turn) : Type 0 where
   pub emits : Emits gave e e' (first_pieces o turns)
   pub made : failed ≡ false → MadeAll machine stopped (first_moment b o.joint) turns
 
 -- the pieces after the steps of a run that ended so
-abbrev pub last_pieces : Stop → ℕ → Opened → List Piece
+abbrev pub last_pieces : Stop → ℕ → RunEdge → List Piece
 last_pieces cause steps closed =
     item_pieces (item.Close steps ∷ (closed.items ++ item.End ∷ []))
     ++ (shown (codes "\n") ∷ shown (report cause steps closed.joint) ∷ [])
@@ -58,14 +58,6 @@ pub record IsEndOf (end : RunEnd) (r : Run) : Type 0 where
   pub stop : end.stop ≡ r.stop
   pub refused : end_is_refused end ≡ is_refused r
   pub short : end_short_report end ≡ short_report r.stop (length r.turns) r.closed.joint
-
--- Up to now no two different pages that were compared had one digest.
-abbrev pub NoClashYet : Joint → Type 0
-NoClashYet j = j.memory.ledger.clashed ≡ false
-
--- In the whole run no two different pages that were compared had one digest. (What clashed once stays so.)
-abbrev pub NoClash : Run → Type 0
-NoClash r = NoClashYet r.closed.joint
 
 -- the status of a run that no missing draw stopped, by whether a domain ended or a resuming was refused of which none was
 -- left to end
@@ -89,7 +81,7 @@ IsStatusOfStop given = (cause : Stop) × (refused : Bool) × (given ≡ status_o
 
 -- The end of a run that this stopped after this many steps, and that closed so, was emitted, and its status returned.
 pub record EndsRun {E : Type 0} (gave : E → E → List Piece → Type 0) (e e' : E) (given : Status) (stopped : Stop)
-    (steps : ℕ) (closed : Opened) : Type 0 where
+    (steps : ℕ) (closed : RunEdge) : Type 0 where
   pub emits : Emits gave e e' (last_pieces (cause_of closed.joint (Some stopped)) steps closed)
   pub status : given
       ≡ status_of (cause_of closed.joint (Some stopped)) (any_refused closed.joint.ended closed.joint.refused)

@@ -11,7 +11,7 @@ use Rattle.command_words.specs.Command as spec
 use Rattle.command_parts.specs.declared.status.Status.{Status}
 use Rattle.command_parts.specs.Outside.{Outside}
 use Rattle.run_command.specs.Answering.{HasRun}
-use Rattle.run_command.specs.Running.{NoClash}
+use Rattle.cloak_model.specs.Run.{NoClash}
 
 -- A call of `run` that made its run: what its words ask for, the status that it returned, and the outside before and
 -- after it.

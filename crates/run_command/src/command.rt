@@ -2,7 +2,7 @@
 ghost use Rattle.std.specs.Prelude.{◌≡◌, ◌<◌, ◌-◌, ◌^◌, [], Ok, map};
 ghost use Rattle.cloak_model.specs.declared.image.Bundle.{Bundle};
 ghost use Rattle.cloak_model.specs.Beginning.{Beginning, opening_from};
-ghost use Rattle.cloak_model.specs.Opening.{Opened};
+ghost use Rattle.cloak_model.specs.Opening.{RunEdge};
 ghost use Rattle.cloak_model.specs.Run.{first_moment, run_of};
 ghost use Rattle.cloak_machine.specs.Standing.{StandsForMoment, placings_of, steps_made};
 ghost use Rattle.command_words.specs.Request.{asked_of_run};
@@ -30,7 +30,7 @@ fn record_run<S: Shelf, O: Sink>(
     out: &mut O,
 ) -> Status
     requires { steps_made machine ≡ 0 }
-    ensures { (b : Bundle) (from : Beginning) (o : Opened) → opening_from b from ≡ Ok o →
+    ensures { (b : Bundle) (from : Beginning) (o : RunEdge) → opening_from b from ≡ Ok o →
         placings_of machine ≡ map placing b.programs → StandsForMoment machine (first_moment b o.joint) →
         Records run.now.record_name.now
         (outside S.Shelf O.Sink shelf.old out.old) (outside S.Shelf O.Sink shelf.new out.new)

@@ -5,12 +5,13 @@ ghost use Rattle.cloak_model.specs.Beginning.{Beginning, opening_from};
 ghost use Rattle.cloak_model.specs.Run.{most_steps};
 ghost use Rattle.cloak_model.specs.Exchange.{Emits, EmitsSome};
 ghost use Rattle.cloak_model.specs.Joint.{Moment};
-ghost use Rattle.cloak_model.specs.Opening.{Opened};
+ghost use Rattle.cloak_model.specs.Opening.{RunEdge};
 ghost use Rattle.cloak_model.specs.Run.{cause_of, closing, first_moment, joint_after, run_of, turns_from};
 ghost use Rattle.cloak_machine.specs.Standing.{StandsForMoment, placings_of, steps_made};
 ghost use Rattle.joint_machine.specs.Placings.{placing};
 ghost use Rattle.run_command.specs.Outlet.{Gave};
-ghost use Rattle.run_command.specs.Running.{BeginsRun, EndsRun, IsStatusOfStop, NoClash, NoClashYet, RunsSteps, WritesRun};
+ghost use Rattle.run_command.specs.Running.{BeginsRun, EndsRun, IsStatusOfStop, RunsSteps, WritesRun};
+ghost use Rattle.cloak_model.specs.Run.{NoClash, NoClashYet};
 ghost use Rattle.run_command.specs.Running.{status_of, unless_refused};
 
 use crate::outlet::Outlet;
@@ -60,7 +61,7 @@ pub fn write_steps<S: Shelf, O: Sink>(
     ensures same_shelf { outlet.new.pen.shelf.ghost_name ≡ outlet.old.pen.shelf.ghost_name }
     ensures same_out { outlet.new.out.ghost_name ≡ outlet.old.out.ghost_name }
     ensures emits_some { EmitsSome (Gave S.Shelf O.Sink) outlet.old outlet.new }
-    ensures runs { (b : Bundle) (from : Beginning) (o : Opened) → opening_from b from ≡ Ok o →
+    ensures runs { (b : Bundle) (from : Beginning) (o : RunEdge) → opening_from b from ≡ Ok o →
         placings_of machine.old ≡ map placing b.programs → StandsForMoment machine.old (first_moment b o.joint) →
         NoClashYet (joint_after o.joint (turns_from steps (first_moment b o.joint))) →
         BeginsRun (Gave S.Shelf O.Sink) outlet.new.pen.failed outlet.old outlet.new machine.new result b o
@@ -124,7 +125,7 @@ pub fn write_run<S: Shelf, O: Sink>(
     ensures same_out { outlet.new.out.ghost_name ≡ outlet.old.out.ghost_name }
     ensures emits_some { EmitsSome (Gave S.Shelf O.Sink) outlet.old outlet.new }
     ensures some_stop { outlet.new.pen.failed ≡ false → IsStatusOfStop result }
-    ensures runs { (b : Bundle) (from : Beginning) (o : Opened) → opening_from b from ≡ Ok o →
+    ensures runs { (b : Bundle) (from : Beginning) (o : RunEdge) → opening_from b from ≡ Ok o →
         placings_of machine ≡ map placing b.programs → StandsForMoment machine (first_moment b o.joint) →
         NoClash (run_of b steps o) →
         WritesRun (Gave S.Shelf O.Sink) outlet.new.pen.failed outlet.old outlet.new result (run_of b steps o) }

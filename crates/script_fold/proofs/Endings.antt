@@ -2,7 +2,8 @@
 use Rattle.std.proofs.Common.{ℕ, zero, suc, ◌+◌, List, [], ◌∷◌, length}
 use Rattle.cloak_model.specs.AskPages.{settled_if_marked, ask_forget}
 use Rattle.cloak_model.specs.Ending.{all_marked, settled_for, ask_end}
-use Rattle.cloak_model.specs.Fork.{ask_forgets}
+use Rattle.cloak_model.specs.Fork.{forget_each}
+use Rattle.cloak_model.specs.Script.{played}
 use Rattle.cloak_model.specs.Opening.{numbers_below}
 use Rattle.cloak_model.specs.World.{World, ram_of}
 use Rattle.script_fold.proofs.Questions.{Settles, keeps_if_marked}
@@ -16,8 +17,8 @@ keeps_settled_for R k d f (suc n) w =
 
 pub keeps_forgets : (R : World → World → Type 0) → ((w : World) → R w w) → ((u v w : World) → R u v → R v w → R u w) →
     ((d resource : ℕ) (w : World) → R w (ask_forget d resource w).world) → (d : ℕ) (numbers : List ℕ) (w : World) →
-    R w (ask_forgets d numbers w).world
-unfolding ask_forgets
+    R w (played (forget_each d numbers) w).world
+unfolding forget_each
 keeps_forgets R same chained forgets d [] w = same w
 keeps_forgets R same chained forgets d (n ∷ numbers) w =
     chained _ _ _ (forgets d n w) (keeps_forgets R same chained forgets d numbers (ask_forget d n w).world)

@@ -1,44 +1,45 @@
 -- The fork of a space and the end of a context are scripts.
-use Rattle.std.proofs.Common.{◌≡◌, ℕ, Bool, true, false, List, [], ◌∷◌, Option, Some, None, Result, Ok, Err, refl}
+use Rattle.std.proofs.Common.{◌≡◌, ℕ, Bool, true, false, List, [], ◌∷◌, Option, Result, Ok, Err, refl}
 use Rattle.std.specs.Prelude.{is_some, ◌&&◌, unwrap_or, if◌then◌else◌}
 use Rattle.std.specs.List.{list_any}
 use Rattle.cloak_model.specs.declared.answer.Answer.{Answer}
 use Rattle.cloak_model.specs.declared.answer.Answer.TheVariants as told
-use Rattle.cloak_base.specs.declared.names.CtxId.{CtxId}
+use Rattle.cloak_model.specs.declared.inside.Forked.{Forked}
+use Rattle.cloak_model.specs.declared.inside.Forked.TheVariants as forked
 use Rattle.cloak_model.specs.declared.inside.Ended.{Ended}
 use Rattle.cloak_model.specs.declared.inside.Ended.TheVariants as ends
 use Rattle.cloak_model.specs.declared.resource.MapFault.{MapFault}
 use Rattle.cloak_model.specs.declared.resource.MapFault.TheVariants.{Full}
-use Rattle.cloak_model.specs.Asking.{Asking, then_ask}
 use Rattle.cloak_model.specs.Resources.{Resources, first_free}
 use Rattle.cloak_model.specs.Contexts.{Context, end_at, with_context}
 use Rattle.cloak_model.specs.Fork as forks
 use Rattle.cloak_model.proofs.ForkParts as fork_parts
 use Rattle.script_fold.proofs.Runs.{runs_in, free_taken}
-use Rattle.script_fold.proofs.Scripts.{Clear, Copy, Forget, EndClaims, IsStop, Scripted, OnlyChanges, scripted_gives, scripted_asks, changes_then, changes_end}
+use Rattle.cloak_model.specs.Script.{Script, Clear, Copy, Forget, ◌>>=◌}
+use Rattle.script_fold.proofs.Scripts.{EndClaims, IsStop, Scripted, OnlyChanges, scripted_gives, scripted_asks, changes_then, changes_end}
 
 -- Fork.
 
 -- there is a new context
-abbrev pub HasForked : Result (Option CtxId) MapFault → Type 0
-HasForked (Err fault) = ⊥
-HasForked (Ok None) = ⊥
-HasForked (Ok (Some ctx)) = Unit {0}
+abbrev pub HasForked : Forked → Type 0
+HasForked (forked.Refused fault) = ⊥
+HasForked forked.Stopped = ⊥
+HasForked (forked.Child ctx) = Unit {0}
 
 -- the same contexts run as before
 abbrev pub of_fork : List (Option Context) → EndClaims forks.Fork
 of_fork contexts = record {
   each = λ f. (hart s : ℕ) → runs_in hart f.spaces.contexts s ≡ runs_in hart contexts s;
-  stopped = λ f. f.answer ≡ Ok None;
+  stopped = λ f. f.answer ≡ forked.Stopped;
   changed = λ f. HasForked f.answer;
 }
 
-copies_scripted : (d : ℕ) {A : Type 0} (e : EndClaims A) (list : List (ℕ × ℕ)) (next : Asking A) → OnlyChanges d e next →
-    OnlyChanges d e (then_ask (forks.ask_copies d list) (λ done. next))
-unfolding forks.ask_copies
+copies_scripted : (d : ℕ) {A : Type 0} (e : EndClaims A) (list : List (ℕ × ℕ)) (next : Script A) → OnlyChanges d e next →
+    OnlyChanges d e (forks.copy_each d list >>= (λ done. next))
+unfolding forks.copy_each
 copies_scripted d e [] next second = second
 copies_scripted d e (x ∷ list) next second =
-    changes_then d e (Copy x.0 x.1) (then_ask (forks.ask_copies d list) (λ done. next))
+    changes_then d e (Copy d x.0 x.1) refl (forks.copy_each d list >>= (λ done. next))
     (copies_scripted d e list next second)
 
 unfoldable fork_cleared_scripted : (d : ℕ) (c : Context) (slot new : ℕ) (r : Resources)
@@ -79,7 +80,7 @@ fork_if_scripted d (Err fault) c r contexts free = scripted_gives d (of_fork con
 fork_if_scripted d (Ok fits) c r contexts free =
     let new = unwrap_or (first_free r.spaces) 0 in
     let slot = unwrap_or (first_free contexts) 0 in
-    scripted_asks d (of_fork contexts) (Clear (forks.marked c.space r)) (fork_parts.fork_cleared d c slot new r contexts)
+    scripted_asks d (of_fork contexts) (Clear d (forks.marked c.space r)) refl (fork_parts.fork_cleared d c slot new r contexts)
     (fork_cleared_scripted d c slot new r contexts (free_taken (forks.child new c) contexts refl free)) refl
 
 pub fork_scripted : (d : ℕ) (c : Context) (r : Resources) (contexts : List (Option Context)) →
@@ -104,12 +105,12 @@ of_end slot contexts = record {
   changed = λ x. HasEnded x.ending;
 }
 
-forgets_scripted : (d : ℕ) {A : Type 0} (e : EndClaims A) (list : List ℕ) (next : Asking A) → OnlyChanges d e next →
-    OnlyChanges d e (then_ask (forks.ask_forgets d list) (λ done. next))
-unfolding forks.ask_forgets
+forgets_scripted : (d : ℕ) {A : Type 0} (e : EndClaims A) (list : List ℕ) (next : Script A) → OnlyChanges d e next →
+    OnlyChanges d e (forks.forget_each d list >>= (λ done. next))
+unfolding forks.forget_each
 forgets_scripted d e [] next second = second
 forgets_scripted d e (n ∷ list) next second =
-    changes_then d e (Forget n) (then_ask (forks.ask_forgets d list) (λ done. next))
+    changes_then d e (Forget d n) refl (forks.forget_each d list >>= (λ done. next))
     (forgets_scripted d e list next second)
 
 unfoldable end_cleared_scripted : (d slot space : ℕ) (r : Resources) (contexts : List (Option Context)) (a : Answer) →
@@ -129,7 +130,7 @@ end_if_scripted : (d : ℕ) (others : Bool) (slot space : ℕ) (r : Resources) (
 unfolding end_cleared_scripted IsStop
 end_if_scripted d true slot space r contexts = scripted_gives d (of_end slot contexts) _ (λ goes. refl)
 end_if_scripted d false slot space r contexts =
-    scripted_asks d (of_end slot contexts) (Clear (forks.marked space r))
+    scripted_asks d (of_end slot contexts) (Clear d (forks.marked space r)) refl
     (fork_parts.end_cleared d slot space r contexts) (end_cleared_scripted d slot space r contexts) refl
 
 pub end_scripted : (d slot space : ℕ) (r : Resources) (contexts : List (Option Context)) →

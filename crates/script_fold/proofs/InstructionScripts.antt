@@ -18,9 +18,8 @@ use Rattle.cloak_model.specs.Contexts.{Context, set_word, moved_on, word_of_page
 use Rattle.cloak_model.specs.InsideStep as inside
 use Rattle.cloak_model.proofs.InsideParts as inside_parts
 use Rattle.script_fold.proofs.Aligned.{IsAligned, StoresAligned, effect_aligned}
-use Rattle.script_fold.proofs.Scripts.{Reach, Get, Put, Write, EndClaims, IsStop, Scripted, scripted_gives, scripted_asks, scripted_reads, scripted_changes}
-use Rattle.cloak_model.specs.Asking.{Asking, answered, then_ask}
-use Rattle.cloak_model.specs.AskPages.{ask_read, ask_write}
+use Rattle.cloak_model.specs.Script.{Script, Gives, Reads, Changes, Reach, Get, Put, Write}
+use Rattle.script_fold.proofs.Scripts.{EndClaims, IsStop, Scripted, scripted_gives, scripted_asks, scripted_reads, scripted_changes}
 use Rattle.cloak_model.specs.KernelStep.{atomic_kind, misaligned}
 use Rattle.cloak_base.specs.Registers.{register}
 use Rattle.rv_atomic.specs.Table.{atomic_instruction}
@@ -31,15 +30,15 @@ use Rattle.rv_atomic.specs.declared.atomic.AtomicOp.TheVariants.{Lr, Sc, Swap, A
 
 -- Pages are the program's own.
 
-abbrev pub IsOwn : ℕ → Option PageId → Type 0
-IsOwn d None = Unit {0}
-IsOwn d (Some q) = q.domain ≡ d
+abbrev pub IsOwnPage : ℕ → Option PageId → Type 0
+IsOwnPage d None = Unit {0}
+IsOwnPage d (Some q) = q.domain ≡ d
 
-own_place : (d : ℕ) (place : Option (ℕ × ℕ)) → IsOwn d (option_map (page_id d) place)
+own_place : (d : ℕ) (place : Option (ℕ × ℕ)) → IsOwnPage d (option_map (page_id d) place)
 own_place d None = tt
 own_place d (Some place) = refl
 
-pub own_page : (d : ℕ) (r : Resources) (space va : ℕ) → IsOwn d (page_at d r space va)
+pub own_page : (d : ℕ) (r : Resources) (space va : ℕ) → IsOwnPage d (page_at d r space va)
 unfolding page_at
 own_page d r space va = own_place d (lookup r space va)
 
@@ -82,21 +81,21 @@ load_got_scripted d c rd va width is_signed (told.Absent cause) = scripted_gives
 load_got_scripted d c rd va width is_signed told.Ok = scripted_gives d (of_instruction c) _ refl
 load_got_scripted d c rd va width is_signed told.Stopped = scripted_gives d (of_instruction c) _ refl
 
-load_scripted : (d : ℕ) (c : Context) (rd va width : ℕ) (is_signed : Bool) (o : Option PageId) → IsOwn d o →
+load_scripted : (d : ℕ) (c : Context) (rd va width : ℕ) (is_signed : Bool) (o : Option PageId) → IsOwnPage d o →
     Scripted d (of_instruction c) (inside.load_inside c rd va width is_signed o)
 unfolding inside.load_inside load_reached_scripted load_got_scripted IsStop
 load_scripted d c rd va width is_signed (Some q) own =
-    scripted_asks d (of_instruction c) (Reach q own va Load) (inside_parts.load_reached c q rd va width is_signed)
+    scripted_asks d (of_instruction c) (Reach q va Load) own (inside_parts.load_reached c q rd va width is_signed)
     (load_reached_scripted d c q own rd va width is_signed) refl
 load_scripted d c rd va width is_signed None own =
-    scripted_asks d (of_instruction c) (Get va width) (inside_parts.load_got c rd va width is_signed)
+    scripted_asks d (of_instruction c) (Get va width) tt (inside_parts.load_got c rd va width is_signed)
     (load_got_scripted d c rd va width is_signed) refl
 
 unfoldable pub store_reached_scripted : (d : ℕ) (c : Context) (q : PageId) → q.domain ≡ d →
     (va width value : ℕ) (a : Answer) →
     Scripted d (of_instruction c) (inside_parts.store_reached c q va width value a)
 store_reached_scripted d c q own va width value told.Ok =
-    scripted_changes d (of_instruction c) (Write q own (va % 4096) width value)
+    scripted_changes d (of_instruction c) (Write q (va % 4096) width value) own
     (inside.made_writing (moved_on c) ran.Stay (word_of_page q va)) refl tt
 store_reached_scripted d c q own va width value (told.Absent cause) = scripted_gives d (of_instruction c) _ refl
 store_reached_scripted d c q own va width value (told.Word other) = scripted_gives d (of_instruction c) _ refl
@@ -109,14 +108,14 @@ store_put_scripted d c va (told.Absent cause) = scripted_gives d (of_instruction
 store_put_scripted d c va (told.Word value) = scripted_gives d (of_instruction c) _ refl
 store_put_scripted d c va told.Stopped = scripted_gives d (of_instruction c) _ refl
 
-store_scripted : (d : ℕ) (c : Context) (va width value : ℕ) (o : Option PageId) → IsOwn d o → IsAligned va width →
+store_scripted : (d : ℕ) (c : Context) (va width value : ℕ) (o : Option PageId) → IsOwnPage d o → IsAligned va width →
     Scripted d (of_instruction c) (inside.store_inside c va width value o)
 unfolding inside.store_inside store_reached_scripted store_put_scripted IsStop
 store_scripted d c va width value (Some q) own at =
-    scripted_asks d (of_instruction c) (Reach q own va Store) (inside_parts.store_reached c q va width value)
+    scripted_asks d (of_instruction c) (Reach q va Store) own (inside_parts.store_reached c q va width value)
     (store_reached_scripted d c q own va width value) refl
 store_scripted d c va width value None own at =
-    scripted_asks d (of_instruction c) (Put va width value at) (inside_parts.store_put c va)
+    scripted_asks d (of_instruction c) (Put va width value) at (inside_parts.store_put c va)
     (store_put_scripted d c va) refl
 
 system_scripted : (d : ℕ) (c : Context) (i : Instr) → Scripted d (of_instruction c) (inside.system_inside c i)
@@ -144,19 +143,18 @@ done_scripted d r c i (does.Raise cause value) at = scripted_gives d (of_instruc
 conditional_scripted : (d : ℕ) (reserved : Bool) (c : Context) (rd : ℕ) (q : PageId) → q.domain ≡ d → (va operand : ℕ) →
     Scripted d (of_instruction c) (inside_parts.conditional_inside reserved c rd q va operand)
 conditional_scripted d true c rd q own va operand =
-    scripted_changes d (of_instruction c) (Write q own (va % 4096) 4 operand)
+    scripted_changes d (of_instruction c) (Write q (va % 4096) 4 operand) own
     (inside.made_writing (moved_on (record (set_word c rd 0) { mark = None })) ran.Stay (word_of_page q va)) refl tt
 conditional_scripted d false c rd q own va operand = scripted_gives d (of_instruction c) _ refl
 
 combine_scripted : (d : ℕ) (c : Context) (rd : ℕ) (op : AtomicOp) (q : PageId) → q.domain ≡ d → (va operand : ℕ) →
-    Scripted d (of_instruction c) (then_ask (ask_read q (va % 4096) 4)
-    (λ old. then_ask (ask_write q (va % 4096) 4 (combined op old operand))
-    (λ done. answered (inside.made_writing (moved_on (set_word c rd old)) (ran.Loaded va old) (word_of_page q va)))))
+    Scripted d (of_instruction c) (Reads q (va % 4096) 4 (λ old. Changes (Write q (va % 4096) 4 (combined op old operand))
+    (Gives (inside.made_writing (moved_on (set_word c rd old)) (ran.Loaded va old) (word_of_page q va)))))
 combine_scripted d c rd op q own va operand =
     scripted_reads d (of_instruction c) q own (va % 4096) 4
-    (λ old. then_ask (ask_write q (va % 4096) 4 (combined op old operand))
-    (λ done. answered (inside.made_writing (moved_on (set_word c rd old)) (ran.Loaded va old) (word_of_page q va))))
-    (λ old. scripted_changes d (of_instruction c) (Write q own (va % 4096) 4 (combined op old operand))
+    (λ old. Changes (Write q (va % 4096) 4 (combined op old operand))
+    (Gives (inside.made_writing (moved_on (set_word c rd old)) (ran.Loaded va old) (word_of_page q va))))
+    (λ old. scripted_changes d (of_instruction c) (Write q (va % 4096) 4 (combined op old operand)) own
     (inside.made_writing (moved_on (set_word c rd old)) (ran.Loaded va old) (word_of_page q va)) refl tt)
 
 pub granted_scripted : (d : ℕ) (c : Context) (rd : ℕ) (op : AtomicOp) (q : PageId) → q.domain ≡ d → (va operand : ℕ) →
@@ -187,16 +185,16 @@ atomic_reached_scripted d c rd op q own va operand (told.Word value) = scripted_
 atomic_reached_scripted d c rd op q own va operand told.Stopped = scripted_gives d (of_instruction c) _ refl
 
 atomic_placed_scripted : (d : ℕ) (c : Context) (rd : ℕ) (op : AtomicOp) (va operand : ℕ) (o : Option PageId) →
-    IsOwn d o → Scripted d (of_instruction c) (inside.atomic_placed c rd op va operand o)
+    IsOwnPage d o → Scripted d (of_instruction c) (inside.atomic_placed c rd op va operand o)
 unfolding inside.atomic_placed atomic_reached_scripted IsStop
 atomic_placed_scripted d c rd op va operand None own = scripted_gives d (of_instruction c) _ refl
 atomic_placed_scripted d c rd op va operand (Some q) own =
-    scripted_asks d (of_instruction c) (Reach q own va (atomic_kind op)) (inside_parts.atomic_reached c rd op q va operand)
+    scripted_asks d (of_instruction c) (Reach q va (atomic_kind op)) own (inside_parts.atomic_reached c rd op q va operand)
     (atomic_reached_scripted d c rd op q own va operand) refl
 
-either_scripted : (d : ℕ) (c : Context) (test : Bool) (x y : Asking inside.AfterInstruction) →
+either_scripted : (d : ℕ) (c : Context) (test : Bool) (x y : Script inside.AfterInstruction) →
     Scripted d (of_instruction c) x → Scripted d (of_instruction c) y →
-    Scripted d (of_instruction c) (λ w. cond test (x w) (y w))
+    Scripted d (of_instruction c) (cond test x y)
 either_scripted d c true x y first second = first
 either_scripted d c false x y first second = second
 
@@ -230,12 +228,12 @@ fetched_scripted d r c q own (told.Absent cause) = scripted_gives d (of_instruct
 fetched_scripted d r c q own (told.Word value) = scripted_gives d (of_instruction c) _ refl
 fetched_scripted d r c q own told.Stopped = scripted_gives d (of_instruction c) _ refl
 
-fetch_scripted : (d : ℕ) (r : Resources) (c : Context) (o : Option PageId) → IsOwn d o →
+fetch_scripted : (d : ℕ) (r : Resources) (c : Context) (o : Option PageId) → IsOwnPage d o →
     Scripted d (of_instruction c) (inside.fetch d r c o)
 unfolding inside.fetch fetched_scripted IsStop
 fetch_scripted d r c None own = scripted_gives d (of_instruction c) _ refl
 fetch_scripted d r c (Some q) own =
-    scripted_asks d (of_instruction c) (Reach q own c.pc Fetch) (inside_parts.fetched_inside d r c q)
+    scripted_asks d (of_instruction c) (Reach q c.pc Fetch) own (inside_parts.fetched_inside d r c q)
     (fetched_scripted d r c q own) refl
 
 pub instruction_scripted : (d : ℕ) (r : Resources) (c : Context) →

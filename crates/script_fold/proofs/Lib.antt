@@ -14,3 +14,4 @@ pub mod KernelWalks
 pub mod Rooted
 pub mod Tables
 pub mod Walks
+pub mod OneLoad

@@ -5,16 +5,16 @@ use Rattle.cloak_base.specs.declared.causes.Violation.TheVariants as violation
 use Rattle.cloak_model.specs.declared.access.Access.{Access}
 use Rattle.cloak_base.specs.Constants.{frame_of}
 use Rattle.cloak_model.specs.Events.{Event, Look, Read}
-use Rattle.cloak_model.specs.World.{World, Cloak, Flat, Cloaked, Alone, noted, stored_at, settled, Handed, written, with_plain, cipher_items, regime_of}
+use Rattle.cloak_model.specs.World.{World, MidStep, Flat, Cloaked, Alone, noted, stored_at, settled, Handed, written, with_plain, cipher_items, regime_of}
 use Rattle.cloak_model.specs.Asking.{Told, Asking}
 use Rattle.cloak_model.specs.Walk.{Walk, FirstWord, Ends, GoesOn, first_entry}
-use Rattle.cloak_model.specs.Ask.{ask_word, ask_walk, ask_inside, ask_translate, ask_led, known, opened}
+use Rattle.cloak_model.specs.Ask.{ask_word, ask_walk, ask_in_ram, ask_translate, ask_led, known, opened}
 use Rattle.cloak_model.proofs.WalkParts.{ask_second, ask_after, ask_first}
 use Rattle.cloak_base.specs.declared.names.Kind.{Kind}
 use Rattle.cloak_model.specs.declared.answer.Answer.{Answer}
 use Rattle.cloak_model.specs.declared.item.Item.{Item}
 use Rattle.cloak_model.specs.AskPages.{is_store, inside_access, replies, if_drawn, ask_inside_address, offered_by, offer_events, ask_offer, reached, reach_by_table, get_at, got, get_by_table, put_at, stored_inside, put_by_table, settled_if_marked, clear_from, next_answer, ask_reach, ask_write, ask_get, ask_put, ask_clear}
-use Rattle.cloak_model.specs.Cloaking.{Offer, Ready, Mismatch, Missed, offer}
+use Rattle.cloak_model.specs.Cloaking.{OfferEnd, Ready, Mismatch, Missed, offer}
 
 -- What settling a frame keeps.
 pub record Settles (R : World → World → Type 0) : Type 0 where
@@ -48,7 +48,7 @@ pub record Replies (R : World → World → Type 0) : Type 0 where
 
 -- What an offer of a page for an address keeps: one that is granted, and one that finds another page.
 pub record Offers (R : World → World → Type 0) (q : PageId) (va : ℕ) : Type 0 where
-  pub offered : (g : ℕ) (write : Bool) (c : Cloak) →
+  pub offered : (g : ℕ) (write : Bool) (c : MidStep) →
       let o = offer q g write c.memory in
       R (Cloaked c) (Cloaked (record c {
         memory = o.memory;
@@ -56,7 +56,7 @@ pub record Offers (R : World → World → Type 0) (q : PageId) (va : ℕ) : Typ
         events = c.events ++ offer_events q g c.memory o.answer;
       }))
   pub granted : (kind : Kind) (w : World) → R w (known (regime_of w).satp (inside_access w va kind) (Some q) w)
-  pub mismatched : (g : ℕ) (c : Cloak) →
+  pub mismatched : (g : ℕ) (c : MidStep) →
       R (Cloaked c) (Cloaked (record c { violation = Some (violation.Page q (record { 0 = g })) }))
 
 -- What each change that a question makes of a world keeps.
@@ -68,14 +68,14 @@ pub record Kept (R : World → World → Type 0) : Type 0 where
   pub noted : (events : List Event) (w : World) → R w (noted events w)
   pub written : (i : Item) (w : World) → R w (written i w)
   pub with_plain : (domain : ℕ) (plain : PageId → List ℕ) (w : World) → R w (with_plain domain plain w)
-  pub offered : (q : PageId) (g : ℕ) (write : Bool) (c : Cloak) →
+  pub offered : (q : PageId) (g : ℕ) (write : Bool) (c : MidStep) →
       let o = offer q g write c.memory in
       R (Cloaked c) (Cloaked (record c {
         memory = o.memory;
         items = c.items ++ cipher_items o.ciphers;
         events = c.events ++ offer_events q g c.memory o.answer;
       }))
-  pub mismatched : (q : PageId) (g : ℕ) (c : Cloak) →
+  pub mismatched : (q : PageId) (g : ℕ) (c : MidStep) →
       R (Cloaked c) (Cloaked (record c { violation = Some (violation.Page q (record { 0 = g })) }))
   pub told : (h : Handed) (rest : List Answer) → R (Alone h) (Alone (record h { answers = rest }))
   pub unfit : (h : Handed) → R (Alone h) (Alone (record h { unfit = true }))
@@ -128,8 +128,8 @@ module _ (R : World → World → Type 0) (k : Opens R) where
   unfolding ask_walk
   keeps_walk satp a w = keeps_either R _ _ _ w (keeps_first a (first_entry satp a.va) w) (k.settles.same w)
 
-  pub keeps_inside : (a : Access) (walk : Walk) (w : World) → R w (ask_inside a walk w).world
-  unfolding ask_inside
+  pub keeps_inside : (a : Access) (walk : Walk) (w : World) → R w (ask_in_ram a walk w).world
+  unfolding ask_in_ram
   keeps_inside a (Err cause) w = k.settles.same w
   keeps_inside a (Ok walked) w = k.settles.same w
 
@@ -209,7 +209,7 @@ module _ (R : World → World → Type 0) (k : Replies R) where
 
   -- a question for a page, if offers of it are kept
   module _ (q : PageId) (va : ℕ) (o : Offers R q va) where
-    keeps_offered : (kind : Kind) (g : ℕ) (a : Offer) (w : World) → R w (offered_by q va kind g a w).world
+    keeps_offered : (kind : Kind) (g : ℕ) (a : OfferEnd) (w : World) → R w (offered_by q va kind g a w).world
     unfolding offered_by
     keeps_offered kind g Ready w = then_keeps _ _ _ (o.granted kind w) (k.replied _ _)
     keeps_offered kind g Missed w = k.replied _ w

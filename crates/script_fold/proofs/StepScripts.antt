@@ -1,7 +1,8 @@
 -- Each hypercall, and each step of a program, is a script.
 use Rattle.std.proofs.Common.{◌≡◌, ◌∙◌, ℕ, Bool, true, false, cond, Option, Some, None, Result, Ok, Err, refl, ap, sym, subst}
 use Rattle.std.specs.Prelude.{is_some, unwrap_or}
-use Rattle.cloak_base.specs.declared.names.CtxId.{CtxId}
+use Rattle.cloak_model.specs.declared.inside.Forked.{Forked}
+use Rattle.cloak_model.specs.declared.inside.Forked.TheVariants as forked
 use Rattle.cloak_base.specs.declared.names.HartId.{HartId}
 use Rattle.cloak_model.specs.declared.context.Phase.{Phase}
 use Rattle.cloak_model.specs.declared.context.Phase.TheVariants.{Plain, CopyIn, Waiting, CopyOut}
@@ -17,7 +18,7 @@ use Rattle.cloak_model.specs.declared.inside.Begun.{Begun}
 use Rattle.cloak_model.specs.declared.inside.Begun.TheVariants as begun
 use Rattle.cloak_model.specs.declared.resource.MapFault.{MapFault}
 use Rattle.cloak_model.specs.declared.resource.MapFault.TheVariants.{Full}
-use Rattle.cloak_model.specs.Asking.{Asking, answered, then_ask, Told}
+use Rattle.cloak_model.specs.Script.{Script, Gives, ◌>>=◌}
 use Rattle.cloak_model.specs.Resources.{Resources, first_free}
 use Rattle.cloak_model.specs.Contexts.{Context, context_at, context_number, moved_on, has_buffer, with_context, new_context}
 use Rattle.cloak_model.specs.InsideStep as inside
@@ -29,7 +30,7 @@ use Rattle.cloak_model.specs.Hypercalls as hyper
 use Rattle.cloak_model.specs.DomainStep as steps
 use Rattle.cloak_model.specs.DomainAlone.{is_hart, runs_on}
 use Rattle.script_fold.proofs.Runs.{runs_in, MovesSlot, RunsTheSame, IsOnAs, slot_kept, slot_goes_on, slot_left, slot_ended, free_taken, has_left, slot_written}
-use Rattle.script_fold.proofs.Scripts.{EndClaims, IsStop, Scripted, provided, scripted_under, scripted_gives, scripted_then, Script, Gives, EndsSo, ChangesOnly, ChangesLast, then_script, stop_then, ends_then, only_then, last_then, played_then}
+use Rattle.script_fold.proofs.Scripts.{EndClaims, IsStop, Scripted, provided, scripted_under, scripted_gives, scripted_then, ChangesOnly, stop_then, only_then}
 use Rattle.script_fold.proofs.InstructionScripts.{RunsOn, of_instruction, instruction_scripted}
 use Rattle.script_fold.proofs.CopyScripts.{GoesOn, of_copy, copy_in_scripted, copy_out_scripted}
 use Rattle.script_fold.proofs.ForkScripts.{HasForked, HasEnded, of_fork, fork_scripted, of_end, end_scripted}
@@ -139,20 +140,20 @@ kernel_call_moves slot c d on =
 
 -- a fork's answer, told
 fork_told_moves : (slot : ℕ) (c : Context) (d : Control) (f : forks.Fork)
-    (answer : Result (Option CtxId) MapFault) → (of_fork d.contexts).each f → IsOnAs slot c d →
+    (answer : Forked) → (of_fork d.contexts).each f → IsOnAs slot c d →
     MovesSo slot d (hyper.fork_told slot c d answer (hyper.with_spaces f.spaces d))
 unfolding hyper.fork_told
-fork_told_moves slot c d f (Err fault) same on = answers_moves slot c (hyper.fault_word fault) d d on (same_control d)
-fork_told_moves slot c d f (Ok None) same on = slot_kept slot d
-fork_told_moves slot c d f (Ok (Some ctx)) same on =
+fork_told_moves slot c d f (forked.Refused fault) same on = answers_moves slot c (hyper.fault_word fault) d d on (same_control d)
+fork_told_moves slot c d f forked.Stopped same on = slot_kept slot d
+fork_told_moves slot c d f (forked.Child ctx) same on =
     answers_moves slot c ctx.0 d (hyper.with_spaces f.spaces d) on (record { number = refl; each = same })
 
-fork_told_goes : (slot : ℕ) (c : Context) (d d' : Control) (answer : Result (Option CtxId) MapFault) → HasForked answer →
+fork_told_goes : (slot : ℕ) (c : Context) (d d' : Control) (answer : Forked) → HasForked answer →
     HasGone (hyper.fork_told slot c d answer d').went
 unfolding hyper.fork_told
-fork_told_goes slot c d d' (Err fault) has = absurd has
-fork_told_goes slot c d d' (Ok None) has = absurd has
-fork_told_goes slot c d d' (Ok (Some ctx)) has = tt
+fork_told_goes slot c d d' (forked.Refused fault) has = absurd has
+fork_told_goes slot c d d' forked.Stopped has = absurd has
+fork_told_goes slot c d d' (forked.Child ctx) has = tt
 
 fork_call_scripted : (slot : ℕ) (c : Context) (d : Control) →
     Scripted d.number (provided (IsOnAs slot c d) (of_stepped slot d)) (hyper.fork_call slot c d)
@@ -160,11 +161,11 @@ unfolding hyper.fork_call hyper.fork_told IsStop ChangesOnly
 fork_call_scripted slot c d =
     scripted_then d.number (of_fork d.contexts) (provided (IsOnAs slot c d) (of_stepped slot d))
     (forks.fork d.number c d.resources d.contexts)
-    (λ f. answered (hyper.fork_told slot c d f.answer (hyper.with_spaces f.spaces d)))
+    (λ f. Gives (hyper.fork_told slot c d f.answer (hyper.with_spaces f.spaces d)))
     (fork_scripted d.number c d.resources d.contexts)
     (λ f. scripted_gives d.number (provided ((of_fork d.contexts).each f)
     (provided (IsOnAs slot c d) (of_stepped slot d))) _ (fork_told_moves slot c d f f.answer))
-    (λ f is. ap (λ (answer : Result (Option CtxId) MapFault).
+    (λ f is. ap (λ (answer : Forked).
     (hyper.fork_told slot c d answer (hyper.with_spaces f.spaces d)).went) is)
     (λ f has. fork_told_goes slot c d (hyper.with_spaces f.spaces d) f.answer has)
 
@@ -193,7 +194,7 @@ unfolding hyper.exit_call hyper.end_told IsStop ChangesOnly
 exit_call_scripted slot c d =
     scripted_then d.number (of_end slot d.contexts) (provided (IsOnAs slot c d) (of_stepped slot d))
     (forks.end_context d.number slot c.space d.resources d.contexts)
-    (λ x. answered (hyper.end_told slot c d x.ending (hyper.with_spaces x.spaces d)))
+    (λ x. Gives (hyper.end_told slot c d x.ending (hyper.with_spaces x.spaces d)))
     (end_scripted d.number slot c.space d.resources d.contexts)
     (λ x. scripted_gives d.number (provided ((of_end slot d.contexts).each x)
     (provided (IsOnAs slot c d) (of_stepped slot d))) _ (λ freed on. end_told_moves slot c d x x.ending refl freed))
@@ -253,7 +254,7 @@ instruction_ended_scripted slot d c (ran.Trap cause address) =
 instruction_ended_scripted slot d c ran.Ecall =
     scripted_then d.control.number (provided (IsOnAs slot c d.control) (of_stepped slot d.control))
     (of_context slot c d)
-    (hyper.hypercall (hyper.hypercall_of c) slot c d.control) (λ step. answered (steps.within d step))
+    (hyper.hypercall (hyper.hypercall_of c) slot c d.control) (λ step. Gives (steps.within d step))
     (hypercall_scripted (hyper.hypercall_of c) slot c d.control)
     (λ step. scripted_gives d.control.number (provided (IsOnAs slot c d.control → MovesSo slot d.control step)
     (of_context slot c d)) _ (λ moves on. moves on))
@@ -278,37 +279,33 @@ unfolding steps.copy_ended
 copy_ended_goes slot d c copied.Going on = tt
 copy_ended_goes slot d c e on = absurd on
 
-copy_scripted : (slot : ℕ) (c : Context) (d : Domain) → IsOnAs slot c d.control → (ask : Asking calls.Copy) →
+copy_scripted : (slot : ℕ) (c : Context) (d : Domain) → IsOnAs slot c d.control → (ask : Script calls.Copy) →
     Scripted d.control.number (of_copy c) ask →
-    Scripted d.control.number (of_domain slot d) (then_ask ask
-    (λ copy. answered (steps.copy_ended slot d copy.context copy.ending)))
+    Scripted d.control.number (of_domain slot d) (ask >>= (λ copy. Gives (steps.copy_ended slot d copy.context
+    copy.ending)))
 unfolding steps.copy_ended IsStop ChangesOnly
 copy_scripted slot c d on ask first =
     scripted_then d.control.number (of_copy c) (of_domain slot d) ask
-    (λ copy. answered (steps.copy_ended slot d copy.context copy.ending)) first
+    (λ copy. Gives (steps.copy_ended slot d copy.context copy.ending)) first
     (λ copy. scripted_gives d.control.number (provided (copy.context.on ≡ c.on) (of_domain slot d)) _
     (λ same. copy_ended_moves slot d copy.context copy.ending (on_as slot c copy.context d.control same on)))
     (λ copy is. ap (λ (e : Copied). (steps.copy_ended slot d copy.context e).went) is)
     (λ copy goes. copy_ended_goes slot d copy.context copy.ending goes)
 
-stopped_instruction : (slot : ℕ) (d : Domain) (c : Context) (P : Type 0) (implies : P → IsOnAs slot c d.control)
-    (e : Ran) → e ≡ ran.Stopped →
-    IsStop (of_domain slot d) (scripted_under d.control.number (IsOnAs slot c d.control) P (of_domain slot d)
-    (steps.instruction_ended slot d c e) implies (instruction_ended_scripted slot d c e)).script
-unfolding instruction_ended_scripted IsStop
-stopped_instruction slot d c P implies ran.Stopped is = refl
-stopped_instruction slot d c P implies e is = absurd cc
+stopped_instruction : (slot : ℕ) (d : Domain) (c : Context) (e : Ran) → e ≡ ran.Stopped →
+    IsStop (of_domain slot d) (steps.instruction_ended slot d c e)
+unfolding steps.instruction_ended IsStop
+stopped_instruction slot d c ran.Stopped is = refl
+stopped_instruction slot d c e is = absurd cc
 
-only_instruction : (slot : ℕ) (d : Domain) (c : Context) (P : Type 0) (implies : P → IsOnAs slot c d.control)
-    (e : Ran) → RunsOn e →
-    ChangesOnly (of_domain slot d).changed (scripted_under d.control.number (IsOnAs slot c d.control) P
-    (of_domain slot d) (steps.instruction_ended slot d c e) implies (instruction_ended_scripted slot d c e)).script
-unfolding instruction_ended_scripted ChangesOnly
-only_instruction slot d c P implies ran.Stay on = tt
-only_instruction slot d c P implies (ran.Loaded address value) on = tt
-only_instruction slot d c P implies (ran.Trap cause address) on = absurd on
-only_instruction slot d c P implies ran.Ecall on = absurd on
-only_instruction slot d c P implies ran.Stopped on = absurd on
+only_instruction : (slot : ℕ) (d : Domain) (c : Context) (e : Ran) → RunsOn e →
+    ChangesOnly (of_domain slot d).changed (steps.instruction_ended slot d c e)
+unfolding steps.instruction_ended ChangesOnly
+only_instruction slot d c ran.Stay on = tt
+only_instruction slot d c (ran.Loaded address value) on = tt
+only_instruction slot d c (ran.Trap cause address) on = absurd on
+only_instruction slot d c ran.Ecall on = absurd on
+only_instruction slot d c ran.Stopped on = absurd on
 
 -- A write, after an end.
 
@@ -327,58 +324,41 @@ goes_written None s goes = goes
 goes_written (Some place) s goes = goes
 
 -- a script, and then the write
-abbrev then_written : {n : ℕ} → Option WordPlace → Script n steps.DomainStepped → Script n steps.DomainStepped
-then_written wrote script = then_script script (λ s. Gives (steps.after_write wrote s))
+abbrev then_written : Option WordPlace → Script steps.DomainStepped → Script steps.DomainStepped
+then_written wrote script = script >>= (λ s. Gives (steps.after_write wrote s))
 
-stop_written : {n : ℕ} (slot : ℕ) (d : Domain) (wrote : Option WordPlace) (script : Script n steps.DomainStepped) →
+stop_written : (slot : ℕ) (d : Domain) (wrote : Option WordPlace) (script : Script steps.DomainStepped) →
     IsStop (of_domain slot d) script → IsStop (of_domain slot d) (then_written wrote script)
 unfolding IsStop
 stop_written slot d wrote script is =
     stop_then (of_domain slot d) (of_domain slot d) script (λ s. Gives (steps.after_write wrote s)) is
     (λ s stopped. went_written wrote s ∙ stopped)
 
-ends_written : {n : ℕ} (slot : ℕ) (d : Domain) (P : Type 0) (wrote : Option WordPlace)
-    (script : Script n steps.DomainStepped) →
-    EndsSo (provided P (of_domain slot d)) script → EndsSo (provided P (of_domain slot d)) (then_written wrote script)
-unfolding EndsSo IsStop
-ends_written slot d P wrote script ends =
-    let e = provided P (of_domain slot d) in
-    ends_then e e script (λ s. Gives (steps.after_write wrote s)) ends
-    (λ s moves. λ holds. moves_written slot d wrote s (moves holds)) (λ s stopped. went_written wrote s ∙ stopped)
-
-only_written : {n : ℕ} (wrote : Option WordPlace) (script : Script n steps.DomainStepped) →
+only_written : (wrote : Option WordPlace) (script : Script steps.DomainStepped) →
     ChangesOnly (λ (s : steps.DomainStepped). HasGone s.went) script →
     ChangesOnly (λ (s : steps.DomainStepped). HasGone s.went) (then_written wrote script)
 unfolding ChangesOnly
 only_written wrote script only = only_then _ _ script _ only (λ s goes. goes_written wrote s goes)
 
-last_written : {n : ℕ} (wrote : Option WordPlace) (script : Script n steps.DomainStepped) →
-    ChangesLast (λ (s : steps.DomainStepped). HasGone s.went) script →
-    ChangesLast (λ (s : steps.DomainStepped). HasGone s.went) (then_written wrote script)
-unfolding ChangesOnly ChangesLast
-last_written wrote script last = last_then _ _ script _ last (λ s. tt) (λ s goes. goes_written wrote s goes)
+written_scripted : (n slot : ℕ) (d : Domain) (P : Type 0) (wrote : Option WordPlace)
+    (script : Script steps.DomainStepped) →
+    Scripted n (provided P (of_domain slot d)) script →
+    Scripted n (provided P (of_domain slot d)) (then_written wrote script)
+unfolding IsStop ChangesOnly
+written_scripted n slot d P wrote script inner =
+    let e = provided P (of_domain slot d) in
+    scripted_then n e e script (λ s. Gives (steps.after_write wrote s)) inner
+    (λ s. scripted_gives n (provided (e.each s) e) _ (λ moves holds. moves_written slot d wrote s (moves holds)))
+    (λ s stopped. went_written wrote s ∙ stopped) (λ s goes. goes_written wrote s goes)
 
-abbrev written_scripted : (n slot : ℕ) (d : Domain) (P : Type 0) (wrote : Option WordPlace)
-    (ask : Asking steps.DomainStepped) →
-    Scripted n (provided P (of_domain slot d)) ask →
-    Scripted n (provided P (of_domain slot d)) (then_ask ask (λ s. answered (steps.after_write wrote s)))
-written_scripted n slot d P wrote ask inner = record {
-  script = then_written wrote inner.script;
-  plays = λ w.
-      ap (λ (t : Told steps.DomainStepped). answered (steps.after_write wrote t.answer) t.world) (inner.plays w)
-      ∙ sym (played_then inner.script (λ s. Gives (steps.after_write wrote s)) w);
-  ends = ends_written slot d P wrote inner.script inner.ends;
-  last = last_written wrote inner.script inner.last;
-}
-
-copy_out_written : (slot : ℕ) (c : Context) (d : Domain) → IsOnAs slot c d.control → (ask : Asking calls.Copy) →
+copy_out_written : (slot : ℕ) (c : Context) (d : Domain) → IsOnAs slot c d.control → (ask : Script calls.Copy) →
     Scripted d.control.number (of_copy c) ask →
-    Scripted d.control.number (of_domain slot d) (then_ask ask
-    (λ copy. answered (steps.after_write copy.wrote (steps.copy_ended slot d copy.context copy.ending))))
+    Scripted d.control.number (of_domain slot d) (ask >>= (λ copy. Gives (steps.after_write copy.wrote
+    (steps.copy_ended slot d copy.context copy.ending))))
 unfolding steps.copy_ended IsStop ChangesOnly
 copy_out_written slot c d on ask first =
     scripted_then d.control.number (of_copy c) (of_domain slot d) ask
-    (λ copy. answered (steps.after_write copy.wrote (steps.copy_ended slot d copy.context copy.ending))) first
+    (λ copy. Gives (steps.after_write copy.wrote (steps.copy_ended slot d copy.context copy.ending))) first
     (λ copy. scripted_gives d.control.number (provided (copy.context.on ≡ c.on) (of_domain slot d)) _
     (λ same. moves_written slot d copy.wrote (steps.copy_ended slot d copy.context copy.ending)
     (copy_ended_moves slot d copy.context copy.ending (on_as slot c copy.context d.control same on))))
@@ -392,18 +372,15 @@ phase_scripted : (p : Phase) (slot : ℕ) (c : Context) (d : Domain) → IsOnAs 
 unfolding steps.phase_step
 phase_scripted Plain slot c d on =
     let n = d.control.number in
-    let implies = λ (m : inside.AfterInstruction) (same : m.context.on ≡ c.on).
-    on_as slot c m.context d.control same on in
     scripted_then n (of_instruction c) (of_domain slot d) (inside.instruction_inside n d.control.resources c)
-    (λ m. then_ask (steps.instruction_ended slot d m.context m.ending) (λ s. answered (steps.after_write m.wrote s)))
+    (λ m. then_written m.wrote (steps.instruction_ended slot d m.context m.ending))
     (instruction_scripted n d.control.resources c)
     (λ m. written_scripted n slot d (m.context.on ≡ c.on) m.wrote (steps.instruction_ended slot d m.context m.ending)
     (scripted_under n (IsOnAs slot m.context d.control) (m.context.on ≡ c.on) (of_domain slot d)
-    (steps.instruction_ended slot d m.context m.ending) (implies m)
+    (steps.instruction_ended slot d m.context m.ending) (λ same. on_as slot c m.context d.control same on)
     (instruction_ended_scripted slot d m.context m.ending)))
-    (λ m is. stop_written slot d m.wrote _
-    (stopped_instruction slot d m.context (m.context.on ≡ c.on) (implies m) m.ending is))
-    (λ m on. only_written m.wrote _ (only_instruction slot d m.context (m.context.on ≡ c.on) (implies m) m.ending on))
+    (λ m is. stop_written slot d m.wrote _ (stopped_instruction slot d m.context m.ending is))
+    (λ m on. only_written m.wrote _ (only_instruction slot d m.context m.ending on))
 phase_scripted (CopyIn done) slot c d on =
     copy_scripted slot c d on _ (copy_in_scripted d.control.number d.control.resources c done)
 phase_scripted Waiting slot c d on =
@@ -418,6 +395,6 @@ step_if_scripted None slot d is = scripted_gives d.control.number (of_domain slo
 step_if_scripted (Some c) slot d is = phase_scripted c.phase slot c d (λ hart. ap (runs_on hart) (sym is))
 
 -- a step of a program is a script
-pub step_scripted : (slot : ℕ) (d : Domain) → Scripted d.control.number (of_domain slot d) (steps.domain_step slot d)
-unfolding steps.domain_step
+pub step_scripted : (slot : ℕ) (d : Domain) → Scripted d.control.number (of_domain slot d) (steps.domain_script slot d)
+unfolding steps.domain_script
 step_scripted slot d = step_if_scripted (context_at d.control.contexts slot) slot d refl

@@ -1,7 +1,7 @@
 -- One walk of a program's step, for what is kept by its questions where each page is reached at its address, and by a
 -- store in a page that was just reached for it. What is kept may count: a step reaches two pages at most, or one, and
 -- other memory once.
-use Rattle.std.proofs.Common.{◌≡◌, ◌≤◌, ℕ, ◌+◌, ◌%◌, Bool, true, false, cond, nat_le, Option, Some, None, refl, arith, if◌then◌else◌}
+use Rattle.std.proofs.Common.{◌≡◌, ◌≤◌, ℕ, ◌+◌, ◌%◌, Bool, true, false, cond, nat_le, Option, Some, None, refl, subst, sym, arith, if◌then◌else◌}
 use Rattle.std.specs.Prelude.{◌==◌}
 use Rattle.cloak_base.specs.Registers.{register}
 use Rattle.cloak_base.specs.declared.names.Kind.{Kind}
@@ -21,13 +21,14 @@ use Rattle.cloak_model.specs.declared.inside.Ran.{Ran}
 use Rattle.cloak_model.specs.declared.inside.Ran.TheVariants as ran
 use Rattle.cloak_model.specs.declared.outcome.Effect.{Effect}
 use Rattle.cloak_model.specs.declared.outcome.Effect.TheVariants as does
-use Rattle.cloak_model.specs.Asking.{Told, Asking}
+use Rattle.cloak_model.specs.Asking.{Told}
+use Rattle.cloak_model.proofs.Playing.{plays_both, plain_played, copy_in_played, copy_out_played}
 use Rattle.cloak_model.specs.AskPages.{is_store, ask_reach, ask_read, ask_write, ask_get, ask_put}
 use Rattle.cloak_model.specs.Calls as calls
 use Rattle.cloak_model.specs.Calls.{buffer, area, byte_address, copy_in_step, copy_out_step}
 use Rattle.cloak_model.specs.Contexts.{Context, word_of_page, is_reserved, context_at}
 use Rattle.cloak_model.specs.DomainState.{Domain}
-use Rattle.cloak_model.specs.DomainStep.{instruction_ended, phase_step, step_if, domain_step}
+use Rattle.cloak_model.specs.DomainStep.{DomainStepped, domain_script, instruction_ended, phase_step, step_if, domain_step}
 use Rattle.cloak_model.specs.Effect.{effect}
 use Rattle.cloak_model.specs.Hypercalls.{Hypercall, hypercall, hypercall_of}
 use Rattle.cloak_model.specs.InsideStep.{AfterInstruction, if_reached, if_got, load_inside, store_inside, atomic_granted, atomic_placed, atomic_inside, system_inside, done_inside, decoded_inside, fetch, instruction_inside}
@@ -35,6 +36,7 @@ use Rattle.cloak_model.proofs.InsideParts.{conditional_inside}
 use Rattle.cloak_model.specs.KernelStep.{atomic_kind}
 use Rattle.cloak_model.specs.Resources.{Resources, page_at}
 use Rattle.cloak_model.specs.World.{World}
+use Rattle.cloak_model.specs.Script.{Script, played}
 
 -- the page that a place names is of this kind there
 abbrev pub IsIf : (PageId → ℕ → Type 0) → Option PageId → ℕ → Type 0
@@ -72,18 +74,18 @@ module _ (P : PageId → ℕ → Type 0) (g : ℕ) (R : ℕ → World → World 
 
   -- what follows an answer
 
-  if_reached_walks : (n : ℕ) (c : Context) (va : ℕ) (a : Answer) (next : Asking AfterInstruction) (w v : World) →
-      R n w v → (a ≡ told.Ok → R n w (next v).world) → R n w (if_reached c va a next v).world
+  if_reached_walks : (n : ℕ) (c : Context) (va : ℕ) (a : Answer) (next : Script AfterInstruction) (w v : World) →
+      R n w v → (a ≡ told.Ok → R n w (played next v).world) → R n w (played (if_reached c va a next) v).world
   if_reached_walks n c va told.Ok next w v here more = more refl
   if_reached_walks n c va _ next w v here more = here
 
-  if_got_walks : (n : ℕ) (c : Context) (va : ℕ) (a : Answer) (next : ℕ → Asking AfterInstruction) (w v : World) →
-      R n w v → ((value : ℕ) → R n w (next value v).world) → R n w (if_got c va a next v).world
+  if_got_walks : (n : ℕ) (c : Context) (va : ℕ) (a : Answer) (next : ℕ → Script AfterInstruction) (w v : World) →
+      R n w v → ((value : ℕ) → R n w (played (next value) v).world) → R n w (played (if_got c va a next) v).world
   if_got_walks n c va (told.Word value) next w v here more = more value
   if_got_walks n c va _ next w v here more = here
 
   load_walks : (c : Context) (rd va width : ℕ) (signed : Bool) (place : Option PageId) (w : World) → IsIf P place va →
-      R 1 w (load_inside c rd va width signed place w).world
+      R 1 w (played (load_inside c rd va width signed place) w).world
   unfolding load_inside ask_read
   load_walks c rd va width signed None w is =
       if_got_walks 1 c va (ask_get va width w).answer _ w _ (got va width w) (λ value. got va width w)
@@ -92,7 +94,7 @@ module _ (P : PageId → ℕ → Type 0) (g : ℕ) (R : ℕ → World → World 
       (λ ok. k.reach q va (is q refl) Load w)
 
   store_walks : (c : Context) (va width value : ℕ) (place : Option PageId) (w : World) → IsIf P place va →
-      R 1 w (store_inside c va width value place w).world
+      R 1 w (played (store_inside c va width value place) w).world
   unfolding store_inside
   store_walks c va width value None w is =
       if_reached_walks 1 c va (ask_put va width value w).answer _ w _ (stored va width value w)
@@ -103,13 +105,13 @@ module _ (P : PageId → ℕ → Type 0) (g : ℕ) (R : ℕ → World → World 
 
   conditional_walks : (reserved : Bool) (c : Context) (rd : ℕ) (q : PageId) (va operand : ℕ) (w v : World) → R 1 w v →
       ((at width value : ℕ) → R 1 w (ask_write q at width value v).world) →
-      R 1 w (conditional_inside reserved c rd q va operand v).world
+      R 1 w (played (conditional_inside reserved c rd q va operand) v).world
   conditional_walks true c rd q va operand w v here writes = writes (va % 4096) 4 operand
   conditional_walks false c rd q va operand w v here writes = here
 
   granted_walks : (c : Context) (rd : ℕ) (op : AtomicOp) (q : PageId) (va operand : ℕ) (w v : World) → R 1 w v →
       (is_store (atomic_kind op) ≡ true → (at width value : ℕ) → R 1 w (ask_write q at width value v).world) →
-      R 1 w (atomic_granted c rd op q va operand v).world
+      R 1 w (played (atomic_granted c rd op q va operand) v).world
   unfolding atomic_granted ask_read
   granted_walks c rd Lr q va operand w v here writes = here
   granted_walks c rd Sc q va operand w v here writes =
@@ -117,7 +119,7 @@ module _ (P : PageId → ℕ → Type 0) (g : ℕ) (R : ℕ → World → World 
   granted_walks c rd op q va operand w v here writes = writes refl (va % 4096) 4 _
 
   placed_walks : (c : Context) (rd : ℕ) (op : AtomicOp) (va operand : ℕ) (place : Option PageId) (w : World) →
-      IsIf P place va → R 1 w (atomic_placed c rd op va operand place w).world
+      IsIf P place va → R 1 w (played (atomic_placed c rd op va operand place) w).world
   unfolding atomic_placed
   placed_walks c rd op va operand None w is = still 1 w
   placed_walks c rd op va operand (Some q) w is =
@@ -126,26 +128,26 @@ module _ (P : PageId → ℕ → Type 0) (g : ℕ) (R : ℕ → World → World 
       (λ ok. granted_walks c rd op q va operand w _ (k.reach q va (is q refl) kind w)
       (λ stores at width value. k.store q va (is q refl) kind at width value w stores ok))
 
-  either_walks : {A : Type 0} (test : Bool) (w : World) (t u : Told A) → R 1 w t.world → R 1 w u.world →
-      R 1 w (cond test t u).world
+  either_walks : {A : Type 0} (test : Bool) (w : World) (t u : Script A) → R 1 w (played t w).world →
+      R 1 w (played u w).world → R 1 w (played (cond test t u) w).world
   either_walks true w t u first second = first
   either_walks false w t u first second = second
 
   atomic_walks : (domain : ℕ) (r : Resources) (c : Context) (a : Option Atomic) (w : World) → AreOf P domain r c.space →
-      R 1 w (atomic_inside domain r c a w).world
+      R 1 w (played (atomic_inside domain r c a) w).world
   unfolding atomic_inside
   atomic_walks domain r c None w are = still 1 w
   atomic_walks domain r c (Some a) w are =
       let va = register c.regs a.rs1 in
       either_walks (va % 4 == 0) w _ _ (placed_walks c a.rd a.op va _ (page_at domain r c.space va) w (are va)) (still 1 w)
 
-  system_walks : (c : Context) (i : Instr) (w : World) → R 1 w (system_inside c i w).world
+  system_walks : (c : Context) (i : Instr) (w : World) → R 1 w (played (system_inside c i) w).world
   unfolding system_inside
   system_walks c instr.Ecall w = still 1 w
   system_walks c _ w = still 1 w
 
   done_walks : (domain : ℕ) (r : Resources) (c : Context) (i : Instr) (e : Effect) (w : World) →
-      AreOf P domain r c.space → R 1 w (done_inside domain r c i e w).world
+      AreOf P domain r c.space → R 1 w (played (done_inside domain r c i e) w).world
   unfolding done_inside
   done_walks domain r c i (does.Load rd va width signed) w are =
       load_walks c rd va width signed (page_at domain r c.space va) w (are va)
@@ -155,13 +157,13 @@ module _ (P : PageId → ℕ → Type 0) (g : ℕ) (R : ℕ → World → World 
   done_walks domain r c i _ w are = still 1 w
 
   decoded_walks : (domain : ℕ) (r : Resources) (c : Context) (word : ℕ) (i : Option Instr) (w : World) →
-      AreOf P domain r c.space → R 1 w (decoded_inside domain r c word i w).world
+      AreOf P domain r c.space → R 1 w (played (decoded_inside domain r c word i) w).world
   unfolding decoded_inside
   decoded_walks domain r c word None w are = atomic_walks domain r c (atomic_instruction word) w are
   decoded_walks domain r c word (Some i) w are = done_walks domain r c i (effect i c.regs c.pc) w are
 
   fetch_walks : (domain : ℕ) (r : Resources) (c : Context) (place : Option PageId) (w : World) → IsIf P place c.pc →
-      AreOf P domain r c.space → R 2 w (fetch domain r c place w).world
+      AreOf P domain r c.space → R 2 w (played (fetch domain r c place) w).world
   unfolding fetch ask_read
   fetch_walks domain r c None w is are = still 2 w
   fetch_walks domain r c (Some q) w is are =
@@ -170,35 +172,35 @@ module _ (P : PageId → ℕ → Type 0) (g : ℕ) (R : ℕ → World → World 
       (λ ok. decoded_walks domain r c _ _ _ are))
 
   pub instruction_walks : (domain : ℕ) (r : Resources) (c : Context) (w : World) → AreOf P domain r c.space →
-      R 2 w (instruction_inside domain r c w).world
+      R 2 w (played (instruction_inside domain r c) w).world
   unfolding instruction_inside
   instruction_walks domain r c w are = fetch_walks domain r c (page_at domain r c.space c.pc) w (are c.pc) are
 
   -- Copying.
 
-  if_put_walks : (n : ℕ) (c : Context) (va : ℕ) (a : Answer) (next : Asking calls.Copy) (w v : World) →
-      R n w v → (a ≡ told.Ok → R n w (next v).world) → R n w (calls.if_reached c va a next v).world
+  if_put_walks : (n : ℕ) (c : Context) (va : ℕ) (a : Answer) (next : Script calls.Copy) (w v : World) →
+      R n w v → (a ≡ told.Ok → R n w (played next v).world) → R n w (played (calls.if_reached c va a next) v).world
   if_put_walks n c va told.Ok next w v here more = more refl
   if_put_walks n c va _ next w v here more = here
 
-  if_byte_walks : (n : ℕ) (c : Context) (va : ℕ) (a : Answer) (next : ℕ → Asking calls.Copy) (w v : World) →
-      R n w v → ((byte : ℕ) → R n w (next byte v).world) → R n w (calls.if_got c va a next v).world
+  if_byte_walks : (n : ℕ) (c : Context) (va : ℕ) (a : Answer) (next : ℕ → Script calls.Copy) (w v : World) →
+      R n w v → ((byte : ℕ) → R n w (played (next byte) v).world) → R n w (played (calls.if_got c va a next) v).world
   if_byte_walks n c va (told.Word byte) next w v here more = more byte
   if_byte_walks n c va _ next w v here more = here
 
-  if_apart_walks : (n : ℕ) (c : Context) (place : Option PageId) (cloaked : Bool) (next : PageId → Asking calls.Copy)
-      (w : World) → ((q : PageId) → place ≡ Some q → R n w (next q w).world) →
-      R n w (calls.if_apart c place cloaked next w).world
+  if_apart_walks : (n : ℕ) (c : Context) (place : Option PageId) (cloaked : Bool) (next : PageId → Script calls.Copy)
+      (w : World) → ((q : PageId) → place ≡ Some q → R n w (played (next q) w).world) →
+      R n w (played (calls.if_apart c place cloaked next) w).world
   if_apart_walks n c (Some q) false next w more = more q refl
   if_apart_walks n c _ _ next w more = still n w
 
-  unless_over : (n : ℕ) (over : Bool) (end next : Asking calls.Copy) (w : World) → R n w (end w).world →
-      R n w (next w).world → R n w ((if over then end else next) w).world
+  unless_over : (n : ℕ) (over : Bool) (end next : Script calls.Copy) (w : World) → R n w (played end w).world →
+      R n w (played next w).world → R n w (played (if over then end else next) w).world
   unless_over n true end next w first second = first
   unless_over n false end next w first second = second
 
   pub copy_in_walks : (domain : ℕ) (r : Resources) (c : Context) (done : ℕ) (w : World) → AreOf P domain r c.space →
-      R (1 + g) w (copy_in_step domain r c done w).world
+      R (1 + g) w (played (copy_in_step domain r c done) w).world
   unfolding copy_in_step ask_read
   copy_in_walks domain r c done w are =
       let from : ℕ = byte_address (buffer c) done in
@@ -213,7 +215,7 @@ module _ (P : PageId → ℕ → Type 0) (g : ℕ) (R : ℕ → World → World 
       (λ ok. if_put_walks g c to (ask_put to 1 byte v).answer _ v _ put (λ ok. put)))))
 
   pub copy_out_walks : (domain : ℕ) (r : Resources) (c : Context) (done total : ℕ) (w : World) →
-      AreOf P domain r c.space → R (g + 1) w (copy_out_step domain r c done total w).world
+      AreOf P domain r c.space → R (g + 1) w (played (copy_out_step domain r c done total) w).world
   unfolding copy_out_step
   copy_out_walks domain r c done total w are =
       let from : ℕ = byte_address (area c) done in
@@ -228,34 +230,37 @@ module _ (P : PageId → ℕ → Type 0) (g : ℕ) (R : ℕ → World → World 
   -- The step, if its hypercalls keep it without a count.
 
   module _ (d : Domain)
-      (asks : (h : Hypercall) (slot : ℕ) (c : Context) (w : World) → R 0 w (hypercall h slot c d.control w).world) where
-    ended_walks : (slot : ℕ) (c : Context) (e : Ran) (w : World) → R 0 w (instruction_ended slot d c e w).world
+      (asks : (h : Hypercall) (slot : ℕ) (c : Context) (w : World) → R 0 w (played (hypercall h slot c d.control) w).world) where
+    ended_walks : (slot : ℕ) (c : Context) (e : Ran) (w : World) → R 0 w (played (instruction_ended slot d c e) w).world
     unfolding instruction_ended
-    ended_walks slot c ran.Ecall w = asks (hypercall_of c) slot c w
+    ended_walks slot c ran.Ecall w =
+        plays_both (λ t. R 0 w t.world) (hypercall (hypercall_of c) slot c d.control) _ w (asks (hypercall_of c) slot c w)
     ended_walks slot c _ w = k.same w
 
     abbrev Owns : Context → Type 0
     Owns c = AreOf P d.control.number d.control.resources c.space
 
-    phase_walks : (phase : Phase) (slot : ℕ) (c : Context) (w : World) → Owns c → R 2 w (phase_step phase slot c d w).world
+    phase_walks : (phase : Phase) (slot : ℕ) (c : Context) (w : World) → Owns c → R 2 w (played (phase_step phase slot c d) w).world
     unfolding phase_step
     phase_walks Plain slot c w are =
-        k.chained 2 0 _ _ _ (instruction_walks d.control.number d.control.resources c w are) (ended_walks slot _ _ _)
+        subst (λ (t : Told DomainStepped). R 2 w t.world) (sym (plain_played slot c d w)) (k.chained 2 0 _ _ _ (instruction_walks d.control.number d.control.resources c w are) (ended_walks slot _ _ _))
     phase_walks (CopyIn done) slot c w are =
         let few = k.few in
-        k.wider (1 + g) 2 _ _ (omega (arith, few)) (copy_in_walks d.control.number d.control.resources c done w are)
+        subst (λ (t : Told DomainStepped). R 2 w t.world) (sym (copy_in_played done slot c d w))
+        (k.wider (1 + g) 2 _ _ (omega (arith, few)) (copy_in_walks d.control.number d.control.resources c done w are))
     phase_walks Waiting slot c w are = still 2 w
     phase_walks (CopyOut done total) slot c w are =
         let few = k.few in
-        k.wider (g + 1) 2 _ _ (omega (arith, few)) (copy_out_walks d.control.number d.control.resources c done total w are)
+        subst (λ (t : Told DomainStepped). R 2 w t.world) (sym (copy_out_played done total slot c d w))
+        (k.wider (g + 1) 2 _ _ (omega (arith, few)) (copy_out_walks d.control.number d.control.resources c done total w are))
 
     step_if_walks : (o : Option Context) (slot : ℕ) (w : World) → ((c : Context) → o ≡ Some c → Owns c) →
-        R 2 w (step_if o slot d w).world
+        R 2 w (played (step_if o slot d) w).world
     unfolding step_if
     step_if_walks None slot w own = still 2 w
     step_if_walks (Some c) slot w own = phase_walks c.phase slot c w (own c refl)
 
     pub step_walks : (slot : ℕ) (w : World) → ((c : Context) → context_at d.control.contexts slot ≡ Some c → Owns c) →
         R 2 w (domain_step slot d w).world
-    unfolding domain_step
+    unfolding domain_step domain_script
     step_walks slot w own = step_if_walks (context_at d.control.contexts slot) slot w own

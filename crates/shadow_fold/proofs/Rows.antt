@@ -30,7 +30,7 @@ unfolding
     registers.zero_registers
     effect.effect csr.with_pending csr.csr_read csr.csr_write csr.trap_entry csr.trap_return csr.interrupt_due
     hart.started walk.first_leaf walk.second_leaf walk.first_word walk.second_word walk.walk walk.walk_tables
-    ask.ask_word ask.ask_walk ask.ask_inside ask.ask_translate ask.ask_led
+    ask.ask_word ask.ask_walk ask.ask_in_ram ask.ask_translate ask.ask_led
     ask.ask_count ask.ask_value ask.ask_store ask.loaded_at ask.ask_load ask.stored_to ask.ask_store_at
     ask.ask_frame ask.ask_fill hart_step.raised
     hart_step.csr_written hart_step.csr_found hart_step.csr_step hart_step.returned hart_step.idle hart_step.system

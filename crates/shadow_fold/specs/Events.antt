@@ -13,7 +13,7 @@ use Rattle.cloak_model.specs.Ending.{ask_end, cloak_for, spaces_of}
 use Rattle.cloak_model.specs.Hart.{Hart}
 use Rattle.cloak_model.specs.Joint.{Moment, Turn, next_hart, hart_in, cloak_of, cloak_outside, pages_for, turn_of, domain_met, after_turn}
 use Rattle.cloak_model.specs.KernelStep.{kernel_step, ticked}
-use Rattle.cloak_model.specs.Opening.{Opened}
+use Rattle.cloak_model.specs.Opening.{RunEdge}
 use Rattle.cloak_model.specs.Parts.{Joint}
 use Rattle.cloak_model.specs.Run.{turns_from, first_moment}
 use Rattle.cloak_base.specs.declared.names.SpaceId.{SpaceId}
@@ -124,7 +124,7 @@ after_turns m (t ∷ turns) s = after_turns (after_turn m t) turns (after_step m
 
 -- The counts of a run of a bundle, which was opened like this, with at most `budget` steps. It begins with no live
 -- entry, and each frame of a program's page is outside.
-unfoldable pub counts_of : Bundle → ℕ → Opened → ShadowCounts
+unfoldable pub counts_of : Bundle → ℕ → RunEdge → ShadowCounts
 counts_of b budget o =
     let m = first_moment b o.joint in
     (after_turns m (turns_from budget m) (fresh_fold (length o.joint.memory.ram))).table.counts

@@ -13,7 +13,7 @@ use Rattle.cloak_base.specs.declared.names.PageId.{PageId}
 use Rattle.cloak_model.specs.declared.access.Access.{Access}
 use Rattle.cloak_model.specs.declared.access.Walked.{Walked}
 use Rattle.cloak_model.specs.declared.item.Item.{Item}
-use Rattle.cloak_model.specs.Ask.{shown_word, ask_word, ask_walk, ask_inside, ask_translate}
+use Rattle.cloak_model.specs.Ask.{shown_word, ask_word, ask_walk, ask_in_ram, ask_translate}
 use Rattle.cloak_model.proofs.WalkParts.{ask_second, ask_after, ask_first}
 use Rattle.cloak_model.specs.AskPages.{is_store}
 use Rattle.cloak_model.specs.Asking.{Told}
@@ -21,7 +21,7 @@ use Rattle.cloak_model.specs.Cloaking.{CloakedMemory, AfterSettling, AfterOffer,
 use Rattle.cloak_base.specs.Constants.{frame_of}
 use Rattle.cloak_model.specs.Memory.{is_in_ram, value_at}
 use Rattle.cloak_model.specs.Walk.{Walk, FirstWord, Ends, GoesOn, has_paging, without_paging, frame_at, first_entry, first_word, second_word, word_in_ram, walk, access_fault}
-use Rattle.cloak_model.specs.World.{World, Cloak, Cloaked, noted, settled, cipher_items}
+use Rattle.cloak_model.specs.World.{World, MidStep, Cloaked, noted, settled, cipher_items}
 use Rattle.cloak_model.specs.Events.{Event, Touch}
 use Rattle.shadow_fold.specs.declared.entry.Entry.{Entry}
 use Rattle.shadow_fold.specs.Agreement.{EntryAgrees, TargetAgrees, satp_in, access_in, start_of}
@@ -38,15 +38,15 @@ unfolding settle settle_if
 untouched f m clean = ap (λ (o : Option PageId). settle_if f o m) clean
 
 -- the memory with these events more
-abbrev after : List Event → Cloak → Cloak
+abbrev after : List Event → MidStep → MidStep
 after events c = record c { events = c.events ++ events }
 
-still : (f : ℕ) (c : Cloak) → owed_in c.memory f ≡ None → settled f (Cloaked c) ≡ Cloaked (after (Touch f ∷ []) c)
+still : (f : ℕ) (c : MidStep) → owed_in c.memory f ≡ None → settled f (Cloaked c) ≡ Cloaked (after (Touch f ∷ []) c)
 still f c clean =
     ap (λ (s : AfterSettling). Cloaked (record (after (Touch f ∷ []) c) { memory = s.memory; items = c.items ++ cipher_items s.ciphers })) (untouched f c.memory clean)
     ∙ ap (λ (items : List Item). Cloaked (record (after (Touch f ∷ []) c) { items = items })) (append-nil c.items)
 
-word_still : (at : ℕ) (c : Cloak) → is_in_ram c.memory.ram at ≡ true → owed_in c.memory (frame_of at) ≡ None
+word_still : (at : ℕ) (c : MidStep) → is_in_ram c.memory.ram at ≡ true → owed_in c.memory (frame_of at) ≡ None
     → ask_word at (Cloaked c) ≡ record { answer = word_in_ram c.memory.ram at; world = Cloaked (after (Touch (frame_of at) ∷ []) c) }
 unfolding ask_word
 word_still at c inside clean =
@@ -63,12 +63,12 @@ record AreClean (m : CloakedMemory) (w : Walked) : Type 0 where
 clean_at : (m : CloakedMemory) (o : Option Frame) (f : Frame) → IfSome o (λ f. owed_in m f.0 ≡ None) → o ≡ Some f → owed_in m f.0 ≡ None
 clean_at m o f clean is = subst (λ o. IfSome o (λ (f : Frame). owed_in m f.0 ≡ None)) is clean
 
-paged_if : (satp : ℕ) (a : Access) (c : Cloak) → has_paging satp ≡ true → ask_walk satp a (Cloaked c) ≡ ask_first a (first_entry satp a.va) (Cloaked c)
+paged_if : (satp : ℕ) (a : Access) (c : MidStep) → has_paging satp ≡ true → ask_walk satp a (Cloaked c) ≡ ask_first a (first_entry satp a.va) (Cloaked c)
 unfolding ask_walk
 paged_if satp a c paging =
     ap (λ (b : Bool). cond b (ask_first a (first_entry satp a.va) (Cloaked c)) (let t : Told Walk = record { answer = without_paging a; world = Cloaked c } in t)) paging
 
-first_still : (satp : ℕ) (a : Access) (c : Cloak) (first : FirstWord) → has_paging satp ≡ true
+first_still : (satp : ℕ) (a : Access) (c : MidStep) (first : FirstWord) → has_paging satp ≡ true
     → is_in_ram c.memory.ram (first_entry satp a.va) ≡ true → owed_in c.memory (frame_of (first_entry satp a.va)) ≡ None
     → first_word a (first_entry satp a.va) (word_in_ram c.memory.ram (first_entry satp a.va)) ≡ first
     → ask_walk satp a (Cloaked c) ≡ ask_after a (first_entry satp a.va) first (Cloaked (after (Touch (frame_of (first_entry satp a.va)) ∷ []) c))
@@ -78,7 +78,7 @@ first_still satp a c first paging inside clean word =
     ∙ ap (λ (t : Told (Option ℕ)). ask_after a at1 (first_word a at1 t.answer) t.world) (word_still at1 c inside clean)
     ∙ ap (λ f. ask_after a at1 f (Cloaked (after (Touch (frame_of at1) ∷ []) c))) word
 
-leads_still : (satp : ℕ) (a : Access) (c : Cloak) (w : Walked) → AreClean c.memory w → Leads c.memory.ram satp a w
+leads_still : (satp : ℕ) (a : Access) (c : MidStep) (w : Walked) → AreClean c.memory w → Leads c.memory.ram satp a w
     → ask_walk satp a (Cloaked c) ≡ record { answer = Ok w; world = Cloaked (after (touches (tables_of w)) c) }
 unfolding ask_walk
 leads_still satp a c w clean (Bare paging is) =
@@ -129,25 +129,25 @@ hit_leads held m e va agrees page =
     ∙ ap (moved k) agrees.walks
 
 -- what is asked at a hit is what the entry says, whether that is an address of RAM or none
-hit_asks : (held : HeldPages) (c : Cloak) (e : Entry) (va : ℕ) (b : Bool) → OwedIsHeld held c.memory
+hit_asks : (held : HeldPages) (c : MidStep) (e : Entry) (va : ℕ) (b : Bool) → OwedIsHeld held c.memory
     → EntryAgrees (present held c.memory) e → va / 4096 ≡ e.page → is_in_ram c.memory.ram (start_of e.frame.0 + va % 4096) ≡ b
     → ask_translate (satp_in e.regime) (access_in e.regime va e.kind) (Cloaked c)
     ≡ record {
       answer = cond b (Ok (start_of e.frame.0 + va % 4096)) (Err (access_fault (access_in e.regime va e.kind).kind));
       world = noted (touches (listed e.pt1 ++ listed e.pt0)) (Cloaked c);
     }
-unfolding ask_translate ask_inside
+unfolding ask_translate ask_in_ram
 hit_asks held c e va b owed agrees page inside =
     let a = access_in e.regime va e.kind in
     let satp = satp_in e.regime in
     let m = c.memory in
     let w : Walked = record { pa = start_of e.frame.0 + va % 4096; pt1 = e.pt1; pt0 = e.pt0 } in
     let clean : AreClean m w = record { first = clean_tables held m e.pt1 owed agrees.first; second = clean_tables held m e.pt0 owed agrees.second } in
-    ap (λ (t : Told Walk). ask_inside a t.answer t.world) (leads_still satp a c w clean (walk_leads m.ram satp a w (hit_leads held m e va agrees page)))
+    ap (λ (t : Told Walk). ask_in_ram a t.answer t.world) (leads_still satp a c w clean (walk_leads m.ram satp a w (hit_leads held m e va agrees page)))
     ∙ ap (λ (b : Bool). let t : Told (Result ℕ ℕ) = record { answer = cond b (Ok w.pa) (Err (access_fault a.kind)); world = Cloaked (after (touches (tables_of w)) c) } in t)
     inside
 
-pub hit_is_led : (held : HeldPages) (c : Cloak) (e : Entry) (va : ℕ) → OwedIsHeld held c.memory
+pub hit_is_led : (held : HeldPages) (c : MidStep) (e : Entry) (va : ℕ) → OwedIsHeld held c.memory
     → EntryAgrees (present held c.memory) e → va / 4096 ≡ e.page
     → (walk c.memory.ram (satp_in e.regime) (access_in e.regime va e.kind) ≡ Ok (record { pa = start_of e.frame.0 + va % 4096; pt1 = e.pt1; pt0 = e.pt0 }))
     × ((b : Bool) → is_in_ram c.memory.ram (start_of e.frame.0 + va % 4096) ≡ b
@@ -159,7 +159,7 @@ pub hit_is_led : (held : HeldPages) (c : Cloak) (e : Entry) (va : ℕ) → OwedI
 hit_is_led held c e va owed agrees page =
     (hit_leads held c.memory e va agrees page, λ b inside. hit_asks held c e va b owed agrees page inside)
 
-pub hit_is_walk : (held : HeldPages) (c : Cloak) (e : Entry) (va : ℕ) → OwedIsHeld held c.memory
+pub hit_is_walk : (held : HeldPages) (c : MidStep) (e : Entry) (va : ℕ) → OwedIsHeld held c.memory
     → EntryAgrees (present held c.memory) e → va / 4096 ≡ e.page → e.frame.0 < length c.memory.ram
     → ask_translate (satp_in e.regime) (access_in e.regime va e.kind) (Cloaked c) ≡ record { answer = Ok (start_of e.frame.0 + va % 4096); world = noted (touches (listed e.pt1 ++ listed e.pt0)) (Cloaked c) }
 hit_is_walk held c e va owed agrees page low =

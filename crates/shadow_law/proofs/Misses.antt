@@ -18,7 +18,7 @@ use Rattle.cloak_model.specs.Cloaking.{CloakedMemory, AfterSettling, owed_in, se
 use Rattle.cloak_base.specs.Constants.{frame_of, is_in_frames}
 use Rattle.cloak_model.specs.Memory.{Seen, is_in_ram}
 use Rattle.cloak_model.specs.Walk.{Walk, walk}
-use Rattle.cloak_model.specs.World.{World, Cloak, Flat, Cloaked, Alone, unnoted}
+use Rattle.cloak_model.specs.World.{World, MidStep, Flat, Cloaked, Alone, unnoted}
 use Rattle.cloak_model.proofs.FlatWalk.{ask_walk-flat}
 use Rattle.settling_ahead.proofs.Plans.{answer_in, along, paid, follow-flat, follow-cloaked, count_along}
 use Rattle.settling_ahead.proofs.Planning.{plan_walk, walk_planned}
@@ -50,7 +50,7 @@ walk_answer ram satp a =
     ∙ ap (λ (told : Told Walk). told.answer) (ask_walk-flat satp a seen)
 
 -- a world that is this memory but for its events
-quiet_memory : (w : World) (d : Cloak) → unnoted w ≡ unnoted (Cloaked d) → (c' : Cloak) × (w ≡ Cloaked c') × (c'.memory ≡ d.memory)
+quiet_memory : (w : World) (d : MidStep) → unnoted w ≡ unnoted (Cloaked d) → (c' : MidStep) × (w ≡ Cloaked c') × (c'.memory ≡ d.memory)
 quiet_memory (Flat ram) d is = absurd cc
 quiet_memory (Alone handed) d is = absurd cc
 quiet_memory (Cloaked c') d is = (c', refl, ap (λ (w : World). memory_in w d.memory) is)
@@ -60,8 +60,8 @@ quiet_memory (Cloaked c') d is = (c', refl, ap (λ (w : World). memory_in w d.me
     memory_in (Cloaked c) m = c.memory
     memory_in (Alone handed) m = m
 
-pub asked_walk : (satp : ℕ) (a : Access) (c : Cloak) → let told = ask_walk satp a (Cloaked c) in
-    (c' : Cloak) × (told.world ≡ Cloaked c') × (walk c'.memory.ram satp a ≡ told.answer)
+pub asked_walk : (satp : ℕ) (a : Access) (c : MidStep) → let told = ask_walk satp a (Cloaked c) in
+    (c' : MidStep) × (told.world ≡ Cloaked c') × (walk c'.memory.ram satp a ≡ told.answer)
 asked_walk satp a c =
     let p = plan_walk (length c.memory.ram) satp a in
     let end = along p c.memory in

@@ -14,7 +14,7 @@ use Rattle.cloak_model.specs.Contexts.{same_space}
 use Rattle.cloak_model.specs.Memory.{is_in_ram}
 use Rattle.cloak_model.specs.Walk.{walk}
 use Rattle.cloak_model.specs.Events.{Event, Touch}
-use Rattle.cloak_model.specs.World.{Cloak, Cloaked, noted}
+use Rattle.cloak_model.specs.World.{MidStep, Cloaked, noted}
 use Rattle.shadow_fold.specs.declared.entry.Entry.{Entry}
 use Rattle.shadow_fold.specs.declared.entry.Regime.{Regime}
 use Rattle.shadow_fold.specs.Agreement.{Present, EntryAgrees, TargetAgrees, IsMapped, satp_in, access_in, start_of}
@@ -87,7 +87,7 @@ touches frames = map Touch frames
 
 -- At a hit the address is that of the entry, with nothing settled and nothing shown. Its table frames are touched.
 abbrev pub HitIsWalk : Type 0
-HitIsWalk = (held : HeldPages) (c : Cloak) (e : Entry) (va : ℕ) → OwedIsHeld held c.memory
+HitIsWalk = (held : HeldPages) (c : MidStep) (e : Entry) (va : ℕ) → OwedIsHeld held c.memory
     → EntryAgrees (present held c.memory) e → va / 4096 ≡ e.page → e.frame.0 < length c.memory.ram
     → ask_translate (satp_in e.regime) (access_in e.regime va e.kind) (Cloaked c)
     ≡ record {

@@ -14,7 +14,7 @@ use Rattle.cloak_model.specs.Cloaking.{CloakedMemory, owed_in, settle, offer}
 use Rattle.cloak_base.specs.Constants.{frame_of}
 use Rattle.cloak_model.specs.Memory.{is_in_ram}
 use Rattle.cloak_model.specs.Walk.{walk}
-use Rattle.cloak_model.specs.World.{Cloak, Cloaked}
+use Rattle.cloak_model.specs.World.{MidStep, Cloaked}
 use Rattle.shadow_fold.specs.declared.entry.Entry.{Entry}
 use Rattle.shadow_fold.specs.declared.entry.Regime.{Regime}
 use Rattle.shadow_fold.specs.Agreement.{Present, EntryAgrees, IsMapped, satp_in, access_in}
@@ -27,8 +27,8 @@ use Rattle.shadow_law.specs.Agreeing.{HeldPages, present, frame, OwedIsHeld, Are
 
 -- A walk that asks for its words, each settled first, has the answer of the walk over the RAM that it leaves.
 abbrev pub AskedWalk : Type 0
-AskedWalk = (satp : ℕ) (a : Access) (c : Cloak) → let told = ask_walk satp a (Cloaked c) in
-    (c' : Cloak) × (told.world ≡ Cloaked c') × (walk c'.memory.ram satp a ≡ told.answer)
+AskedWalk = (satp : ℕ) (a : Access) (c : MidStep) → let told = ask_walk satp a (Cloaked c) in
+    (c' : MidStep) × (told.world ≡ Cloaked c') × (walk c'.memory.ram satp a ≡ told.answer)
 
 -- A walk whose table frames are outside still leads there after the settling of a frame.
 abbrev pub SettledWalk : Type 0

@@ -3,17 +3,17 @@ use Rattle.std.specs.Prelude.{◌≡◌, ◌<◌, ◌⊎◌, ℕ, true, false}
 use Rattle.cloak_model.specs.declared.context.Phase.{Phase}
 use Rattle.cloak_model.specs.declared.context.Phase.TheVariants.{Plain, CopyIn, Waiting, CopyOut}
 use Rattle.cloak_model.specs.declared.inside.Copied.TheVariants as copied
-use Rattle.cloak_model.specs.Asking.{Asking}
 use Rattle.cloak_model.specs.Contexts.{Context}
 use Rattle.cloak_model.specs.Calls.{Copy, copy_ends, copy_in_step, copy_out_step, buffer, area, call_length, byte_address, is_cloaked}
 use Rattle.cloak_model.specs.Resources.{Resources}
+use Rattle.cloak_model.specs.Script.{Script}
 
 -- the next step of the copy that a context is in, by its phase; in no copy there is nothing left to do
-unfoldable pub next_copy : Phase → ℕ → Resources → Context → Asking Copy
-next_copy Plain domain r c w = copy_ends c copied.Done w
-next_copy (CopyIn done) domain r c w = copy_in_step domain r c done w
-next_copy Waiting domain r c w = copy_ends c copied.Done w
-next_copy (CopyOut done total) domain r c w = copy_out_step domain r c done total w
+unfoldable pub next_copy : Phase → ℕ → Resources → Context → Script Copy
+next_copy Plain domain r c = copy_ends c copied.Done
+next_copy (CopyIn done) domain r c = copy_in_step domain r c done
+next_copy Waiting domain r c = copy_ends c copied.Done
+next_copy (CopyOut done total) domain r c = copy_out_step domain r c done total
 
 -- byte `done` of the buffer is not cloaked, or that of the area is
 abbrev pub IsMisplaced : Resources → Context → ℕ → Type 0

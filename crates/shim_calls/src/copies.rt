@@ -10,6 +10,7 @@ ghost use Rattle.cloak_model.proofs.CallParts as parts;
 ghost use Rattle.what_stays.specs.Staying.{SideStays, ContextStays, IsFree, IsOther};
 ghost use Rattle.shim_calls.specs.Copying.{IsMisplaced, NoLongerFits, next_copy};
 ghost use Rattle.shim_calls.specs.Stepping.{after_copy};
+ghost use Rattle.cloak_model.specs.Script.{played};
 
 use cloak_base::{Kind, PageId};
 use cloak_model::{Answer, Copied, PageSide, Phase, WordPlace};
@@ -51,7 +52,7 @@ fn refuse(c: &mut Context) -> Copied
 }
 
 /// Makes a step of a copy into the area, of which `done` bytes are done.
-#[tactic(auto, using(crate::proofs::CopyLater::copy_laters), unfolding(cloak_model::specs::Calls::copy_in_step))]
+#[tactic(auto, using(cloak_model::proofs::ScriptLater::laters, cloak_model::proofs::PagesLater::stay_pages), unfolding(cloak_model::specs::Calls::copy_in_step))]
 fn copy_in_step<M: PageSide>(
     c: &mut Context,
     r: &Resources,
@@ -61,7 +62,7 @@ fn copy_in_step<M: PageSide>(
 ) -> Copied
     requires { domain ≡ M.serves m.old }
     ensures follows { FollowsWhere (HasPages domain r.now c.old.space) M.stands_for m.old m.new
-        (spec.copy c.new result) (spec.copy_in_step domain r.now c.old done) }
+        (spec.copy c.new result) (played (spec.copy_in_step domain r.now c.old done)) }
     ensures refused { (result ≡ Copied.Refused) ↔ ((done < spec.call_length c.old) × IsMisplaced r.now c.old done) }
     ensures refused_asks_nothing { result ≡ Copied.Refused → m.new ≡ m.old }
     ensures context { ContextStays (result ≡ Copied.Stopped) c.old c.new None }
@@ -104,7 +105,7 @@ fn copy_in_step<M: PageSide>(
 }
 
 /// A byte of the area goes to the buffer in page q, which lies at the address of this byte of it.
-#[tactic(auto, using(crate::proofs::CopyLater::copy_laters))]
+#[tactic(auto, using(cloak_model::proofs::ScriptLater::laters, cloak_model::proofs::PagesLater::stay_pages))]
 fn store_byte<M: PageSide>(
     c: &mut Context,
     q: PageId,
@@ -118,7 +119,7 @@ fn store_byte<M: PageSide>(
     requires resource { q.resource < 16 }
     requires page { q.page < 1024 }
     ensures follows { FollowsWhere (HasPage (spec.byte_address (spec.buffer c.old) done) q) M.stands_for m.old m.new
-        (after_copy c.new result) (parts.out_got c.old q done total (Answer.Word byte)) }
+        (after_copy c.new result) (played (parts.out_got c.old q done total (Answer.Word byte))) }
     ensures not_refused { result.ending ≢ Copied.Refused }
     ensures context { ContextStays (result.ending ≡ Copied.Stopped) c.old c.new result.wrote }
     ensures same_mark { c.new.mark ≡ c.old.mark }
@@ -143,7 +144,7 @@ fn store_byte<M: PageSide>(
 }
 
 /// Byte `done` of the area, at this address, goes to the buffer in page q, which lies at its address there.
-#[tactic(auto, using(crate::proofs::CopyLater::copy_laters))]
+#[tactic(auto, using(cloak_model::proofs::ScriptLater::laters, cloak_model::proofs::PagesLater::stay_pages))]
 fn copy_out_byte<M: PageSide>(
     c: &mut Context,
     q: PageId,
@@ -158,7 +159,7 @@ fn copy_out_byte<M: PageSide>(
     requires resource { q.resource < 16 }
     requires page { q.page < 1024 }
     ensures follows { FollowsWhere (HasPage (spec.byte_address (spec.buffer c.old) done) q) M.stands_for m.old m.new
-        (after_copy c.new result) (parts.out_placed c.old done total (Some q) false) }
+        (after_copy c.new result) (played (parts.out_placed c.old done total (Some q) false)) }
     ensures not_refused { result.ending ≢ Copied.Refused }
     ensures context { ContextStays (result.ending ≡ Copied.Stopped) c.old c.new result.wrote }
     ensures same_mark { c.new.mark ≡ c.old.mark }
@@ -175,7 +176,7 @@ fn copy_out_byte<M: PageSide>(
 }
 
 /// Makes a step of a copy into the buffer, of which `done` bytes of `total` are done.
-#[tactic(auto, using(crate::proofs::CopyLater::copy_laters), unfolding(cloak_model::specs::Calls::copy_out_step))]
+#[tactic(auto, using(cloak_model::proofs::ScriptLater::laters, cloak_model::proofs::PagesLater::stay_pages), unfolding(cloak_model::specs::Calls::copy_out_step))]
 fn copy_out_step<M: PageSide>(
     c: &mut Context,
     r: &Resources,
@@ -186,7 +187,7 @@ fn copy_out_step<M: PageSide>(
 ) -> CopyStep
     requires { domain ≡ M.serves m.old }
     ensures follows { FollowsWhere (HasPages domain r.now c.old.space) M.stands_for m.old m.new
-        (after_copy c.new result) (spec.copy_out_step domain r.now c.old done total) }
+        (after_copy c.new result) (played (spec.copy_out_step domain r.now c.old done total)) }
     ensures refused { (result.ending ≡ Copied.Refused) ↔ ((done < total) × IsMisplaced r.now c.old done) }
     ensures refused_asks_nothing { result.ending ≡ Copied.Refused → m.new ≡ m.old }
     ensures context { ContextStays (result.ending ≡ Copied.Stopped) c.old c.new result.wrote }
@@ -211,12 +212,12 @@ fn copy_out_step<M: PageSide>(
 /// Makes the next step of the copy that a context is in; if it is in none, nothing is left, which is `Done`. `Refused`
 /// exactly if a byte is left that is no longer where the call needs it: nothing was asked then. `Absent` and `Stopped`
 /// only if a question was answered like that.
-#[tactic(auto, using(crate::proofs::CopyLater::copy_laters), unfolding(crate::specs::Copying::next_copy))]
+#[tactic(auto, using(cloak_model::proofs::ScriptLater::laters, cloak_model::proofs::PagesLater::stay_pages), unfolding(crate::specs::Copying::next_copy))]
 pub fn copy_step<M: PageSide>(c: &mut Context, domain: u32, r: &Resources, m: &mut M) -> CopyStep
     requires { domain ≡ M.serves m.old }
 
     ensures copies { FollowsWhere (HasPages domain r.now c.old.space) M.stands_for m.old m.new
-        (after_copy c.new result) (next_copy c.old.phase domain r.now c.old) }
+        (after_copy c.new result) (played (next_copy c.old.phase domain r.now c.old)) }
 
     ensures refused { (result.ending ≡ Copied.Refused) ↔ NoLongerFits c.old.phase r.now c.old }
     ensures refused_asks_nothing { result.ending ≡ Copied.Refused → m.new ≡ m.old }

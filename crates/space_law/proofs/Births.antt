@@ -1,54 +1,33 @@
 -- The entries that a step of a program makes are of pages that its space has.
-use Rattle.std.proofs.Common.{◌≡◌, ◌∙◌, ℕ, ◌*◌, ◌/◌, Bool, true, false, List, Option, Some, None, Result, Ok, Err, sym, subst, arith}
+use Rattle.std.proofs.Common.{◌≡◌, ◌∙◌, ℕ, ◌*◌, ◌/◌, Option, Some, None, sym, subst, arith}
 use Rattle.cloak_base.specs.declared.names.PageId.{PageId}
 use Rattle.cloak_base.specs.declared.names.SpaceId.{SpaceId}
-use Rattle.cloak_model.specs.declared.answer.Answer.{Answer}
-use Rattle.cloak_model.specs.declared.answer.Answer.TheVariants as told
-use Rattle.cloak_model.specs.declared.resource.MapFault.{MapFault}
 use Rattle.cloak_model.specs.Contexts.{Context, context_at}
 use Rattle.cloak_model.specs.DomainState.{Control}
-use Rattle.cloak_model.specs.Fork.{fork, end_context}
-use Rattle.cloak_model.proofs.ForkParts.{fork_cleared, fork_if, end_cleared, end_if}
-use Rattle.cloak_model.specs.Hypercalls.{Hypercall, ForkSpace, Exit, hypercall, fork_call, exit_call}
-use Rattle.cloak_model.specs.Resources.{Resources, page_at}
+use Rattle.cloak_model.specs.Hypercalls.{Hypercall, hypercall}
+use Rattle.cloak_model.specs.Resources.{page_at}
 use Rattle.cloak_model.specs.World.{World, Cloaked}
+use Rattle.cloak_model.specs.Script.{played}
+use Rattle.hypercall_kinds.specs.Kinds.{CallKind, Stops, Forks, EndsSpace, after}
+use Rattle.hypercall_kinds.proofs.ByKinds.{by_kinds}
 use Rattle.space_law.specs.Mapping.{MakesMapped}
 use Rattle.script_fold.proofs.Walks.{Walked, step_walks}
 use Rattle.space_law.proofs.Questions.{LiesAt, Maps, maps_refl, maps_trans, asks_reach, asks_write, asks_get, asks_put, asks_clear, asks_copies, asks_forgets}
 
 module _ (mapped : SpaceId → ℕ → Option PageId) (s : Option SpaceId) where
-  -- Forks and ends.
-
-  pub maps_fork_cleared : (domain : ℕ) (c : Context) (slot new : ℕ) (r : Resources) (contexts : List (Option Context))
-      (a : Answer) (w : World) → Maps mapped s w (fork_cleared domain c slot new r contexts a w).world
-  maps_fork_cleared domain c slot new r contexts told.Ok w = asks_copies mapped s domain _ w
-  maps_fork_cleared domain c slot new r contexts _ w = maps_refl mapped s w
-
-  pub maps_fork_if : (fits : Result (Unit {0}) MapFault) (domain : ℕ) (c : Context) (r : Resources)
-      (contexts : List (Option Context)) (w : World) → Maps mapped s w (fork_if fits domain c r contexts w).world
-  maps_fork_if (Err fault) domain c r contexts w = maps_refl mapped s w
-  maps_fork_if (Ok fits) domain c r contexts w =
-      maps_trans mapped s w _ _ (asks_clear mapped s domain _ w) (maps_fork_cleared domain c _ _ r contexts _ _)
-
-  pub maps_end_cleared : (domain slot space : ℕ) (r : Resources) (contexts : List (Option Context)) (a : Answer)
-      (w : World) → Maps mapped s w (end_cleared domain slot space r contexts a w).world
-  maps_end_cleared domain slot space r contexts told.Ok w = asks_forgets mapped s domain _ w
-  maps_end_cleared domain slot space r contexts _ w = maps_refl mapped s w
-
-  pub maps_end_if : (others : Bool) (domain slot space : ℕ) (r : Resources) (contexts : List (Option Context)) (w : World) →
-      Maps mapped s w (end_if others domain slot space r contexts w).world
-  maps_end_if true domain slot space r contexts w = maps_refl mapped s w
-  maps_end_if false domain slot space r contexts w =
-      maps_trans mapped s w _ _ (asks_clear mapped s domain _ w) (maps_end_cleared domain slot space r contexts _ _)
-
-  -- Hypercalls, and the whole step.
+  -- what a hypercall asks makes no entry
+  maps_kind : (h : Hypercall) (slot : ℕ) (c : Context) (d : Control) (w : World) (k : CallKind h slot c d w) →
+      Maps mapped s w (after h slot c d w k).world
+  maps_kind h slot c d w (Stops other) = asks_clear mapped s d.number _ w
+  maps_kind h slot c d w (Forks free new is room slots spaces ok) =
+      maps_trans mapped s w _ _ (asks_clear mapped s d.number _ w) (asks_copies mapped s d.number _ _)
+  maps_kind h slot c d w (EndsSpace is none ok) =
+      maps_trans mapped s w _ _ (asks_clear mapped s d.number _ w) (asks_forgets mapped s d.number _ _)
+  maps_kind h slot c d w _ = maps_refl mapped s w
 
   pub maps_hypercall : (h : Hypercall) (slot : ℕ) (c : Context) (d : Control) (w : World) →
-      Maps mapped s w (hypercall h slot c d w).world
-  unfolding hypercall fork_call fork exit_call end_context
-  maps_hypercall ForkSpace slot c d w = maps_fork_if _ d.number c d.resources d.contexts w
-  maps_hypercall Exit slot c d w = maps_end_if _ d.number slot c.space d.resources d.contexts w
-  maps_hypercall _ slot c d w = maps_refl mapped s w
+      Maps mapped s w (played (hypercall h slot c d) w).world
+  maps_hypercall h slot c d w = by_kinds (λ t. Maps mapped s w t.world) h slot c d w (maps_kind h slot c d w)
 
 pub same_page_start : (va : ℕ) → 4096 * (va / 4096) / 4096 ≡ va / 4096
 same_page_start va = omega arith

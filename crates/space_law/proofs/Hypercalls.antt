@@ -13,11 +13,13 @@ use Rattle.cloak_model.specs.declared.inside.Went.{Went}
 use Rattle.cloak_model.specs.declared.inside.Went.TheVariants as went
 use Rattle.cloak_model.specs.Contexts.{Context}
 use Rattle.cloak_model.specs.DomainState.{Control, Domain}
-use Rattle.cloak_model.specs.DomainStep.{DomainStepped, instruction_ended, copy_ended, after_write, phase_step, step_if, domain_step, interrupt_if, interrupt, answer_taken, resume_told, resume_slot}
+use Rattle.cloak_model.specs.DomainStep.{domain_script, DomainStepped, instruction_ended, copy_ended, after_write, phase_step, step_if, domain_step, interrupt_if, interrupt, answer_taken, resume_told, resume_slot}
 use Rattle.cloak_model.specs.Fork.{forked_resources, forked}
 use Rattle.cloak_model.specs.Hypercalls.{Stepped, Hypercall, hypercall}
 use Rattle.cloak_model.specs.Resources.{Resources, page_at, drop_space}
 use Rattle.cloak_model.specs.World.{World}
+use Rattle.cloak_model.specs.Script.{played}
+use Rattle.cloak_model.proofs.Playing.{by_plain, by_copy_in, by_copy_out, by_ecall}
 use Rattle.hypercall_kinds.specs.Kinds.{CallKind, MakesNew, MakesFile, Maps, Unmaps, Forks, EndsSpace, remaps, after}
 use Rattle.hypercall_kinds.proofs.ByKinds.{by_kinds}
 use Rattle.space_law.proofs.Regions.{KeepsRegions, page_kept, same_regions, other_regions, new_spaces, file_spaces, map_changes, unmap_changes, free_at, new_space_regions}
@@ -81,7 +83,7 @@ module _ (h : Hypercall) (slot : ℕ) (c : Context) (d : Control) (w : World) wh
   }
   kind_keeps _ = plain _ _ _ refl refl
 
-  hypercall_keeps : StepKeeps d (hypercall h slot c d w).answer
+  hypercall_keeps : StepKeeps d (played (hypercall h slot c d) w).answer
   hypercall_keeps = by_kinds (λ t. StepKeeps d t.answer) h slot c d w kind_keeps
 
 -- The step.
@@ -90,9 +92,11 @@ abbrev pub DomainKeeps : Domain → DomainStepped → Type 0
 DomainKeeps d s = Keeps d.control s.domain.control s.went
 
 pub instruction_keeps : (slot : ℕ) (d : Domain) (c : Context) (e : Ran) (w : World) →
-    DomainKeeps d (instruction_ended slot d c e w).answer
+    DomainKeeps d (played (instruction_ended slot d c e) w).answer
 unfolding instruction_ended
-instruction_keeps slot d c ran.Ecall w = hypercall_keeps _ slot c d.control w
+instruction_keeps slot d c ran.Ecall w =
+    let s = hypercall_keeps _ slot c d.control w in
+    by_ecall (λ t. DomainKeeps d t.answer) slot d c w (record { number = s.number; regions = s.regions })
 instruction_keeps slot d c _ w = plain _ _ _ refl refl
 
 pub copy_keeps : (slot : ℕ) (d : Domain) (c : Context) (e : Copied) → DomainKeeps d (copy_ended slot d c e)
@@ -107,20 +111,24 @@ after_write_keeps d None s keeps = keeps
 after_write_keeps d (Some place) s keeps = record { number = keeps.number; regions = keeps.regions }
 
 pub phase_keeps : (phase : Phase) (slot : ℕ) (c : Context) (d : Domain) (w : World) →
-    DomainKeeps d (phase_step phase slot c d w).answer
+    DomainKeeps d (played (phase_step phase slot c d) w).answer
 unfolding phase_step
-phase_keeps Plain slot c d w = after_write_keeps d _ _ (instruction_keeps slot d _ _ _)
-phase_keeps (CopyIn done) slot c d w = copy_keeps slot d _ _
+phase_keeps Plain slot c d w =
+    by_plain (λ t. DomainKeeps d t.answer) slot c d w (after_write_keeps d _ _ (instruction_keeps slot d _ _ _))
+phase_keeps (CopyIn done) slot c d w =
+    by_copy_in (λ t. DomainKeeps d t.answer) done slot c d w (copy_keeps slot d _ _)
 phase_keeps Waiting slot c d w = plain _ _ _ refl refl
-phase_keeps (CopyOut done total) slot c d w = after_write_keeps d _ _ (copy_keeps slot d _ _)
+phase_keeps (CopyOut done total) slot c d w =
+    by_copy_out (λ t. DomainKeeps d t.answer) done total slot c d w (after_write_keeps d _ _ (copy_keeps slot d _ _))
 
-pub step_if_keeps : (c : Option Context) (slot : ℕ) (d : Domain) (w : World) → DomainKeeps d (step_if c slot d w).answer
+pub step_if_keeps : (c : Option Context) (slot : ℕ) (d : Domain) (w : World) →
+    DomainKeeps d (played (step_if c slot d) w).answer
 unfolding step_if
 step_if_keeps None slot d w = plain _ _ _ refl refl
 step_if_keeps (Some c) slot d w = phase_keeps c.phase slot c d w
 
 pub step_keeps : (slot : ℕ) (d : Domain) (w : World) → DomainKeeps d (domain_step slot d w).answer
-unfolding domain_step
+unfolding domain_step domain_script
 step_keeps slot d w = step_if_keeps _ slot d w
 
 -- Interrupts and resuming.

@@ -1,6 +1,6 @@
 -- The entries that questions make are of pages that lie in the space of the context that asks; of a hart outside they are
 -- of no page.
-use Rattle.std.proofs.Common.{◌≡◌, ℕ, ◌+◌, ◌*◌, ◌/◌, Bool, true, false, cond, List, [], ◌∷◌, ◌++◌, Option, Some, None, Ok, Err}
+use Rattle.std.proofs.Common.{◌≡◌, ℕ, ◌*◌, ◌/◌, Bool, true, false, cond, List, [], ◌∷◌, ◌++◌, Option, Some, None, Ok, Err}
 use Rattle.cloak_base.specs.declared.names.Kind.{Kind}
 use Rattle.cloak_base.specs.declared.names.PageId.{PageId}
 use Rattle.cloak_base.specs.declared.names.SpaceId.{SpaceId}
@@ -11,13 +11,14 @@ use Rattle.cloak_model.specs.declared.item.Item.{Item}
 use Rattle.cloak_model.specs.Ask.{opened}
 use Rattle.cloak_model.specs.AskPages.{answer_item, replies, offer_events, inside_access, put_at, ask_reach, ask_write, ask_get, ask_put, ask_clear, ask_copy, ask_forget}
 use Rattle.cloak_model.specs.Asking.{Told}
-use Rattle.cloak_model.specs.Cloaking.{CloakedMemory, Offer, Missed, settle, offer}
+use Rattle.cloak_model.specs.Cloaking.{CloakedMemory, OfferEnd, Missed, settle, offer}
 use Rattle.cloak_model.specs.Events.{Event, Look, Touch, Read, Write, Drop, births_by}
 use Rattle.cloak_model.specs.Events.{Offer as offers}
-use Rattle.cloak_model.specs.Fork.{ask_copies, ask_forgets}
+use Rattle.cloak_model.specs.Fork.{copy_each, forget_each}
 use Rattle.cloak_base.specs.Constants.{frame_of}
 use Rattle.cloak_model.specs.Walk.{Walk, walk}
 use Rattle.cloak_model.specs.World.{World, Flat, Cloaked, Alone, ram_of, regime_of, events_of, noted, settled, stored_at, filled_frame, written, with_plain, with_marks}
+use Rattle.cloak_model.specs.Script.{played}
 use Rattle.script_fold.proofs.Endings.{keeps_forgets}
 use Rattle.script_fold.proofs.KernelWalks.{Reaches}
 use Rattle.script_fold.proofs.Questions.{Settles, Opens, Replies, Offers, keeps_reached_page, keeps_get, keeps_stored, keeps_clear}
@@ -136,7 +137,7 @@ module _ (mapped : SpaceId → ℕ → Option PageId) (s : Option SpaceId) where
   missed_mapped true q g = (tt, tt)
   missed_mapped false q g = (tt, tt)
 
-  pub offer_mapped : (q : PageId) (g : ℕ) (m : CloakedMemory) (o : Offer) → AreMapped mapped s (offer_events q g m o)
+  pub offer_mapped : (q : PageId) (g : ℕ) (m : CloakedMemory) (o : OfferEnd) → AreMapped mapped s (offer_events q g m o)
   offer_mapped q g m Missed = missed_mapped (settle g m).missed q g
   offer_mapped q g m _ = (tt, tt)
 
@@ -190,13 +191,15 @@ module _ (mapped : SpaceId → ℕ → Option PageId) (s : Option SpaceId) where
   }
   maps_forget domain resource (Alone h) = record { by = λ all. all }
 
-  pub asks_copies : (domain : ℕ) (list : List (ℕ × ℕ)) (w : World) → Maps mapped s w (ask_copies domain list w).world
-  unfolding ask_copies
+  pub asks_copies : (domain : ℕ) (list : List (ℕ × ℕ)) (w : World) →
+      Maps mapped s w (played (copy_each domain list) w).world
+  unfolding copy_each
   asks_copies domain [] w = maps_refl w
   asks_copies domain (copy ∷ rest) w =
       maps_trans _ _ _ (maps_copy domain copy.0 copy.1 w) (asks_copies domain rest _)
 
-  pub asks_forgets : (domain : ℕ) (list : List ℕ) (w : World) → Maps mapped s w (ask_forgets domain list w).world
+  pub asks_forgets : (domain : ℕ) (list : List ℕ) (w : World) →
+      Maps mapped s w (played (forget_each domain list) w).world
   asks_forgets domain list w = keeps_forgets (Maps mapped s) maps_refl maps_trans maps_forget domain list w
 
   -- What a hart outside reaches.

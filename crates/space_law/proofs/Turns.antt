@@ -16,7 +16,7 @@ use Rattle.cloak_model.specs.Asking.{Told}
 use Rattle.cloak_model.specs.Contexts.{Context, Admitted, context_at, domain_of, slot_of, same_space}
 use Rattle.cloak_model.specs.Csr.{interrupt_due}
 use Rattle.cloak_model.specs.DomainState.{Control, Domain}
-use Rattle.cloak_model.specs.DomainStep.{DomainStepped, domain_step, step_if, interrupt}
+use Rattle.cloak_model.specs.DomainStep.{domain_script, DomainStepped, domain_step, step_if, interrupt}
 use Rattle.cloak_model.specs.Hart.{Hart}
 use Rattle.cloak_model.specs.Joint.{hart_in, memory_of, after_kernel_step, outside_ended, after_outside, outside_step, cloak_of, cloak_outside, pages_for, domain_ended, with_domain, after_domain_step, interrupt_ended, after_interrupt, by_interrupt, by_running, inside_step, turn_of}
 use Rattle.cloak_model.specs.KernelStep.{ticked}
@@ -25,6 +25,7 @@ use Rattle.cloak_model.specs.Resuming.{resume}
 use Rattle.cloak_model.proofs.ResumeParts.{by_root, by_context, by_domain}
 use Rattle.cloak_model.specs.World.{World, Cloaked}
 use Rattle.cloak_model.specs.DomainAlone.{runs_on}
+use Rattle.cloak_model.specs.Script.{played}
 use Rattle.shadow_fold.specs.Events.{changed_by, asked_if, asked_running, asked_inside, asked_of}
 use Rattle.space_law.specs.Mapping.{page_of, mapped_in, TurnKeepsPages}
 use Rattle.space_law.proofs.Hypercalls.{Spares, Keeps, keeps_page, DomainKeeps, step_keeps, interrupt_keeps, resume_keeps}
@@ -155,11 +156,12 @@ module _ (s : SpaceId) (va : ℕ) (q : PageId) where
       slice_get j.domains d ≡ Some was → context_at was.control.contexts slot ≡ o →
       IsUnchanged (asked_if false j h d slot was o).changed → Has j →
       Has (after_domain_step j number h d (domain_step slot was (Cloaked (cloak_of j.memory h d (pages_for was o))))).joint
-  unfolding domain_step step_if
+  unfolding domain_step domain_script step_if
   context_runs j number h d slot was None there is out has =
       let told = domain_step slot was (Cloaked (cloak_of j.memory h d (pages_for was None))) in
       let stays : told.answer.went ≡ went.Stay =
-      ap (λ (o : Option Context). (step_if o slot was (Cloaked (cloak_of j.memory h d (λ va'. None)))).answer.went) is in
+      ap (λ (o : Option Context).
+      (played (step_if o slot was) (Cloaked (cloak_of j.memory h d (λ va'. None)))).answer.went) is in
       after_step_has j number h d was told there (step_keeps slot was _)
       (λ at. subst (Spares s.number) (sym stays) tt) has
   context_runs j number h d slot was (Some c) there is out has =

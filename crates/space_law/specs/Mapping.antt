@@ -11,7 +11,7 @@ use Rattle.cloak_model.specs.KernelStep.{kernel_step}
 use Rattle.cloak_model.specs.Joint.{hart_in, turn_of, answers_violation}
 use Rattle.cloak_model.specs.Parts.{Joint}
 use Rattle.cloak_model.specs.Resources.{page_at}
-use Rattle.cloak_model.specs.World.{Cloak, Cloaked, events_of}
+use Rattle.cloak_model.specs.World.{MidStep, Cloaked, events_of}
 use Rattle.shadow_fold.specs.Agreement.{IsMapped}
 use Rattle.shadow_fold.specs.Births.{MakeAll}
 use Rattle.shadow_fold.specs.Events.{asked_of, asked_with_end}
@@ -31,14 +31,14 @@ AreWhole d space = (va other : ℕ) → other / 4096 ≡ va / 4096 → page_of (
 
 -- The entries that a program's step makes are of pages that its space has.
 abbrev pub MakesMapped : Type 0
-MakesMapped = (mapped : SpaceId → ℕ → Option PageId) (s : SpaceId) (slot : ℕ) (d : Domain) (c : Context) (k : Cloak)
+MakesMapped = (mapped : SpaceId → ℕ → Option PageId) (s : SpaceId) (slot : ℕ) (d : Domain) (c : Context) (k : MidStep)
     → context_at d.control.contexts slot ≡ Some c → AreWhole d c.space
     → ((va : ℕ) → mapped s va ≡ page_of (Some d) c.space va) → MakeAll (IsMapped mapped) (Some s) k.events
     → MakeAll (IsMapped mapped) (Some s) (events_of (domain_step slot d (Cloaked k)).world)
 
 -- Those of a hart outside are of no page.
 abbrev pub MakesOutside : Type 0
-MakesOutside = (mapped : SpaceId → ℕ → Option PageId) (h : Hart) (disk : List ℕ) (k : Cloak)
+MakesOutside = (mapped : SpaceId → ℕ → Option PageId) (h : Hart) (disk : List ℕ) (k : MidStep)
     → MakeAll (IsMapped mapped) None k.events
     → MakeAll (IsMapped mapped) None (events_of (kernel_step h disk (Cloaked k)).world)
 

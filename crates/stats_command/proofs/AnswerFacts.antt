@@ -3,7 +3,7 @@ use Rattle.std.proofs.Common.{◌≡◌, ◌<◌, ◌-◌, ◌^◌, ◌∙◌, �
 use Rattle.cloak_base.specs.declared.causes.Stop.{Stop}
 use Rattle.cloak_base.specs.declared.causes.Stop.TheVariants as stop
 use Rattle.cloak_model.specs.declared.image.Bundle.{Bundle}
-use Rattle.cloak_model.specs.Opening.{Opened}
+use Rattle.cloak_model.specs.Opening.{RunEdge}
 use Rattle.cloak_model.specs.Run.{run_of}
 use Rattle.command_words.specs.Command as spec
 use Rattle.cloak_machine.specs.declared.machine.Machine.{Machine}
@@ -19,7 +19,8 @@ use Rattle.command_parts.specs.Refusing.{Refuses}
 use Rattle.command_parts.proofs.FaultFacts.{raised}
 use Rattle.run_command.proofs.EndFacts.{fixed_front}
 use Rattle.run_command.specs.Preparing.{IsPrepared}
-use Rattle.run_command.specs.Running.{IsStatusOfStop, NoClash, status_of, unless_refused}
+use Rattle.run_command.specs.Running.{IsStatusOfStop, status_of, unless_refused}
+use Rattle.cloak_model.specs.Run.{NoClash}
 use Rattle.stats_command.specs.declared.counting.Counted.{Counted}
 use Rattle.stats_command.specs.Answering.{AsksStats, HasStats, StatsAnswers}
 use Rattle.stats_command.specs.Counting.{IsCountOf}
@@ -28,12 +29,12 @@ use Rattle.stats_command.specs.Showing.{ShowsStats, run_lines, stats_lines}
 -- What is shown of a run.
 
 -- the lines of a run, from what was counted
-lines_counted : (counted : Counted) (b : Bundle) (steps : ℕ) (o : Opened) → IsCountOf counted b steps o →
+lines_counted : (counted : Counted) (b : Bundle) (steps : ℕ) (o : RunEdge) → IsCountOf counted b steps o →
     stats_lines counted.stop counted.counts ≡ run_lines b steps o
 lines_counted counted b steps o is = λ i. stats_lines (is.stop i) (is.counts i)
 
 -- all lines were shown
-pub shows_lines : {O : Type 0} (counted : Counted) (b : Bundle) (steps : ℕ) (o : Opened) (before after : Output O)
+pub shows_lines : {O : Type 0} (counted : Counted) (b : Bundle) (steps : ℕ) (o : RunEdge) (before after : Output O)
     (answer : Status) → (NoClash (run_of b steps o) → IsCountOf counted b steps o) →
     Grows before.taken after.taken (stats_lines counted.stop counted.counts) → after.faults ≡ before.faults →
     answer ≡ status_of counted.stop counted.refused → ShowsStats b steps o before after answer
@@ -47,7 +48,7 @@ shows_lines {O} counted b steps o before after answer is grows faults given = in
 })
 
 -- a front of them was shown
-pub shows_front : {O : Type 0} (counted : Counted) (b : Bundle) (steps : ℕ) (o : Opened) (before after : Output O)
+pub shows_front : {O : Type 0} (counted : Counted) (b : Bundle) (steps : ℕ) (o : RunEdge) (before after : Output O)
     (answer : Status) → (NoClash (run_of b steps o) → IsCountOf counted b steps o) →
     GrowsByFront before.taken after.taken (stats_lines counted.stop counted.counts) →
     Raised before.faults after.faults → answer ≡ status.WriteFault → ShowsStats b steps o before after answer

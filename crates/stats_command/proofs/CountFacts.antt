@@ -6,7 +6,7 @@ use Rattle.std.proofs.lemmas.List.{append-nil}
 use Rattle.cloak_base.specs.declared.causes.Stop.{Stop}
 use Rattle.cloak_model.specs.declared.image.Bundle.{Bundle}
 use Rattle.cloak_model.specs.Joint.{Moment, Turn, joint_step, after_turn, stop_of}
-use Rattle.cloak_model.specs.Opening.{Opened}
+use Rattle.cloak_model.specs.Opening.{RunEdge}
 use Rattle.cloak_model.specs.Run.{first_moment, joint_after, turns_from, unless_stopped}
 use Rattle.cloak_machine.specs.Counting.{CountsAccesses}
 use Rattle.cloak_machine.specs.declared.machine.Machine.{Machine}
@@ -121,7 +121,7 @@ counts-all machine n budget m s on whole counts =
     subst (λ (ts : List Turn). CountsAccesses machine (after_turns m ts s)) (made_is machine n budget m on ∙ sym all) counts
 
 -- the counts that a machine tells after all steps of a run
-pub counts_told : (b : Bundle) (steps : ℕ) (o : Opened) (counts : ShadowCounts) →
+pub counts_told : (b : Bundle) (steps : ℕ) (o : RunEdge) (counts : ShadowCounts) →
     counts ≡ (after_turns (first_moment b o.joint) (turns_from steps (first_moment b o.joint))
     (fresh_fold (length o.joint.memory.ram))).table.counts → counts ≡ counts_of b steps o
 unfolding counts_of

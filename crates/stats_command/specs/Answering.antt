@@ -3,7 +3,7 @@ use Rattle.std.specs.Prelude.{ℕ, ◌≡◌, ◌⊎◌, List, Option, None, Ok}
 use Rattle.cloak_base.specs.Random.{Random}
 use Rattle.io_traits.specs.Told.{Grows, GrowsByFront}
 use Rattle.cloak_model.specs.declared.image.Bundle.{Bundle}
-use Rattle.cloak_model.specs.Opening.{Opened, opening}
+use Rattle.cloak_model.specs.Opening.{RunEdge, opening}
 use Rattle.cloak_model.specs.Run.{Run, run_of}
 use Rattle.command_words.specs.Command as spec
 use Rattle.command_parts.specs.declared.status.Status.{Status}
@@ -11,7 +11,8 @@ use Rattle.command_parts.specs.declared.status.Status.TheVariants as status
 use Rattle.command_parts.specs.NoRun.{AsksBundle, IsRefused, LineFailed}
 use Rattle.command_parts.specs.Outside.{OnlyRead, Outside, Raised}
 use Rattle.run_command.specs.Recording.{GrowsSome}
-use Rattle.run_command.specs.Running.{NoClash, run_status}
+use Rattle.run_command.specs.Running.{run_status}
+use Rattle.cloak_model.specs.Run.{NoClash}
 use Rattle.stats_command.specs.Showing.{run_lines}
 
 -- The words ask for the counts of the joint run of this bundle, with at most this many steps, which opens like this.
@@ -20,7 +21,7 @@ pub record AsksStats (asked : spec.Asked) (held : List ℕ → Option (List ℕ)
   pub bundle : Bundle
   pub stream : Random
   pub asks : AsksBundle asked held None steps bundle stream
-  pub opened : Opened
+  pub opened : RunEdge
   pub opens : opening bundle stream ≡ Ok opened
 
 -- that run

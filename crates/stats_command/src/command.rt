@@ -2,7 +2,7 @@
 ghost use Rattle.std.specs.Prelude.{◌≡◌, ◌<◌, ◌≤◌, ◌-◌, ◌^◌, Ok};
 ghost use Rattle.cloak_base.specs.Random.{Random};
 ghost use Rattle.cloak_model.specs.declared.image.Bundle.{Bundle};
-ghost use Rattle.cloak_model.specs.Opening.{Opened, opening};
+ghost use Rattle.cloak_model.specs.Opening.{RunEdge, opening};
 ghost use Rattle.cloak_model.specs.Run.{first_moment, most_steps};
 ghost use Rattle.cloak_machine.specs.Standing.{StandsForMoment, steps_made};
 ghost use Rattle.command_words.specs.Request.{asked_of_stats};
@@ -25,7 +25,7 @@ fn count_and_show<O: Sink>(machine: Machine, steps: u32, out: &mut O) -> Status
     requires fresh { steps_made machine ≡ 0 }
     requires few { steps ≤ most_steps }
     requires output { O.faults out.old < 2 ^ 64 - 1 }
-    ensures { (b : Bundle) (stream : Random) (o : Opened) → opening b stream ≡ Ok o →
+    ensures { (b : Bundle) (stream : Random) (o : RunEdge) → opening b stream ≡ Ok o →
         StandsForMoment machine (first_moment b o.joint) →
         ShowsStats b steps o (output O.Sink out.old) (output O.Sink out.new) result }
 {

@@ -3,11 +3,12 @@ ghost use Rattle.std.specs.Prelude.{◌≡◌, ◌≤◌, Ok};
 ghost use Rattle.cloak_base.specs.Random.{Random};
 ghost use Rattle.cloak_model.specs.declared.image.Bundle.{Bundle};
 ghost use Rattle.cloak_model.specs.Joint.{Moment};
-ghost use Rattle.cloak_model.specs.Opening.{Opened, opening};
+ghost use Rattle.cloak_model.specs.Opening.{RunEdge, opening};
 ghost use Rattle.cloak_model.specs.Run.{first_moment, joint_after, most_steps, run_of, turns_from};
 ghost use Rattle.cloak_machine.specs.Counting.{CountsAccesses};
 ghost use Rattle.cloak_machine.specs.Standing.{StandsForMoment, steps_made};
-ghost use Rattle.run_command.specs.Running.{MadeAll, NoClash, NoClashYet};
+ghost use Rattle.run_command.specs.Running.{MadeAll};
+ghost use Rattle.cloak_model.specs.Run.{NoClash, NoClashYet};
 ghost use Rattle.shadow_fold.specs.Events.{after_turns};
 ghost use Rattle.shadow_fold.specs.Fold.{Fold};
 ghost use Rattle.stats_command.specs.Counting.{IsCountOf};
@@ -50,7 +51,7 @@ fn run_counted(machine: &mut Machine, steps: u32) -> Option<Stop>
 pub fn count_run(machine: Machine, steps: u32) -> Counted
     requires fresh { steps_made machine ≡ 0 }
     requires few { steps ≤ most_steps }
-    ensures { (b : Bundle) (stream : Random) (o : Opened) → opening b stream ≡ Ok o →
+    ensures { (b : Bundle) (stream : Random) (o : RunEdge) → opening b stream ≡ Ok o →
         StandsForMoment machine (first_moment b o.joint) → NoClash (run_of b steps o) →
         IsCountOf result b steps o }
 {

@@ -10,7 +10,7 @@ use Rattle.chain_law.proofs.Chains.{chains_give_latest}
 use Rattle.cloak_model.specs.Beginning.{AreContents, Beginning, IsBeginning, Stored, opening_from}
 use Rattle.cloak_model.specs.Exchange.{Piece, recorded, record_magic, item_pieces, Emits}
 use Rattle.cloak_model.specs.Ledger.{Keys}
-use Rattle.cloak_model.specs.Opening.{Lack, Opened}
+use Rattle.cloak_model.specs.Opening.{Lack, RunEdge}
 use Rattle.cloak_model.specs.Report.{report}
 use Rattle.cloak_model.specs.Run.{Run, any_refused, cause_of, closing, first_moment, joint_after, last_stop, most_steps, run_from, run_of, turns_from, turns_pieces}
 use Rattle.cloak_model.specs.StoredFiles.{FileContents, IsTable}
@@ -20,7 +20,8 @@ use Rattle.cloak_machine.specs.declared.machine.Machine.{Machine}
 use Rattle.command_words.specs.Command as spec
 use Rattle.disk_law.proofs.Runs.{disk_stays}
 use Rattle.command_parts.specs.Storing.{AreFiles}
-use Rattle.run_command.specs.Running.{BeginsRun, MadeAll, NoClash, first_pieces, moment_behind}
+use Rattle.run_command.specs.Running.{BeginsRun, MadeAll, first_pieces, moment_behind}
+use Rattle.cloak_model.specs.Run.{NoClash}
 use Rattle.run_command.proofs.Lawful.{is_lawful}
 use Rattle.run_command.proofs.RunFacts.{emits_as}
 use Rattle.cloaked_side.proofs.Emitting.{emits_then}
@@ -33,7 +34,7 @@ use Rattle.cloak_machine.proofs.Keys.{closing_keys}
 use Rattle.store_command.specs.Writing.{EndsAs, EndsUnless, Finishes, WritesFirst}
 
 -- the pieces of a run up to the end of its record
-first_of_run : (b : Bundle) (steps : ℕ) (o : Opened) →
+first_of_run : (b : Bundle) (steps : ℕ) (o : RunEdge) →
     let turns = turns_from steps (first_moment b o.joint) in
     let closed = closing (joint_after o.joint turns) in
     first_pieces o turns ++ item_pieces (item.Close (length turns) ∷ (closed.items ++ item.End ∷ []))
@@ -45,26 +46,26 @@ first_of_run b steps o =
 
 -- nothing more was given once the outlet failed
 pub first_front : {E : Type 0} {gave : E → E → List Piece → Type 0} {failed : Bool} {e f : E} {machine : Machine}
-    {stopped : Option Stop} (old new : ForStoring) (b : Bundle) (steps : ℕ) (o : Opened) →
+    {stopped : Option Stop} (old new : ForStoring) (b : Bundle) (steps : ℕ) (o : RunEdge) →
     BeginsRun gave failed e f machine stopped b o (turns_from steps (first_moment b o.joint)) →
     ((ps : List Piece) → Emits gave f f ps) → WritesFirst gave e f old new None (run_of b steps o)
 first_front {E} {gave} {failed} {e} {f} {machine} {stopped} old new b steps o begins none =
     record { emits = emits_as (first_of_run b steps o) (emits_then begins.emits (none _)); ends = tt }
 
 -- the place for the disk has the size of the disk as the steps were made
-pub place_after : {machine : Machine} {left : ForStoring} {b : Bundle} {from : Beginning} {o : Opened} (steps : ℕ) →
+pub place_after : {machine : Machine} {left : ForStoring} {b : Bundle} {from : Beginning} {o : RunEdge} (steps : ℕ) →
     OpensRun machine left b from o →
     left.disk_end ≡ left.disk_from + length (joint_after o.joint (turns_from steps (first_moment b o.joint))).disk
 place_after {machine} {left} {b} {from} {o} steps opened =
     opened.disk ∙ ap (λ n. left.disk_from + n) (sym (disk_stays b from o opened.opens steps))
 
 -- and so it does at the end
-pub closed_disk : (b : Bundle) (from : Beginning) (o : Opened) (steps : ℕ) → opening_from b from ≡ Ok o →
+pub closed_disk : (b : Bundle) (from : Beginning) (o : RunEdge) (steps : ℕ) → opening_from b from ≡ Ok o →
     length (run_of b steps o).closed.joint.disk ≡ length b.kernel.disk
 unfolding run_of closing
 closed_disk b from o steps opens = disk_stays b from o opens steps
 
-count_turns : (b : Bundle) (steps : ℕ) (o : Opened) →
+count_turns : (b : Bundle) (steps : ℕ) (o : RunEdge) →
     let turns = turns_from steps (first_moment b o.joint) in
     (moment_behind (first_moment b o.joint) turns).steps ≡ length turns
 count_turns b steps o =
@@ -73,7 +74,7 @@ count_turns b steps o =
 
 -- the end of a machine that made all steps of a run
 ends_as : {E : Type 0} {gave : E → E → List Piece → Type 0} {e f : E} {machine : Machine} {stopped : Option Stop}
-    {cause : Stop} {end : RunEnd} {old new : ForStoring} (b : Bundle) (steps : ℕ) (o : Opened) →
+    {cause : Stop} {end : RunEnd} {old new : ForStoring} (b : Bundle) (steps : ℕ) (o : RunEdge) →
     let turns = turns_from steps (first_moment b o.joint) in
     let m = moment_behind (first_moment b o.joint) turns in
     MadeAll machine stopped (first_moment b o.joint) turns → cause ≡ unwrap_or stopped stop.Budget →
@@ -97,7 +98,7 @@ ends_as {E} {gave} {e} {f} {machine} {stopped} {cause} {end} {old} {new} b steps
     }
 
 pub first_whole : {E : Type 0} {gave : E → E → List Piece → Type 0} {failed : Bool} {e f h : E} {machine : Machine}
-    {stopped : Option Stop} {cause : Stop} {end : RunEnd} {old new : ForStoring} (b : Bundle) (steps : ℕ) (o : Opened) →
+    {stopped : Option Stop} {cause : Stop} {end : RunEnd} {old new : ForStoring} (b : Bundle) (steps : ℕ) (o : RunEdge) →
     let turns = turns_from steps (first_moment b o.joint) in
     let m = moment_behind (first_moment b o.joint) turns in
     BeginsRun gave failed e f machine stopped b o turns → failed ≡ false → cause ≡ unwrap_or stopped stop.Budget →
@@ -129,7 +130,7 @@ failed_is failed (Some end) ends = ends
 pub runs_over : {names : spec.StoreNames} {counter : ℕ} {randomness : spec.Randomness}
     {held : List ℕ → Option (List ℕ)} {prepared : PreparedStore}
     (p : IsPrepared names counter randomness held prepared) (steps : ℕ) (Leaves : Run → Type 0) → steps ≤ most_steps →
-    ((from : Beginning) (o : Opened) → OpensRun prepared.machine prepared.left p.sources.bundle from o →
+    ((from : Beginning) (o : RunEdge) → OpensRun prepared.machine prepared.left p.sources.bundle from o →
     NoClash (run_of p.sources.bundle steps o) → Leaves (run_of p.sources.bundle steps o)) →
     (files : List FileContents) → AreFiles p.sources files → RunsOver p.sources steps Leaves files
 runs_over {names} {counter} {randomness} {held} {prepared} p steps Leaves few each files are =
@@ -138,7 +139,7 @@ runs_over {names} {counter} {randomness} {held} {prepared} p steps Leaves few ea
     let over = p.opens files are in
     let r = run_of s.bundle steps over.opened in
     let runs : run_from s.bundle from steps ≡ Ok r =
-    ap (λ (opened : Result Opened Lack). result_map_both (run_of s.bundle steps) (λ lack. lack) opened) over.opens in
+    ap (λ (opened : Result RunEdge Lack). result_map_both (run_of s.bundle steps) (λ lack. lack) opened) over.opens in
     let contents : IsBeginning s.bundle from =
     record { table = subst IsTable are.tells p.asks.old.is_table; sealed = are.sealed } in
     record {

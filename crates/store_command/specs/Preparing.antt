@@ -4,7 +4,7 @@ use Rattle.std.specs.List.{flat_map}
 use Rattle.cloak_model.specs.declared.image.Bundle.{Bundle}
 use Rattle.cloak_model.specs.Beginning.{Beginning, opening_from}
 use Rattle.cloak_model.specs.Bundle.{segment_bytes}
-use Rattle.cloak_model.specs.Opening.{Opened}
+use Rattle.cloak_model.specs.Opening.{RunEdge}
 use Rattle.cloak_model.specs.Run.{first_moment}
 use Rattle.cloak_model.specs.StoredFiles.{StoredFile}
 use Rattle.cloak_model.specs.StoreFault.{largest_store, store_fault}
@@ -92,7 +92,7 @@ PreparesStored names counter steps randomness before after (Err refused) =
     NoRun (spec.Store names counter steps randomness) refused before after
 
 -- The run of this bundle opens so, the machine is that of its first moment, and what is left has a place for its disk.
-pub record OpensRun (machine : Machine) (left : ForStoring) (b : Bundle) (from : Beginning) (o : Opened) : Type 0 where
+pub record OpensRun (machine : Machine) (left : ForStoring) (b : Bundle) (from : Beginning) (o : RunEdge) : Type 0 where
   pub opens : opening_from b from ≡ Ok o
   pub placings : placings_of machine ≡ map placing b.programs
   pub stands : StandsForMoment machine (first_moment b o.joint)

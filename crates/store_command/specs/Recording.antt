@@ -11,7 +11,8 @@ use Rattle.command_parts.specs.Outside.{FilesOutside, Outside, Raised, NothingRo
 use Rattle.command_parts.specs.Storing.{AreFiles, StoreSources}
 use Rattle.run_command.specs.Answering.{IsLawful}
 use Rattle.run_command.specs.Recording.{FailedSome, GrowsSome}
-use Rattle.run_command.specs.Running.{IsStatusOfStop, NoClash}
+use Rattle.run_command.specs.Running.{IsStatusOfStop}
+use Rattle.cloak_model.specs.Run.{NoClash}
 use Rattle.store_command.specs.declared.prepare.PreparedStore.{PreparedStore}
 use Rattle.store_command.specs.Leaving.{BeginsNoRecord, BreaksOff, LeavesAll, OtherThanStored}
 use Rattle.store_command.specs.Preparing.{PreparesStored}

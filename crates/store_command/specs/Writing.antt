@@ -6,7 +6,7 @@ use Rattle.cloak_base.specs.declared.causes.Stop.TheVariants as stop
 use Rattle.cloak_model.specs.Beginning.{AreContents}
 use Rattle.cloak_model.specs.Exchange.{Piece, Emits}
 use Rattle.cloak_model.specs.Joint.{Moment}
-use Rattle.cloak_model.specs.Opening.{Opened}
+use Rattle.cloak_model.specs.Opening.{RunEdge}
 use Rattle.cloak_model.specs.Run.{Run, is_refused, report_of}
 use Rattle.cloak_model.specs.StoredFiles.{table_of}
 use Rattle.cloak_model.specs.StoredRun.{contents_of}
@@ -33,7 +33,7 @@ pub record KeepsRoom (old new : ForStoring) : Type 0 where
 
 -- The machine of this moment was closed so, and what is left tells of its files and its disk then.
 pub record Finishes {E : Type 0} (gave : E → E → List Piece → Type 0) (e e' : E) (old new : ForStoring) (end : RunEnd)
-    (stopped : Stop) (m : Moment) (closed : Opened) : Type 0 where
+    (stopped : Stop) (m : Moment) (closed : RunEdge) : Type 0 where
   pub finishes : FinishesAs gave e e' end stopped m closed
   pub table : end.stop ≢ stop.NoRandom → new.table ≡ table_of (contents_of closed.joint)
   pub fit : end.stop ≢ stop.NoRandom → AreContents m.joint.memory.ledger.keys (contents_of closed.joint)

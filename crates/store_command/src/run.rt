@@ -4,11 +4,11 @@ ghost use Rattle.cloak_model.specs.declared.image.Bundle.{Bundle};
 ghost use Rattle.cloak_model.specs.Beginning.{Beginning};
 ghost use Rattle.cloak_model.specs.Exchange.{EmitsSome};
 ghost use Rattle.cloak_model.specs.Joint.{Moment};
-ghost use Rattle.cloak_model.specs.Opening.{Opened};
+ghost use Rattle.cloak_model.specs.Opening.{RunEdge};
 ghost use Rattle.cloak_model.specs.Run.{closing, most_steps, run_of};
 ghost use Rattle.cloak_machine.specs.Standing.{StandsForMoment, steps_made};
 ghost use Rattle.run_command.specs.Outlet.{Gave};
-ghost use Rattle.run_command.specs.Running.{NoClash};
+ghost use Rattle.cloak_model.specs.Run.{NoClash};
 ghost use Rattle.command_parts.specs.Outside.{outside};
 ghost use Rattle.store_command.specs.Preparing.{CanEnd, OpensRun};
 ghost use Rattle.store_command.specs.Writing.{EndsUnless, Finishes, KeepsRoom, RecordsFirst, WritesFirst, WritesSome};
@@ -58,7 +58,7 @@ fn write_first<S: Shelf, O: Sink>(
     ensures room { KeepsRoom left.old left.new }
     ensures emits_some { EmitsSome (Gave S.Shelf O.Sink) outlet.old outlet.new }
     ensures ends { EndsUnless outlet.new.pen.failed result }
-    ensures writes { (b : Bundle) (from : Beginning) (o : Opened) → OpensRun machine left.old b from o →
+    ensures writes { (b : Bundle) (from : Beginning) (o : RunEdge) → OpensRun machine left.old b from o →
         NoClash (run_of b steps o) →
         WritesFirst (Gave S.Shelf O.Sink) outlet.old outlet.new left.old left.new result (run_of b steps o) }
 {
@@ -90,7 +90,7 @@ pub(crate) fn record_first<S: Shelf, O: Sink>(
     ensures room { KeepsRoom left.old left.new }
     ensures some { WritesSome name.now result
         (outside S.Shelf O.Sink shelf.old out.old) (outside S.Shelf O.Sink shelf.new out.new) }
-    ensures records { (b : Bundle) (from : Beginning) (o : Opened) → OpensRun machine left.old b from o →
+    ensures records { (b : Bundle) (from : Beginning) (o : RunEdge) → OpensRun machine left.old b from o →
         NoClash (run_of b steps o) →
         RecordsFirst name.now (outside S.Shelf O.Sink shelf.old out.old) (outside S.Shelf O.Sink shelf.new out.new)
         left.old left.new result (run_of b steps o) }

@@ -7,7 +7,7 @@ use Rattle.cloak_model.specs.declared.item.Item.TheVariants as item
 use Rattle.cloak_model.specs.DomainState.{Domain}
 use Rattle.cloak_model.specs.Exchange.{Piece, recorded, shown, record_magic, item_pieces, recorded_bytes, shown_bytes}
 use Rattle.cloak_model.specs.Joint.{Moment, Turn}
-use Rattle.cloak_model.specs.Opening.{Opened}
+use Rattle.cloak_model.specs.Opening.{RunEdge}
 use Rattle.cloak_model.specs.Parts.{Joint}
 use Rattle.cloak_model.specs.Report.{report, number_line}
 use Rattle.cloak_model.specs.Run.{Run, turns_from, joint_after, last_stop, turns_pieces, closing, cause_of, first_moment, run_of, run_of_turns, due, record_bytes, report_of}
@@ -25,7 +25,7 @@ use Rattle.thaw_law.proofs.TwoParts.{turns_pieces-append, joint_after-append, la
 abbrev later_turn : Joint → Turn → Turn
 later_turn before t = turn_with_past before.console (loads_of before) t
 
-abbrev joined : Opened → List Turn → Joint → Run → Run
+abbrev joined : RunEdge → List Turn → Joint → Run → Run
 joined o first before rest = record {
   opened = o;
   turns = first ++ map (later_turn before) rest.turns;
@@ -46,7 +46,7 @@ regrouped : (magic : Piece) (items first rest close : List Piece) (line report :
     ≡ (magic ∷ (items ++ first)) ++ ((rest ++ (close ++ line ∷ [])) ++ report ∷ [])
 regrouped magic items first rest close line report = simp append_assoc
 
-module _ (o : Opened) (n : ℕ) (first : List Turn) (before : Joint) (rest : Run) (count : length first ≡ n) where
+module _ (o : RunEdge) (n : ℕ) (first : List Turn) (before : Joint) (rest : Run) (count : length first ≡ n) where
   abbrev whole : Run
   whole = joined o first before rest
 
@@ -120,7 +120,7 @@ module _ (o : Opened) (n : ℕ) (first : List Turn) (before : Joint) (rest : Run
 
 -- The run is that of both parts.
 
-module _ (b : Bundle) (o : Opened) (n k : ℕ) (on : IsFrozenAfter b o n) where
+module _ (b : Bundle) (o : RunEdge) (n k : ℕ) (on : IsFrozenAfter b o n) where
   abbrev first : List Turn
   first = first_turns b o n
 

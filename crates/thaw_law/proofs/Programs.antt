@@ -1,5 +1,5 @@
 -- The loads that a program completed before stay before those that a step completes, and nothing else depends on them.
-use Rattle.std.proofs.Common.{◌≡◌, ◌∙◌, ℕ, zero, suc, List, [], ◌∷◌, slice_get, slice_set, slice_index_or, Option, Some, None, option_map, refl, ap, append_assoc}
+use Rattle.std.proofs.Common.{◌≡◌, ◌∙◌, ℕ, zero, suc, List, [], ◌∷◌, slice_get, slice_set, slice_index_or, Option, Some, None, option_map, refl, sym, ap, append_assoc}
 use Rattle.cloak_model.specs.declared.context.Phase.{Phase}
 use Rattle.cloak_model.specs.declared.context.Phase.TheVariants.{Plain, CopyIn, Waiting, CopyOut}
 use Rattle.cloak_model.specs.declared.context.WordPlace.{WordPlace}
@@ -7,14 +7,16 @@ use Rattle.cloak_model.specs.declared.inside.Copied.{Copied}
 use Rattle.cloak_model.specs.declared.inside.Copied.TheVariants as copied
 use Rattle.cloak_model.specs.declared.inside.Ran.{Ran}
 use Rattle.cloak_model.specs.declared.inside.Ran.TheVariants as ran
-use Rattle.cloak_model.specs.Asking.{Told}
+use Rattle.cloak_model.specs.Asking.{Told, answered}
 use Rattle.cloak_model.specs.Calls.{copy_in_step, copy_out_step}
 use Rattle.cloak_model.specs.Contexts.{Context, context_at}
 use Rattle.cloak_model.specs.DomainState.{Domain}
-use Rattle.cloak_model.specs.DomainStep.{DomainStepped, instruction_ended, copy_ended, after_write, phase_step, step_if, domain_step}
-use Rattle.cloak_model.specs.Hypercalls.{Stepped, stays_inside}
+use Rattle.cloak_model.specs.DomainStep.{domain_script, DomainStepped, instruction_ended, copy_ended, after_write, phase_step, step_if, domain_step}
+use Rattle.cloak_model.specs.Hypercalls.{Stepped, stays_inside, hypercall, hypercall_of}
 use Rattle.cloak_model.specs.InsideStep.{instruction_inside}
 use Rattle.cloak_model.specs.World.{World}
+use Rattle.cloak_model.specs.Script.{Script, Gives, played, ◌>>=◌}
+use Rattle.cloak_model.proofs.Playing.{played_then}
 use Rattle.thaw_law.specs.Past.{PastLoads, with_loads_before, with_loads}
 
 -- Programs by their numbers.
@@ -59,65 +61,72 @@ loaded step w loads = record {
 }
 
 module _ (past : PastLoads) (slot : ℕ) where
+  -- the same script goes before, and then this one after the past
+  then_after : {A : Type 0} (s : Script A) (now before : A → Script DomainStepped) (w : World) →
+      ((a : A) (v : World) → played (now a) v ≡ told_after past (played (before a) v)) →
+      played (s >>= now) w ≡ told_after past (played (s >>= before) w)
+  then_after s now before w same =
+      played_then s now w
+      ∙ same (played s w).answer (played s w).world
+      ∙ ap (told_after past) (sym (played_then s before w))
+
   ended_after : (d : Domain) (c : Context) (how : Ran) (w : World) →
-      instruction_ended slot (with_loads_before past d) c how w
-      ≡ told_after past (instruction_ended slot d c how w)
+      played (instruction_ended slot (with_loads_before past d) c how) w
+      ≡ told_after past (played (instruction_ended slot d c how) w)
   unfolding instruction_ended
   ended_after d c (ran.Loaded address value) w =
       ap (loaded (stays_inside slot c d.control) w) (append_assoc past d.loads ((address, value) ∷ []))
+  ended_after d c ran.Ecall w = then_after (hypercall (hypercall_of c) slot c d.control) _ _ w (λ step v. refl)
   ended_after d c _ w = refl
 
-  copied_after : (d : Domain) (c : Context) (how : Copied) →
-      copy_ended slot (with_loads_before past d) c how ≡ stepped_after past (copy_ended slot d c how)
+  copied_after : (d : Domain) (c : Context) (how : Copied) (w : World) →
+      answered (copy_ended slot (with_loads_before past d) c how) w
+      ≡ told_after past (answered (copy_ended slot d c how) w)
   unfolding copy_ended
-  copied_after d c (copied.Loaded address byte) =
-      let step = stays_inside slot c d.control in
-      ap (λ (loads : PastLoads). let s : DomainStepped =
-      record { domain = record { control = step.control; loads = loads }; went = step.went } in s)
-      (append_assoc past d.loads ((address, byte) ∷ []))
-  copied_after d c _ = refl
+  copied_after d c (copied.Loaded address byte) w =
+      ap (loaded (stays_inside slot c d.control) w) (append_assoc past d.loads ((address, byte) ∷ []))
+  copied_after d c _ w = refl
 
-  written_after : (place : Option WordPlace) (s : DomainStepped) →
-      after_write place (stepped_after past s) ≡ stepped_after past (after_write place s)
-  written_after None s = refl
-  written_after (Some place) s = refl
+  write_after : (place : Option WordPlace) (s : DomainStepped) (w : World) →
+      answered (after_write place (stepped_after past s)) w ≡ told_after past (answered (after_write place s) w)
+  write_after None s w = refl
+  write_after (Some place) s w = refl
 
-  abbrev told : Option WordPlace → World → DomainStepped → Told DomainStepped
-  told place w s = record { answer = after_write place s; world = w }
-
-  told_written : (place : Option WordPlace) (w : World) (s : DomainStepped) →
-      told place w (stepped_after past s) ≡ told_after past (told place w s)
-  told_written place w s =
-      ap (λ (x : DomainStepped). let t : Told DomainStepped = record { answer = x; world = w } in t)
-      (written_after place s)
+  written_after : (place : Option WordPlace) (now before : Script DomainStepped) (w : World) →
+      played now w ≡ told_after past (played before w) →
+      played (now >>= (λ s. Gives (after_write place s))) w
+      ≡ told_after past (played (before >>= (λ s. Gives (after_write place s))) w)
+  written_after place now before w same =
+      let told = played before w in
+      played_then now _ w
+      ∙ ap (λ (t : Told DomainStepped). answered (after_write place t.answer) t.world) same
+      ∙ write_after place told.answer told.world
+      ∙ ap (told_after past) (sym (played_then before _ w))
 
   phase_after : (phase : Phase) (c : Context) (d : Domain) (w : World) →
-      phase_step phase slot c (with_loads_before past d) w ≡ told_after past (phase_step phase slot c d w)
+      played (phase_step phase slot c (with_loads_before past d)) w
+      ≡ told_after past (played (phase_step phase slot c d) w)
   unfolding phase_step
   phase_after Plain c d w =
-      let made = instruction_inside d.control.number d.control.resources c w in
-      let step = instruction_ended slot d made.answer.context made.answer.ending made.world in
-      ap (λ (t : Told DomainStepped). told made.answer.wrote t.world t.answer)
-      (ended_after d made.answer.context made.answer.ending made.world)
-      ∙ told_written made.answer.wrote step.world step.answer
+      then_after (instruction_inside d.control.number d.control.resources c) _ _ w
+      (λ made v. written_after made.wrote
+      (instruction_ended slot (with_loads_before past d) made.context made.ending)
+      (instruction_ended slot d made.context made.ending) v (ended_after d made.context made.ending v))
   phase_after (CopyIn done) c d w =
-      let copy = copy_in_step d.control.number d.control.resources c done w in
-      ap (λ (x : DomainStepped). let t : Told DomainStepped = record { answer = x; world = copy.world } in t)
-      (copied_after d copy.answer.context copy.answer.ending)
+      then_after (copy_in_step d.control.number d.control.resources c done) _ _ w
+      (λ copy v. copied_after d copy.context copy.ending v)
   phase_after Waiting c d w = refl
   phase_after (CopyOut done total) c d w =
-      let copy = copy_out_step d.control.number d.control.resources c done total w in
-      let step = copy_ended slot d copy.answer.context copy.answer.ending in
-      ap (told copy.answer.wrote copy.world) (copied_after d copy.answer.context copy.answer.ending)
-      ∙ told_written copy.answer.wrote copy.world step
+      then_after (copy_out_step d.control.number d.control.resources c done total) _ _ w
+      (λ copy v. written_after copy.wrote (Gives _) (Gives _) v (copied_after d copy.context copy.ending v))
 
   step_if_after : (there : Option Context) (d : Domain) (w : World) →
-      step_if there slot (with_loads_before past d) w ≡ told_after past (step_if there slot d w)
+      played (step_if there slot (with_loads_before past d)) w ≡ told_after past (played (step_if there slot d) w)
   unfolding step_if
   step_if_after None d w = refl
   step_if_after (Some c) d w = phase_after c.phase c d w
 
   pub domain_step_after : (d : Domain) (w : World) →
       domain_step slot (with_loads_before past d) w ≡ told_after past (domain_step slot d w)
-  unfolding domain_step
+  unfolding domain_step domain_script
   domain_step_after d w = step_if_after (context_at d.control.contexts slot) d w

@@ -6,7 +6,7 @@ use Rattle.cloak_model.specs.declared.image.Bundle.{Bundle}
 use Rattle.cloak_model.specs.DomainState.{Domain}
 use Rattle.cloak_model.specs.Exchange.{shown, recorded_bytes, shown_bytes}
 use Rattle.cloak_model.specs.Joint.{Turn}
-use Rattle.cloak_model.specs.Opening.{Opened}
+use Rattle.cloak_model.specs.Opening.{RunEdge}
 use Rattle.cloak_model.specs.Parts.{Joint}
 use Rattle.cloak_model.specs.Report.{stop_line, number_line, refusal_lines, digest_line, harts_lines}
 use Rattle.cloak_model.specs.Run.{Run, joint_after, last_stop, run_of, due, record_bytes, report_of, is_refused}
@@ -32,7 +32,7 @@ with_closed_past before r =
     record r { closed = closed_with_past before.console (loads_of before) r.closed }
 
 -- The run is its first part, of n steps, which left this machine, and then the rest.
-pub record IsFirstAndRest (o : Opened) (n : ℕ) (first : List Turn) (before : Joint) (rest whole : Run) : Type 0 where
+pub record IsFirstAndRest (o : RunEdge) (n : ℕ) (first : List Turn) (before : Joint) (rest whole : Run) : Type 0 where
   -- The record is that of the first part, and then that of the rest.
   pub file : record_bytes whole ≡ recorded_bytes (first_pieces o first) ++ recorded_bytes (due_after n rest)
   -- What is shown is what the first part shows, and then what the rest shows, up to the report.
@@ -54,12 +54,12 @@ pub record IsFirstAndRest (o : Opened) (n : ℕ) (first : List Turn) (before : J
 -- A run that was frozen after n steps, and then thawed.
 abbrev pub RunsAreFirstAndRest : Type 0
 RunsAreFirstAndRest =
-    (b : Bundle) (o : Opened) (n k : ℕ) → IsFrozenAfter b o n →
+    (b : Bundle) (o : RunEdge) (n k : ℕ) → IsFrozenAfter b o n →
     let before = joint_after o.joint (first_turns b o n) in
     IsFirstAndRest o n (first_turns b o n) before (run_on b n before k) (run_of b (n + k) o)
 
 -- If one of the first n steps stopped it, there is no rest: it is the run over n steps, and is over.
 abbrev pub StoppedRunsAreWhole : Type 0
 StoppedRunsAreWhole =
-    (b : Bundle) (o : Opened) (n k : ℕ) (cause : Stop) → last_stop None (first_turns b o n) ≡ Some cause →
+    (b : Bundle) (o : RunEdge) (n k : ℕ) (cause : Stop) → last_stop None (first_turns b o n) ≡ Some cause →
     run_of b (n + k) o ≡ run_of b n o

@@ -3,7 +3,7 @@
 use Rattle.std.specs.Prelude.{ℕ, ◌≡◌, List, [], ◌∷◌, ◌++◌, map, slice_get, slice_index_or, option_map}
 use Rattle.cloak_model.specs.DomainState.{Domain}
 use Rattle.cloak_model.specs.Parts.{Joint}
-use Rattle.cloak_model.specs.Opening.{Opened}
+use Rattle.cloak_model.specs.Opening.{RunEdge}
 use Rattle.cloak_model.specs.Joint.{Moment, Turn, joint_step, stop_of}
 use Rattle.cloak_model.specs.Run.{turns_from, joint_after, closing}
 use Rattle.frozen_state.specs.Continuing.{without_past}
@@ -37,7 +37,7 @@ abbrev pub turn_with_past : List ℕ → List PastLoads → Turn → Turn
 turn_with_past console loads t = record t { joint = with_past console loads t.joint }
 
 -- The items of the closing stay.
-abbrev pub closed_with_past : List ℕ → List PastLoads → Opened → Opened
+abbrev pub closed_with_past : List ℕ → List PastLoads → RunEdge → RunEdge
 closed_with_past console loads o = record o { joint = with_past console loads o.joint }
 
 -- The law: whatever the past is, it stays before what is made, and what is made does not depend on it.

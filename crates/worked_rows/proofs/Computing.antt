@@ -55,7 +55,7 @@ unfolding
     instructions registers.zero_registers
     effect.effect csr.with_pending csr.csr_read csr.csr_write csr.trap_entry csr.trap_return csr.interrupt_due
     hart.started walk.first_leaf walk.second_leaf walk.first_word walk.second_word walk.walk walk.walk_tables
-    ask.ask_word ask.ask_walk ask.ask_inside ask.ask_translate
+    ask.ask_word ask.ask_walk ask.ask_in_ram ask.ask_translate
     ask.ask_led ask.ask_count ask.ask_value ask.ask_store ask.loaded_at ask.ask_load ask.stored_to
     ask.ask_store_at ask.ask_mark ask.ask_unmark ask.ask_marked ask.reserved_at ask.ask_reserve ask.stored_if
     ask.conditional_at ask.ask_store_conditional ask.combined_at ask.ask_combine ask.ask_frame ask.ask_fill
@@ -73,8 +73,8 @@ unfolding
     resources.started_resources resources.made_at resources.new_resource resources.mapped resources.map_region
     resources.unmap_region resources.drop_space contexts.started_contexts contexts.resume_if contexts.resume_at
     contexts.shown contexts.admit calls.begin_call calls.copy_in_step calls.copy_out_step calls.finish_call
-    files.file_found files.file_resource fork.fork_fits fork.forked_resources fork.forked fork.ask_copies
-    fork.fork fork.ask_forgets fork.end_context
+    files.file_found files.file_resource fork.fork_fits fork.forked_resources fork.forked fork.copy_each
+    fork.fork fork.forget_each fork.end_context
     ask_pages.replies ask_pages.if_drawn ask_pages.ask_inside_address ask_pages.offered_by ask_pages.ask_offer
     ask_pages.reached ask_pages.reach_by_table ask_pages.get_at ask_pages.got ask_pages.get_by_table ask_pages.put_at
     ask_pages.stored_inside ask_pages.put_by_table ask_pages.settled_if_marked ask_pages.clear_from
@@ -86,8 +86,9 @@ unfolding
     hypercalls.thread_at hypercalls.thread_call hypercalls.fork_told hypercalls.fork_call hypercalls.end_told
     hypercalls.exit_call hypercalls.call_begun hypercalls.kernel_call hypercalls.hypercall
     domain_state.started_control domain_state.started_domain domain_step.instruction_ended domain_step.copy_ended
-    domain_step.phase_step domain_step.step_if domain_step.domain_step domain_step.interrupt_if domain_step.interrupt
-    domain_step.answer_in domain_step.answer_taken domain_step.resume_told domain_step.resume_slot
+    domain_step.phase_step domain_step.step_if domain_step.domain_script domain_step.domain_step
+    domain_step.interrupt_if domain_step.interrupt domain_step.answer_in domain_step.answer_taken
+    domain_step.resume_told domain_step.resume_slot
 told_steps = tt
 
 -- the step of a cloaked program

@@ -24,7 +24,7 @@ use Rattle.cloak_model.specs.Exchange.{record_of}
 use Rattle.cloak_model.specs.Hart.{Hart}
 use Rattle.cloak_model.specs.Joint.{end_domain, Moment, Turn, joint_step, quiet, stop_of}
 use Rattle.cloak_model.specs.Memory.{with_value_in}
-use Rattle.cloak_model.specs.Opening.{Lack, Opened, opening, numbers_below, keys_for}
+use Rattle.cloak_model.specs.Opening.{Lack, RunEdge, opening, numbers_below, keys_for}
 use Rattle.cloak_model.specs.Asking.{Told}
 use Rattle.cloak_model.specs.Parts.{Joint}
 use Rattle.cloak_model.specs.Run as run
@@ -41,7 +41,7 @@ use Rattle.worked_rows.proofs.Turns.{first_turns, moment_after, goes_on, plus, t
 use Rattle.worked_rows.proofs.Whole.{FirstDraws, first_shown, page, ram_of, plain_of, bare_root, opened_memory, resumed_memory, stored_page, stored_plain, first_hart, program_hart, machine, at_step, opened_moment, left_moment, fetched_step, cloak_for, fetch_granted, joint_step-of, turns_from-boot, turns_to_call, turns_from-call}
 
 -- Runs of a program of one page, by the words of its kernel after the boot.
-abbrev pub opened : List ℕ → List ℕ → FirstDraws → Opened
+abbrev pub opened : List ℕ → List ℕ → FirstDraws → RunEdge
 opened bytes rest begun =
     record {
       joint = machine first_hart (program_with not_started []) (opened_memory bytes rest begun);
@@ -66,7 +66,7 @@ run_from_call rest begun n =
     run_of_turns (opened words_page rest begun) (turns_to_call rest begun (turns_from n (left_moment rest begun)))
 
 -- the run of a bundle that is opened so
-pub runs-opened : (b : Bundle) (stream : Random) (n : ℕ) (o : Opened) → opening b stream ≡ Ok o →
+pub runs-opened : (b : Bundle) (stream : Random) (n : ℕ) (o : RunEdge) → opening b stream ≡ Ok o →
     joint_run b stream n ≡ there_is (run_of_turns o (turns_from n (run.first_moment b o.joint)))
 unfolding run.run_of
 runs-opened b stream n o opens = rw opens refl

@@ -18,7 +18,7 @@ use Rattle.cloak_model.specs.Memory.{is_in_ram}
 use Rattle.cloak_model.specs.Walk.{has_paging}
 use Rattle.cloak_model.specs.Cloaking as cloaking
 use Rattle.cloak_model.specs.Cloaking.{CloakedMemory, AfterOffer, Ready, Mismatch, with_comparison, owed_in, owing_frame, taken, compared, offer}
-use Rattle.cloak_model.specs.World.{World, Cloak, Cloaked, is_missed, cipher_items}
+use Rattle.cloak_model.specs.World.{World, MidStep, Cloaked, is_missed, cipher_items}
 use Rattle.cloak_model.specs.Asking.{Told, Asking}
 use Rattle.cloak_model.specs.Ask as ask
 use Rattle.cloak_model.specs.AskPages as ask_pages
@@ -66,19 +66,19 @@ unfolding cloaking.offer cloaking.settle cloaking.settle_if cloaking.unless_miss
 offer-changed q g write m h = rw (h.owed, h.owing, h.shown, h.other) refl
 
 -- Questions of a hart without paging, for an address of RAM, when no draw was missing.
-pub record IsPlainAccess (va : ℕ) (c : Cloak) : Type 0 where
+pub record IsPlainAccess (va : ℕ) (c : MidStep) : Type 0 where
   pub bare : has_paging c.regime.satp ≡ false
   pub inside : is_in_ram c.memory.ram va ≡ true
   pub drawn : c.memory.ledger.missed ≡ false
 
 -- an access that was asked for
-abbrev pub looked : ℕ → Kind → Cloak → Cloak
+abbrev pub looked : ℕ → Kind → MidStep → MidStep
 looked va kind c = record c { events = c.events ++ Look c.regime.satp (inside_access (Cloaked c) va kind) ∷ [] }
 
 -- an address leads to itself
-leads-to_itself : (va : ℕ) (kind : Kind) (c : Cloak) → IsPlainAccess va c → ask_inside_address va kind (Cloaked c) ≡
+leads-to_itself : (va : ℕ) (kind : Kind) (c : MidStep) → IsPlainAccess va c → ask_inside_address va kind (Cloaked c) ≡
     record { answer = Ok va; world = Cloaked (looked va kind c) }
-unfolding ask.ask_led ask.ask_translate ask.ask_walk ask.ask_inside ask_inside_address
+unfolding ask.ask_led ask.ask_translate ask.ask_walk ask.ask_in_ram ask_inside_address
 leads-to_itself va kind c p = rw (p.bare, p.inside) refl
 
 if_drawn-drawn : (next : Asking Answer) (w : World) → is_missed w ≡ false → if_drawn next w ≡ next w
@@ -86,7 +86,7 @@ unfolding if_drawn
 if_drawn-drawn next w e = rw e refl
 
 -- what the offer of a page results in
-offer_asked : PageId → ℕ → Kind → Cloak → AfterOffer → Told Answer
+offer_asked : PageId → ℕ → Kind → MidStep → AfterOffer → Told Answer
 unfolding ask_pages.offered_by ask_pages.replies
 offer_asked q va kind c o =
     ask_pages.offered_by q va kind (frame_of va) o.answer
@@ -97,7 +97,7 @@ offer_asked q va kind c o =
       events = (looked va kind c).events ++ offer_events q (frame_of va) c.memory o.answer;
     }))
 
-reach-offer : (q : PageId) (va : ℕ) (kind : Kind) (c : Cloak) → IsPlainAccess va c
+reach-offer : (q : PageId) (va : ℕ) (kind : Kind) (c : MidStep) → IsPlainAccess va c
     → ask_reach q va kind (Cloaked c) ≡ offer_asked q va kind c (offer q (frame_of va) (is_store kind) c.memory)
 unfolding ask_pages.ask_reach ask_pages.reach_by_table ask_pages.reached ask_pages.ask_offer offer_asked
 reach-offer q va kind c p =
@@ -105,17 +105,17 @@ reach-offer q va kind c p =
     (if_drawn-drawn (ask_pages.reached q va kind (Ok va)) (Cloaked (looked va kind c)) p.drawn)
 
 -- what an offer that is granted does to translations that are known
-abbrev pub granted_events : PageId → ℕ → Kind → Cloak → List Event
+abbrev pub granted_events : PageId → ℕ → Kind → MidStep → List Event
 granted_events q va kind c = ((looked va kind c).events ++ events.Offer q (frame_of va) true ∷ [])
     ++ births (taken q (frame_of va) (is_store kind) c.memory).ram c.regime.satp (inside_access (Cloaked c) va kind)
     (Some q)
 
 -- and one that is not
-abbrev pub refused_events : PageId → ℕ → Kind → Cloak → List Event
+abbrev pub refused_events : PageId → ℕ → Kind → MidStep → List Event
 refused_events q va kind c = (looked va kind c).events ++ events.Offer q (frame_of va) false ∷ []
 
 -- a page is reached in a frame that has the bytes that were last shown of it
-pub reach-shown : (q : PageId) (va : ℕ) (kind : Kind) (c : Cloak) → IsPlainAccess va c →
+pub reach-shown : (q : PageId) (va : ℕ) (kind : Kind) (c : MidStep) → IsPlainAccess va c →
     HasShown q (frame_of va) c.memory
     → ask_reach q va kind (Cloaked c) ≡ record {
       answer = told.Ok;
@@ -133,7 +133,7 @@ reach-shown q va kind c p h = reach-offer q va kind c p
     ∙ rw (append-nil c.items) refl
 
 -- a page is not reached in a frame that has other bytes: the step meets the violation
-pub reach-changed : (q : PageId) (va : ℕ) (kind : Kind) (c : Cloak) → IsPlainAccess va c →
+pub reach-changed : (q : PageId) (va : ℕ) (kind : Kind) (c : MidStep) → IsPlainAccess va c →
     (h : HasChanged q (frame_of va) c.memory)
     → ask_reach q va kind (Cloaked c) ≡ record {
       answer = told.Stopped;

@@ -11,14 +11,13 @@ use Rattle.cloak_model.specs.Bundle.{IsInGrammar, bundle_bytes}
 use Rattle.cloak_model.specs.Cloaking.{CloakedMemory}
 use Rattle.cloak_model.specs.Contexts.{Context}
 use Rattle.cloak_model.specs.DomainState.{Domain}
-use Rattle.cloak_model.specs.DomainStep.{after_write, instruction_ended}
 use Rattle.cloak_model.proofs.InsideParts.{store_reached}
-use Rattle.cloak_model.specs.Joint.{answers_violation, Turn, joint_step, quiet, after_domain_step}
+use Rattle.cloak_model.specs.Joint.{Turn, joint_step, quiet}
 use Rattle.cloak_model.specs.Memory.{with_value_in}
 use Rattle.cloak_model.specs.Opening.{opening, numbers_below}
 use Rattle.cloak_model.specs.Run.{Run, run_from, run_of_turns, turns_from}
-use Rattle.cloak_model.specs.World.{Cloak, Cloaked}
-use Rattle.cloak_model.specs.Asking.{Told, answered, then_ask}
+use Rattle.cloak_model.specs.World.{MidStep, Cloaked}
+use Rattle.cloak_model.specs.Asking.{Told}
 use Rattle.cloak_model.specs.AskPages.{ask_reach}
 use Rattle.kernel_isolation.specs.Isolation.{joint_until}
 use Rattle.worked_rows.specs.Images.{boot, halt, page_with}
@@ -31,7 +30,7 @@ use Rattle.worked_rows.proofs.JointRows.{behind_boot, behind_draw, opened, runs-
 use Rattle.worked_rows.proofs.Meeting.{kernel_in, image_in, are_bytes, image_bytes}
 use Rattle.worked_rows.proofs.Offers.{granted_events, reach-shown}
 use Rattle.worked_rows.proofs.Turns.{first_turns, turns_from-step}
-use Rattle.worked_rows.proofs.Whole.{FirstDraws, page, memory_of, plain_of, bare_root, owed_page, resumed_memory, program_hart, machine, at_step, opened_moment, resumed_moment, fetched_step, cloak_for, fetch_granted, joint_step-of, turns_from-boot}
+use Rattle.worked_rows.proofs.Whole.{FirstDraws, page, memory_of, plain_of, bare_root, owed_page, resumed_memory, program_hart, machine, at_step, opened_moment, resumed_moment, rest_of_step, fetched_step, cloak_for, fetch_granted, joint_step-of, turns_from-boot}
 
 abbrev bytes : List ℕ
 bytes = page_with reserving_words
@@ -65,13 +64,11 @@ store_turn =
 store_step : Told Answer → Turn
 unfolding told_steps
 store_step told =
-    let t = after_domain_step (machine program_hart first_domain before_store) 0 program_hart 0
-    (then_ask (store_reached started_context page 0x80008100 4 0 told.answer)
-    (λ made. then_ask (instruction_ended 0 first_domain made.context made.ending) (λ s. answered (after_write made.wrote s))) told.world) in
-    answers_violation program_hart.inside t.violation t
+    rest_of_step program_hart first_domain before_store
+    (store_reached started_context page 0x80008100 4 0 told.answer) told.world
 
 -- the memory as it asks for that, and as it was granted
-storing : Cloak
+storing : MidStep
 unfolding cloak_for
 storing =
     let before = cloak_for program_hart first_domain started_context before_store in

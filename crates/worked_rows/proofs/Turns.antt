@@ -38,12 +38,6 @@ pub turns_from-step : (n : ℕ) (m : Moment) (t : Turn) → joint_step m ≡ t �
 unfolding turns_from
 turns_from-step n m t e s = rw (e, s) refl
 
--- a step that stops the run
-pub turns_from-last : (n : ℕ) (m : Moment) (t : Turn) (cause : Stop) → joint_step m ≡ t → stop_of t ≡ Some cause →
-    turns_from (suc n) m ≡ t ∷ []
-unfolding turns_from
-turns_from-last n m t cause e s = rw (e, s) refl
-
 -- k steps that stop nothing
 pub turns_from-plus : (k n : ℕ) (m : Moment) → goes_on k m ≡ true → turns_from (plus k n) m ≡ first_turns k m
     ++ turns_from n (moment_after k m)

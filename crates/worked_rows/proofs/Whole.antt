@@ -22,12 +22,14 @@ use Rattle.cloak_model.specs.Contexts.{Context, with_space}
 use Rattle.cloak_model.specs.DomainState.{Domain}
 use Rattle.cloak_model.specs.DomainStep.{after_write, instruction_ended}
 use Rattle.cloak_model.proofs.InsideParts.{fetched_inside, store_reached}
-use Rattle.cloak_model.specs.World.{Cloak, Cloaked}
-use Rattle.cloak_model.specs.Asking.{Told, answered, then_ask}
+use Rattle.cloak_model.specs.World.{World, MidStep, Cloaked}
+use Rattle.cloak_model.specs.Asking.{Told}
 use Rattle.cloak_model.specs.AskPages.{ask_reach}
 use Rattle.cloak_model.specs.Parts.{Joint}
 use Rattle.cloak_model.specs.Joint.{answers_violation, Moment, Turn, joint_step, quiet, after_domain_step, cloak_of, pages_for}
 use Rattle.cloak_model.specs.Run.{turns_from}
+use Rattle.cloak_model.specs.InsideStep.{AfterInstruction}
+use Rattle.cloak_model.specs.Script.{Script, Gives, played, ◌>>=◌}
 use Rattle.worked_rows.specs.Images.{boot, words_page}
 use Rattle.worked_rows.specs.Runs.{running, registers_from}
 use Rattle.worked_rows.specs.JointRuns.{csrs_of, outside_hart, inside_hart}
@@ -155,18 +157,22 @@ turns_from-boot bytes rest begun n =
     turns_from-plus 5 n (opened_moment bytes rest begun) (boot_goes_on bytes rest begun)
     ∙ ap (λ (m : Moment). first_turns 5 (opened_moment bytes rest begun) ++ turns_from n m) (boots bytes rest begun)
 
--- A step of the one context, by what its fetch is told.
+-- A step of the one context, from here on in its instruction.
+abbrev pub rest_of_step : Hart → Domain → CloakedMemory → Script AfterInstruction → World → Turn
+rest_of_step h d m script w =
+    let step = script >>= (λ made. instruction_ended 0 d made.context made.ending
+    >>= (λ s. Gives (after_write made.wrote s))) in
+    let t = after_domain_step (machine h d m) 0 h 0 (played step w) in
+    answers_violation h.inside t.violation t
 
+-- by what its fetch is told
 unfoldable pub fetched_step : Hart → Domain → Context → CloakedMemory → Told Answer → Turn
 unfolding told_steps
 fetched_step h d c m told =
-    let t = after_domain_step (machine h d m) 0 h 0
-    (then_ask (fetched_inside 0 program_resources c page told.answer)
-    (λ made. then_ask (instruction_ended 0 d made.context made.ending) (λ s. answered (after_write made.wrote s))) told.world) in
-    answers_violation h.inside t.violation t
+    rest_of_step h d m (fetched_inside 0 program_resources c page told.answer) told.world
 
 -- the memory as the context asks
-unfoldable pub cloak_for : Hart → Domain → Context → CloakedMemory → Cloak
+unfoldable pub cloak_for : Hart → Domain → Context → CloakedMemory → MidStep
 cloak_for h d c m = cloak_of m h 0 (pages_for d (Some c))
 
 -- its fetch was granted, and changed nothing
@@ -232,14 +238,11 @@ first rest begun =
 store_step : List ℕ → FirstDraws → Told Answer → Turn
 unfolding told_steps
 store_step rest begun told =
-    let d = program_with (with_seven 0x80008004) [] in
-    let t = after_domain_step (machine program_hart d (resumed_memory words_page rest begun)) 0 program_hart 0
-    (then_ask (store_reached (with_seven 0x80008004) page 0x80008100 4 7 told.answer)
-    (λ made. then_ask (instruction_ended 0 d made.context made.ending) (λ s. answered (after_write made.wrote s))) told.world) in
-    answers_violation program_hart.inside t.violation t
+    rest_of_step program_hart (program_with (with_seven 0x80008004) []) (resumed_memory words_page rest begun)
+    (store_reached (with_seven 0x80008004) page 0x80008100 4 7 told.answer) told.world
 
 -- the memory as it asks for that, and as it was granted
-storing : List ℕ → FirstDraws → Cloak
+storing : List ℕ → FirstDraws → MidStep
 unfolding cloak_for
 storing rest begun =
     let before = cloak_for program_hart (program_with (with_seven 0x80008004) []) (with_seven 0x80008004)

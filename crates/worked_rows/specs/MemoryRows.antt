@@ -24,6 +24,7 @@ use Rattle.cloak_model.specs.DomainState.{started_domain}
 use Rattle.cloak_model.specs.Hypercalls.{Stepped, fork_call}
 use Rattle.cloak_model.specs.Joint.{memory_of}
 use Rattle.cloak_model.specs.Opening.{numbers_below}
+use Rattle.cloak_model.specs.Script.{played}
 use Rattle.worked_rows.specs.Images.{page_with, program_start}
 use Rattle.worked_rows.specs.Runs.{ProgramRun, run, running, registers, call_registers, with_first}
 use Rattle.worked_rows.specs.DomainRows.{page, parent, shown_call, stays_then}
@@ -138,7 +139,7 @@ before_fork = world_of 0 (memory
     (replicate 5 None ++ (Some (page 0 0) ∷ None ∷ Some (page 1 0) ∷ replicate 56 None)))
 
 abbrev pub fork_settled : Told Stepped
-fork_settled = fork_call 0 (running 0x00400000 (registers 0x4F560006 [])) parent.control before_fork
+fork_settled = played (fork_call 0 (running 0x00400000 (registers 0x4F560006 [])) parent.control) before_fork
 
 abbrev pub after_fork : CloakedMemory
 after_fork = memory_in fork_settled.world

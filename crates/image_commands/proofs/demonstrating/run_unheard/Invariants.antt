@@ -2,7 +2,7 @@ use Rattle.std.proofs.Common.{◌≡◌}
 use Rattle.cloak_model.specs.Joint.{Moment}
 use Rattle.cloak_model.specs.Run.{joint_after, turns_from}
 use Rattle.cloak_machine.specs.Standing.{StandsForMoment, steps_made}
-use Rattle.run_command.specs.Running.{NoClashYet}
+use Rattle.cloak_model.specs.Run.{NoClashYet}
 use Rattle.run_command.proofs.StepFacts.{GoesOn}
 use Rattle.image_commands.proofs.demonstrating.run_unheard.Given as goal
 

@@ -4,7 +4,7 @@ use Rattle.cloak_model.specs.Joint.{Moment}
 use Rattle.cloak_model.specs.Run.{joint_after, turns_from}
 use Rattle.cloak_machine.specs.Standing.{StandsForMoment, steps_made}
 use Rattle.run_command.specs.Outlet.{Gave}
-use Rattle.run_command.specs.Running.{NoClashYet}
+use Rattle.cloak_model.specs.Run.{NoClashYet}
 use Rattle.run_command.proofs.RunFacts.{GoesOn}
 use Rattle.run_command.proofs.run.run_steps.Given as goal
 

@@ -4,7 +4,7 @@ use Rattle.cloak_model.specs.Run.{joint_after, turns_from}
 use Rattle.cloak_machine.specs.Counting.{CountsAccesses}
 use Rattle.cloak_machine.specs.Standing.{StandsForMoment, steps_made}
 use Rattle.run_command.proofs.StepFacts.{GoesOn}
-use Rattle.run_command.specs.Running.{NoClashYet}
+use Rattle.cloak_model.specs.Run.{NoClashYet}
 use Rattle.shadow_fold.specs.Events.{after_turns}
 use Rattle.shadow_fold.specs.Fold.{Fold}
 use Rattle.stats_command.proofs.counting.run_counted.Given as goal

@@ -1,7 +1,6 @@
-use Rattle.std.proofs.Common.{◌∙◌, ap, sym, refl}
+use Rattle.std.proofs.Common.{◌∙◌, ap, sym}
 use Rattle.alone_views.specs.DomainMoments.{running_in}
 use Rattle.alone_views.specs.DomainStanding.{hart_at, place_told, schedule_in}
-use Rattle.alone_views.specs.declared.domain.DomainPlace.{DomainPlace}
 use Rattle.alone_views.proofs.domain.DomainAlone.running.Goals as goal
 
 pub returns-in-Running : goal.returns-in-Running

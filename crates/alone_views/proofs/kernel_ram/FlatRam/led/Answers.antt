@@ -1,6 +1,6 @@
 -- A walk leaves the frames as they are.
 use Rattle.std.proofs.Common.{◌≡◌, ◌∙◌, ℕ, Bool, true, refl, ap, subst, IsTrue, Result, Err, rules}
-use Rattle.cloak_model.specs.Ask.{ask_inside}
+use Rattle.cloak_model.specs.Ask.{ask_in_ram}
 use Rattle.cloak_base.specs.Constants.{is_in_frames}
 use Rattle.alone_views.proofs.KernelRam.{same_length, follows_translate, tested_inside, tested_outside}
 use Rattle.alone_views.proofs.kernel_ram.FlatRam.led.Goals as goal
@@ -10,14 +10,14 @@ inside_same n m pa same inside =
     subst (λ (b : Bool). IsTrue b) (inside ∙ ap (λ (k : ℕ). is_in_frames k pa) same) (search rules)
 
 pub returns-in-Err-clause-follows : goal.returns-in-Err-clause-follows
-unfolding ask_inside
+unfolding ask_in_ram
 returns-in-Err-clause-follows c = follows_translate c.args.self.now c.walk.new.w _ _ _ _ c.in-Err.ensures.follows refl
 
 pub returns-in-Err-clause-same_count : goal.returns-in-Err-clause-same_count
 returns-in-Err-clause-same_count c = same_length _ _ (c.in-Err.ensures.unchanging c.args.self.now _ refl).1
 
 pub returns-then-is_inside-clause-follows : goal.returns-then-is_inside-clause-follows
-unfolding ask_inside
+unfolding ask_in_ram
 returns-then-is_inside-clause-follows c =
     follows_translate c.args.self.now c.walk.new.w _ _ _ _ c.in-Ok.ensures.follows
     (tested_inside _ _ _ c.if-is_inside.ensures)
@@ -30,7 +30,7 @@ pub returns-then-is_inside-clause-same_count : goal.returns-then-is_inside-claus
 returns-then-is_inside-clause-same_count c = same_length _ _ (c.in-Ok.ensures.unchanging c.args.self.now _ refl).1
 
 pub returns-else-is_inside-clause-follows : goal.returns-else-is_inside-clause-follows
-unfolding ask_inside
+unfolding ask_in_ram
 returns-else-is_inside-clause-follows c =
     follows_translate c.args.self.now c.walk.new.w _ _ _ _ c.in-Ok.ensures.follows
     (ap (λ (cause : ℕ). let r : Result ℕ ℕ = Err cause in r) c.access_fault.ensures

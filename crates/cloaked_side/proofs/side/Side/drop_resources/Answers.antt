@@ -1,7 +1,8 @@
 use Rattle.std.proofs.Common.{◌≡◌, ◌<◌, ◌≤◌, ℕ, sym, subst, arith}
 use Rattle.cloak_model.specs.Asking.{FollowsFrom}
-use Rattle.cloak_model.specs.Fork.{ask_forgets}
+use Rattle.cloak_model.specs.Fork.{forget_each}
 use Rattle.cloak_model.specs.Opening.{numbers_below}
+use Rattle.cloak_model.specs.Script.{played}
 use Rattle.cloaked_side.specs.Seeing.{Sees}
 use Rattle.cloaked_side.proofs.Cleared.{none_owed_still}
 use Rattle.cloaked_side.proofs.Ended.{forgets_next, forgets_none, held_next, none_of_all}
@@ -32,7 +33,7 @@ loop-n-preserved g c =
     let new = c.drop_resource.new.self in
     record {
       told = λ first w seen. forgets_next gave first new c.args.domain c.loop-n.n w
-          (c.drop_resource.ensures.told first (ask_forgets c.args.domain (numbers_below c.loop-n.n) w).world
+          (c.drop_resource.ensures.told first (played (forget_each c.args.domain (numbers_below c.loop-n.n)) w).world
           (c.loop-n.invariant.told first w seen).stands);
       keeps = λ first stays. c.drop_resource.ensures.keeps first (c.loop-n.invariant.keeps first stays);
       none = held_next c.args.domain c.loop-n.n c.loop-n.self.memory.now.pager new.memory.now.pager
@@ -44,7 +45,7 @@ pub returns-clause-told : goal.returns-clause-told
 returns-clause-told g c first w seen =
     let all : c.loop-n.n ≡ 16 = omega arith in
     subst (λ (k : ℕ). FollowsFrom (Sees g.E.Emit.gave first) c.loop-n.self (tt {0})
-    (ask_forgets c.args.domain (numbers_below k) w)) all (c.loop-n.invariant.told first w seen)
+    (played (forget_each c.args.domain (numbers_below k)) w)) all (c.loop-n.invariant.told first w seen)
 
 pub returns-clause-none : goal.returns-clause-none
 returns-clause-none g c =
