@@ -18,20 +18,19 @@ use Rattle.cloak_model.specs.AskPages.{offer_events, offered_by, ask_offer, reac
 use Rattle.cloak_base.specs.declared.names.PageId.{PageId}
 use Rattle.cloak_base.specs.declared.causes.Violation.{Violation}
 use Rattle.cloak_base.specs.declared.causes.Violation.TheVariants as violation
-use Rattle.cloak_model.specs.Cloaking.{CloakedMemory, OfferEnd, offer}
+use Rattle.cloak_model.specs.Cloaking.{OfferEnd, offer}
 use Rattle.cloak_model.specs.Exchange.{Piece, Emits, item_pieces}
 use Rattle.cloaked_side.specs.Holding.{Holds}
-use Rattle.cloaked_side.specs.Offering.{Offers, offer_of}
+use Rattle.cloaked_side.specs.Offering.{Offers, OffersPage, offer_of}
 use Rattle.cloaked_side.specs.declared.memory.EndedOffer.{EndedOffer as Ended}
 use Rattle.cloaked_side.specs.declared.memory.EndedOffer.TheVariants as ended
 use Rattle.cloaked_side.proofs.Emitting.{emits_items}
 use Rattle.cloaked_side.proofs.Sided.{Repaged, still_turned, sees_still}
 use Rattle.cloaked_side.proofs.Tracking.{respaced, tracks_on}
-use Rattle.cloaked_side.specs.Tracking.{Tracks, TracksBy, MapsBy, MapsStill, spent_in}
-use Rattle.shadow_fold.specs.Reads.{Spends, SpendsFor, looks_in, reads_due}
+use Rattle.cloaked_side.specs.Tracking.{Tracks, TracksBy, MapsBy, spent_in}
+use Rattle.shadow_fold.specs.Reads.{SpendsFor, looks_in, reads_due}
 use Rattle.cloaked_side.proofs.Spending.{ciphers_due, due_then, looks_then, maps_of, maps_on, maps_still, spends_looks, spends_more, spends_then}
 use Rattle.shadow_fold.specs.Fold.{Fold, after_events}
-use Rattle.cloak_base.specs.declared.names.SpaceId.{SpaceId}
 use Rattle.cloak_model.specs.Ask.{known}
 use Rattle.cloak_model.specs.Asking.{Told}
 use Rattle.cloak_base.specs.Constants.{frame_of}
@@ -221,19 +220,19 @@ offered_cloak q g write c =
 sees_offered : {E : Type 0} (gave : E → E → List Piece → Type 0) (first old mid : Side E) (given : Ended)
     (q : PageId) (g : ℕ) (write : Bool) (c : MidStep) → SeesCloak gave first old c →
     Offers gave old.emitter.now mid.emitter.now mid.memory.now given (offer q g write c.memory) →
-    TracksBy old.memory.now mid.memory.now (after_events (space_in mid.regime) (offer_events q g c.memory (offer q g write c.memory).answer)) →
-    Spends 0 (length (offer q g write c.memory).ciphers) (spent_in old.memory.now) (spent_in mid.memory.now) →
-    MapsStill old.memory.now mid.memory.now →
+    OffersPage gave old.emitter.now mid.emitter.now old.memory.now mid.memory.now q g write given →
     mid.violation ≡ old.violation → mid.domain ≡ old.domain → mid.regime ≡ old.regime →
     SeesCloak gave first mid (offered_cloak q g write c)
-sees_offered gave first old mid given q g write c sees o tracks spends maps violation domain regime = record {
+sees_offered gave first old mid given q g write c sees o page violation domain regime = record {
   holds = o.holds;
   emits = emits_items c.items (cipher_items (offer q g write c.memory).ciphers) sees.emits o.emits;
   violation = violation ∙ sees.violation;
   domain = domain ∙ sees.domain;
   regime = subst (λ (r : Regime). IsRegimeFor c.regime r) (sym regime) sees.regime;
   tracks = tracks_on first.memory.now old.memory.now mid.memory.now (space_in mid.regime) c.events (offer_events q g c.memory (offer q g write c.memory).answer)
-      (respaced first.memory.now old.memory.now (space_in old.regime) (space_in mid.regime) c.events (ap space_in regime) sees.tracks) tracks;
+      (respaced first.memory.now old.memory.now (space_in old.regime) (space_in mid.regime) c.events (ap space_in regime) sees.tracks)
+      (subst (λ x. TracksBy old.memory.now mid.memory.now (after_events (space_in mid.regime) (offer_events q g c.memory x))) o.answer
+      (page.tracks c.memory sees.holds (space_in mid.regime)));
   spends = spends_looks
       (let looks = looks_then c.events (offer_events q g c.memory (offer q g write c.memory).answer) in omega (arith, looks))
       (spends_more (0 + 0) 0 (reads_due (asked_by (space_in old.regime) c) + length (offer q g write c.memory).ciphers)
@@ -242,10 +241,10 @@ sees_offered gave first old mid given q g write c sees o tracks spends maps viol
       (cipher_items (offer q g write c.memory).ciphers) in
       let shown = ciphers_due (offer q g write c.memory).ciphers in omega (arith, both, shown))
       (spends_then 0 0 (reads_due (asked_by (space_in old.regime) c)) (length (offer q g write c.memory).ciphers) (spent_in first.memory.now)
-      (spent_in old.memory.now) (spent_in mid.memory.now) sees.spends spends));
+      (spent_in old.memory.now) (spent_in mid.memory.now) sees.spends (page.spends c.memory sees.holds)));
   maps = maps_on first.memory.now old.memory.now mid.memory.now (space_in mid.regime) c.events (offer_events q g c.memory (offer q g write c.memory).answer)
       (maps_of first.memory.now old.memory.now (space_in old.regime) (space_in mid.regime) c.events (ap space_in regime) sees.maps)
-      (maps_still old.memory.now mid.memory.now (space_in mid.regime) _ maps);
+      (maps_still old.memory.now mid.memory.now (space_in mid.regime) _ page.maps);
 }
 
 -- the same side, except for a violation
@@ -270,36 +269,24 @@ with_violation gave first mid after v c sees memory emitter domain regime violat
 pub asked_offer : {E : Type 0} (gave : E → E → List Piece → Type 0) (first old mid new : Side E) (given : Ended)
     (q : PageId) (va : ℕ) (kind : Kind) (g : ℕ) (write : Bool) (a : Answer) (w : World) → write ≡ is_store kind →
     Sees gave first old w → is_clashed (ask_offer q va kind g w).world ≡ false →
-    ((m : CloakedMemory) → Holds old.memory.now m → (offer q g write m).memory.ledger.clashed ≡ false →
-    Offers gave old.emitter.now mid.emitter.now mid.memory.now given (offer q g write m)) →
-    ((m : CloakedMemory) → Holds old.memory.now m → (offer q g write m).memory.ledger.clashed ≡ false → (space : Option SpaceId) →
-    TracksBy old.memory.now mid.memory.now (after_events space (offer_events q g m (offer q g write m).answer))) →
-    ((m : CloakedMemory) → Holds old.memory.now m →
-    Spends 0 (length (offer q g write m).ciphers) (spent_in old.memory.now) (spent_in mid.memory.now)) →
-    MapsStill old.memory.now mid.memory.now →
+    OffersPage gave old.emitter.now mid.emitter.now old.memory.now mid.memory.now q g write given →
     mid.violation ≡ old.violation → mid.domain ≡ old.domain → mid.regime ≡ old.regime →
     ((c c' : MidStep) → w ≡ Cloaked c → SeesCloak gave first old c → SeesCloak gave first mid c' →
     c'.memory ≡ (offer q g (is_store kind) c.memory).memory → c'.regime ≡ c.regime →
     FollowsFrom (Sees gave first) new a (offered_by q va kind g (offer_of given) (Cloaked c'))) →
     FollowsFrom (Sees gave first) new a (ask_offer q va kind g w)
 unfolding ask_offer
-asked_offer gave first old mid new given q va kind g write a (Flat ram) kind_is sees clash offered tracks spends maps violation domain regime told = absurd sees
-asked_offer gave first old mid new given q va kind g write a (Alone handed) kind_is sees clash offered tracks spends maps violation domain regime told = absurd sees
-asked_offer {E} gave first old mid new given q va kind g write a (Cloaked c) kind_is sees clash offered tracks spends maps violation domain regime told =
+asked_offer gave first old mid new given q va kind g write a (Flat ram) kind_is sees clash offers violation domain regime told = absurd sees
+asked_offer gave first old mid new given q va kind g write a (Alone handed) kind_is sees clash offers violation domain regime told = absurd sees
+asked_offer {E} gave first old mid new given q va kind g write a (Cloaked c) kind_is sees clash offers violation domain regime told =
     let store = is_store kind in
     let o = offer q g store c.memory in
     let c' = offered_cloak q g store c in
     let unclashed = (later_offered q va kind g o.answer (Cloaked c')).mark clash in
-    let done = subst (λ (b : Bool). (offer q g b c.memory).memory.ledger.clashed ≡ false →
-    Offers gave old.emitter.now mid.emitter.now mid.memory.now given (offer q g b c.memory)) kind_is
-    (offered c.memory sees.holds) unclashed in
-    let least = subst (λ (b : Bool). Spends 0 (length (offer q g b c.memory).ciphers) (spent_in old.memory.now) (spent_in mid.memory.now)) kind_is
-    (spends c.memory sees.holds) in
-    let goes = subst (λ (b : Bool). (offer q g b c.memory).memory.ledger.clashed ≡ false → (sp : Option SpaceId) →
-    TracksBy old.memory.now mid.memory.now (after_events sp (offer_events q g c.memory (offer q g b c.memory).answer))) kind_is
-    (tracks c.memory sees.holds) unclashed (space_in mid.regime) in
+    let page = subst (λ (b : Bool). OffersPage gave old.emitter.now mid.emitter.now old.memory.now mid.memory.now q g b given) kind_is offers in
+    let done = page.offers c.memory sees.holds unclashed in
     subst (λ (x : OfferEnd). FollowsFrom (Sees gave first) new a (offered_by q va kind g x (Cloaked c'))) done.answer
-    (told c c' refl sees (sees_offered gave first old mid given q g store c sees done goes least maps violation domain regime) refl refl)
+    (told c c' refl sees (sees_offered gave first old mid given q g store c sees done page violation domain regime) refl refl)
 
 -- It is granted, once its translation is known.
 pub granted_told : {E : Type 0} (gave : E → E → List Piece → Type 0) (first after new : Side E) (q : PageId) (va : ℕ) (kind : Kind)

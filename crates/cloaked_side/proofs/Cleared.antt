@@ -159,12 +159,6 @@ none_owed p domain marked whole cleared r mark k q e = elim (is_of_tells domain 
   | inr other ↦ other.0
 ]
 
--- all frames are emptied
-pub none_held : (p : PagerState) (domain r : ℕ) → IsWholePager p →
-    ((k : ℕ) → k < length p.frames → (q : PageId) → held_in p k ≡ Some q → is_of domain r q ≡ false) →
-    IsNoneHeld p domain r
-none_held p domain r whole away k q e = away k (subst (λ (n : ℕ). k < n) whole.count (held_within p.rights k q e)) q e
-
 -- a frame that holds a page of a resource of which none is owed is owed nothing
 pub unowed_of : (p : PagerState) (domain r f : ℕ) → IsNoneOwed p domain r → holds (is_of domain r) (held_in p f) ≡ true →
     owed_at p f ≡ None

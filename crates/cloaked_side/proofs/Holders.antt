@@ -1,14 +1,14 @@
 -- What frames hold after calls on their pager.
-use Rattle.std.proofs.Common.{◌≡◌, ◌≢◌, ℕ, Option, None, Some, List, slice_index_or, inl, inr, refl, ap, sym, ◌∙◌}
+use Rattle.std.proofs.Common.{◌≡◌, ℕ, Option, None, Some, List, slice_index_or, inl, inr, refl, ap, sym, ◌∙◌}
 use Rattle.std.proofs.Common.{subst}
 use Rattle.cloak_base.specs.declared.names.PageId.{PageId}
 use Rattle.cloak_pager.specs.State.{PagerState, page_of, owed_under, right_at, held_in, owed_at}
 use Rattle.cloak_pager.specs.Turns.{StaysBut}
 use Rattle.cloak_pager.specs.declared.frame_right.FrameRight.{FrameRight}
-use Rattle.cloak_pager.specs.declared.frame_right.FrameRight.TheVariants.{Outside, Clean, Changed, Spent}
+use Rattle.cloak_pager.specs.declared.frame_right.FrameRight.TheVariants.{Spent}
 use Rattle.cloak_pager.proofs.Pages.{same_or_not}
 use Rattle.cloak_pager.proofs.Stands.{owed_held}
-use Rattle.cloaked_side.specs.Holding.{HoldsNoMore, HoldsNoOther}
+use Rattle.cloaked_side.specs.Holding.{HoldsNoMore}
 
 pub no_more_self : (p : PagerState) → HoldsNoMore p p
 no_more_self p = record { held = λ k q e. e; owed = λ k q e. e }
@@ -53,39 +53,3 @@ none_still old new f less none = by_held (held_in new f) refl
     by_held : (o : Option PageId) → held_in new f ≡ o → o ≡ None
     by_held None is = refl
     by_held (Some q) is = absurd (never (held_in old f) q none (less.held f q is))
-
--- a frame came to hold page q
-pub no_other_taken : (g : ℕ) (q : PageId) (old new : PagerState) → StaysBut g old new → held_in new g ≡ Some q →
-    HoldsNoOther q old new
-no_other_taken g q old new stays taken k p not_q e = elim (same_or_not k g) [
-  | inl same ↦ absurd (not_q (one p q (sym (subst (λ (n : ℕ). held_in new n ≡ Some p) same e) ∙ taken)))
-  | inr other ↦ sym (ap page_of (stays.rights k other)) ∙ e
-]
-  where
-    one : (p q : PageId) → Some p ≡ Some q → p ≡ q
-    one p q e = cc
-
--- before that frames came to hold less
-pub no_other_later : (q : PageId) (a b c : PagerState) → HoldsNoMore a b → HoldsNoOther q b c → HoldsNoOther q a c
-no_other_later q a b c less other k p not_q e = less.held k p (other k p not_q e)
-
--- a pager that is the same
-pub no_other_same : (q : PageId) (old new : PagerState) → new ≡ old → HoldsNoOther q old new
-no_other_same q old new same k p not_q e = sym (ap (λ (s : PagerState). held_in s k) same) ∙ e
-
--- a frame that is owed a page is owed the one that it holds
-owed_is_held : (h : FrameRight) → owed_under h ≢ None → owed_under h ≡ page_of h
-owed_is_held (Outside r) owed = absurd (owed refl)
-owed_is_held (Clean r) owed = absurd (owed refl)
-owed_is_held (Changed r) owed = refl
-owed_is_held Spent owed = absurd (owed refl)
-
-pub owed_at_is : (p : PagerState) (f : ℕ) → owed_at p f ≢ None → held_in p f ≡ owed_at p f
-owed_at_is p f owed = sym (owed_is_held (right_at p f) owed)
-
-not_not : (o : Option PageId) → ¬ (o ≢ None) → None ≡ o
-not_not None denied = refl
-not_not (Some q) denied = absurd (denied (λ (e : Some q ≡ None). cc))
-
-pub owed_none : (p : PagerState) (f : ℕ) → ¬ (owed_at p f ≢ None) → None ≡ owed_at p f
-owed_none p f denied = not_not (owed_at p f) denied

@@ -40,6 +40,8 @@ use Rattle.shadow_fold.specs.Agreement.{TargetAgrees}
 use Rattle.shadow_fold.specs.Fold.{Fold, after_events, entry_in, frame, is_own_table}
 use Rattle.shadow_fold.specs.Following.{AreBirthCallsUnless, killed_if}
 use Rattle.shadow_law.proofs.Misses.{settled_walk}
+use Rattle.cloaked_side.specs.Offering.{OfferLeaves}
+use Rattle.cloaked_side.specs.declared.memory.EndedOffer.TheVariants as ended
 use Rattle.cloaked_side.specs.Seeing.{FollowsAlways, IsRegimeFor, SeesCloak, SeesCounted, SeesWalking, asked_by, paid, space_in, touched_since}
 use Rattle.cloak_base.specs.declared.names.Kind.{Kind}
 use Rattle.cloak_base.specs.declared.names.PageId.{PageId}
@@ -780,17 +782,15 @@ offered_is gave first old regime va kind q g write walked c c' sees is out by =
 
 pub reached_so : {E : Type 0} (gave : E → E → List Piece → Type 0) (first old new : Side E) (regime : Regime) (va : ℕ) (kind : Kind) (q : PageId) (led : Led) (c c' : MidStep)
     → SeesCloak gave first old c → SeesCloak gave first new c' → c'.memory ≡ (offer q (frame_of led.pa) (is_store kind) c.memory).memory
-    → IsLedSo old.memory.now (Cloaked c) regime va kind (Some q) led → HoldsNoOther q old.memory.now.pager new.memory.now.pager
-    → held_in new.memory.now.pager (frame_of led.pa) ≡ Some q → (kind ≡ Store → owed_at new.memory.now.pager (frame_of led.pa) ≡ Some q)
-    → frames_of new.memory.now ≡ frames_of old.memory.now → new.memory.now.counting ≡ old.memory.now.counting
-    → (held_in old.memory.now.pager (frame_of led.pa) ≡ Some q → new.memory.now.shadows ≡ old.memory.now.shadows)
+    → IsLedSo old.memory.now (Cloaked c) regime va kind (Some q) led
+    → OfferLeaves gave old.emitter.now new.emitter.now old.memory.now new.memory.now q (frame_of led.pa) (is_store kind) ended.Ready
     → IsReachedSo new.memory.now (Cloaked c') regime va kind q led
-reached_so gave first old new regime va kind q led c c' sees sees' is so others here owed count counting again = record {
+reached_so gave first old new regime va kind q led c c' sees sees' is so leaves = record {
   by = by_walk led.walked so.by so.outside;
   reached = entry led.walked so.by so.outside;
-  live = λ none counts. let live = so.live none (sym counting ∙ counts) in (
-    ap (λ (t : Table). is_known regime (va / 4096) kind t) (again live.1) ∙ live.0,
-    here,
+  live = λ none counts. let live = so.live none (sym leaves.counting ∙ counts) in (
+    ap (λ (t : Table). is_known regime (va / 4096) kind t) (leaves.again live.1) ∙ live.0,
+    leaves.held refl,
   );
 }
   where
@@ -803,7 +803,8 @@ reached_so gave first old new regime va kind q led c c' sees sees' is so others 
         → IfSome o (λ walked. let e = entry_at regime va kind led.pa walked (Some q) in is_table e.frame e ≡ false → IsEntryOf (Cloaked c') (held_in new.memory.now.pager) e)
     entry None by out = tt
     entry (Some walked) by out =
-        λ apart. page_entry_in gave first old new regime va kind q led.pa walked c c' sees sees' is by.0 by.1 out others here owed count apart
+        λ apart. page_entry_in gave first old new regime va kind q led.pa walked c c' sees sees' is by.0 by.1 out leaves.others (leaves.held refl)
+        (λ store. leaves.owed refl (ap is_store store)) leaves.same.frames apart
 
 -- An entry through its page's own frame never becomes live.
 

@@ -1,5 +1,5 @@
 -- A table whose entries end: what was not known is not known.
-use Rattle.std.proofs.Common.{◌≡◌, ℕ, Bool, true, false, ◌||◌, not, cond, List, [], ◌∷◌, filter, refl, sym, ◌∙◌}
+use Rattle.std.proofs.Common.{◌≡◌, ◌/◌, ℕ, Bool, true, false, ◌||◌, not, cond, List, [], ◌∷◌, filter, refl, sym, ◌∙◌}
 use Rattle.std.specs.List.{list_any}
 use Rattle.std.proofs.lemmas.Bool.{false≢true}
 use Rattle.cloak_base.specs.declared.names.Frame.{Frame}
@@ -11,9 +11,10 @@ use Rattle.shadow_fold.specs.Following.{killed_if}
 use Rattle.shadow_fold.specs.Table.{Table, is_known, ending}
 use Rattle.shadow_fold.specs.declared.entry.Entry.{Entry}
 use Rattle.shadow_fold.specs.declared.entry.Regime.{Regime}
+use Rattle.cloaked_side.specs.Leading.{WalkLeaves}
 use Rattle.cloaked_side.specs.Seeing.{LosesOnly, StaysWalking}
 use Rattle.cloaked_side.specs.declared.side.Side.{Side}
-use Rattle.cloaked_side.proofs.Sided.{within_self}
+use Rattle.cloaked_side.proofs.Sided.{within_self, within_then}
 
 or_right : (c d : Bool) → d ≡ true → (c || d) ≡ true
 or_right true d is = refl
@@ -54,3 +55,12 @@ unknown_still old new regime page kind loses unknown = by (is_known regime page 
 pub walking_of : {E : Type 0} (gave : E → E → List Piece → Type 0) (old new : Side E) → Keeps (StaysWalking gave) old new
     → StaysWalking gave old new
 walking_of gave old new keeps = keeps old (record { within = within_self gave old; loses = λ regime page kind known. known })
+
+pub walk_leaves : {E : Type 0} (gave : E → E → List Piece → Type 0) (old new : Side E) (regime : Regime) (va : ℕ) (kind : Kind)
+    → Keeps (StaysWalking gave) old new → is_known regime (va / 4096) kind old.memory.now.shadows ≡ false
+    → WalkLeaves gave old new regime va kind
+walk_leaves gave old new regime va kind keeps unknown = let walking = walking_of gave old new keeps in record {
+  keeps = λ first stays. within_then gave first old new stays walking.within;
+  same_count = walking.within.stays.size.frames;
+  unknown = unknown_still old.memory.now.shadows new.memory.now.shadows regime (va / 4096) kind walking.loses unknown;
+}

@@ -1,7 +1,7 @@
 -- What a side serves, and what is unused and cleared in it, over plain variables.
 use Rattle.std.proofs.Common.{◌≡◌, ◌≢◌, ◌<◌, ◌^◌, ℕ, Bool, true, false, cond, List, slice_index_or, nat_lt, length, Some, None}
 use Rattle.std.proofs.Common.{refl, ap, sym, ◌∙◌, subst, inl, inr, arith}
-use Rattle.std.proofs.lemmas.Bool.{false≢true, ltb-true, lt-ltb, cases_lt}
+use Rattle.std.proofs.lemmas.Bool.{false≢true, ltb-true, cases_lt}
 use Rattle.std.proofs.lemmas.List.{get_or_past}
 use Rattle.cloak_base.specs.declared.names.PageId.{PageId}
 use Rattle.cloak_base.specs.declared.names.Kind.{Kind}
@@ -99,12 +99,6 @@ unfolding ask_put
 asked_put gave first old new va width value a (Flat ram) sees unclashed told = absurd sees
 asked_put gave first old new va width value a (Alone handed) sees unclashed told = absurd sees
 asked_put gave first old new va width value a (Cloaked c) sees unclashed told = told unclashed
-
--- a side whose domain is one of the memory's serves it
-pub served_here : {E : Type 0} (side : Side E) → side.domain < domains_in side.memory.now →
-    served side ≡ side.domain
-served_here side here =
-    ap (λ (b : Bool). cond b side.domain (2 ^ 32)) (lt-ltb side.domain (domains_in side.memory.now) here)
 
 -- The side still serves the same context, or none.
 

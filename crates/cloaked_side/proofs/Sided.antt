@@ -26,8 +26,9 @@ use Rattle.shadow_fold.specs.Table.{Table, ending}
 use Rattle.shadow_fold.specs.declared.entry.Regime.{Regime}
 use Rattle.shadow_law.specs.Agreeing.{present}
 use Rattle.shadow_law.proofs.Tables.{write_agrees}
-use Rattle.cloaked_side.specs.Holding.{Holds, Settles, SameSize, HoldsNoMore, HoldsNoOther, frames_of}
-use Rattle.cloaked_side.specs.Seeing.{IsRegimeFor, Sees, SeesCloak, SeesCounted, SeesWalking, Stays, StaysWithin, asked_by, paid, space_in, touched_since}
+use Rattle.cloaked_side.specs.Holding.{Holds, Settles, SameSize, HoldsNoMore, domains_in, frames_of}
+use Rattle.cloaked_side.specs.Leading.{ReachLeaves}
+use Rattle.cloaked_side.specs.Seeing.{CanRead, CanWrite, IsRegimeFor, Sees, SeesCloak, SeesCounted, SeesWalking, Stays, StaysWithin, WritesOnly, asked_by, paid, space_in, touched_since}
 use Rattle.cloak_base.specs.declared.names.Meta.{Meta}
 use Rattle.protect_meta.specs.Table.{domains_of}
 use Rattle.cloak_pager.specs.State.{PagerState, held_in}
@@ -35,13 +36,21 @@ use Rattle.cloaked_side.proofs.Emitting.{emits_none, emits_items, some_then}
 use Rattle.cloaked_side.proofs.Marking.{stands_remarked}
 use Rattle.cloaked_side.proofs.Holders.{no_more_self, no_more_then, no_more_rights}
 use Rattle.cloaked_side.proofs.Translating.{agrees_read, agrees_rights, ending_frames}
+use Rattle.cloaked_side.specs.Offering.{OfferLeaves}
 use Rattle.cloaked_side.specs.Tracking.{Tracks, TracksBy, MapsBy, MapsStill, spent_in}
+use Rattle.cloaked_side.specs.declared.memory.EndedOffer.{EndedOffer as Ended}
 use Rattle.shadow_fold.specs.Reads.{Spends, SpendsFor, looks_in, reads_due}
 use Rattle.cloaked_side.proofs.Spending.{paid_is, looks_then, spends_looks, spends_more, spends_on, spends_then, spends_read, spends_still, spends_ended, due_events, due_items, due_event, ciphers_due, maps_ending, maps_further, maps_of, maps_on, maps_same, maps_still, since_then}
 use Rattle.cloaked_side.proofs.Tracking.{no_events, read_held, respaced, same_tracks, tracks_on, tracks_read, tracks_same, tracks_touch}
 use Rattle.shadow_fold.specs.Fold.{Fold, after_events, frame, touched}
 use Rattle.cloaked_side.specs.declared.memory.Memory.{Memory}
+use Rattle.cloaked_side.specs.declared.program_side.ProgramSide.{ProgramSide}
 use Rattle.cloaked_side.specs.declared.side.Side.{Side}
+use Rattle.cloak_base.specs.declared.causes.Violation.{Violation}
+use Rattle.cloak_base.specs.declared.names.Kind.{Kind}
+use Rattle.cloak_base.specs.declared.names.Kind.TheVariants.{Store}
+use Rattle.cloak_model.specs.declared.answer.Answer.{Answer}
+use Rattle.cloak_model.specs.declared.answer.Answer.TheVariants as answer
 
 -- What calls did to a side that sees this: events and items more, and a memory that went on with them.
 pub counted_on : {E : Type 0} (gave : E → E → List Piece → Type 0) (first old new : Side E) (c c' : MidStep) (left more : ℕ)
@@ -224,24 +233,25 @@ within_more gave first old new s memory emitter some size domain regime counting
   no_more = less;
 })
 
--- the same, if a page of the domain that is served was offered
-pub stays_offered : {E : Type 0} (gave : E → E → List Piece → Type 0) (first old new : Side E) (q : PageId) →
-    Stays gave first old → q.domain ≡ old.domain →
-    new.memory.ghost_name ≡ old.memory.ghost_name → new.emitter.ghost_name ≡ old.emitter.ghost_name →
-    EmitsSome gave old.emitter.now new.emitter.now → SameSize old.memory.now new.memory.now → new.domain ≡ old.domain →
-    new.regime ≡ old.regime → new.memory.now.counting ≡ old.memory.now.counting →
-    HoldsNoOther q old.memory.now.pager new.memory.now.pager → Stays gave first new
-stays_offered gave first old new q s own memory emitter some size domain regime counting others =
-    stays_then gave first old new s (record {
-      same_memory = memory;
-      same_emitter = emitter;
-      emits_some = some;
-      size = size;
-      domain = domain;
-      regime = regime;
-      counting = counting;
-      others = λ k p n e. others k p (λ same. n (ap (λ (x : PageId). x.domain) same ∙ own)) e;
-    })
+-- the emitter was given something, and the memory is the same
+pub writes_only : {E : Type 0} (gave : E → E → List Piece → Type 0) (old new : Side E) → new.memory ≡ old.memory →
+    new.emitter.ghost_name ≡ old.emitter.ghost_name → EmitsSome gave old.emitter.now new.emitter.now → new.domain ≡ old.domain →
+    new.regime ≡ old.regime → WritesOnly gave old new
+writes_only gave old new memory emitter some domain regime = record {
+  keeps = λ first stays. within_more gave first old new stays (ap (λ m. m.ghost_name) memory) emitter some
+      (record { frames = ap (λ m. frames_of m.now) memory; domains = ap (λ m. domains_in m.now) memory }) domain regime
+      (ap (λ m. m.now.counting) memory)
+      (subst (λ m. HoldsNoMore old.memory.now.pager m.now.pager) (sym memory) (no_more_self _));
+  same = memory;
+  domain = domain;
+}
+
+-- a side after a call on its memory and its emitter
+abbrev pub after_call : {E : Type 0} → Side E → Memory → E → Side E
+after_call old memory e = record old {
+  memory = record old.memory { now = memory };
+  emitter = record old.emitter { now = e };
+}
 
 -- only the pager is another one, of the same size, in which frames hold no more
 pub within_repaged : {E : Type 0} (gave : E → E → List Piece → Type 0) (first old new : Side E) →
@@ -593,10 +603,50 @@ written_size old new f bytes written = record {
   domains = written.domains_stay;
 }
 
--- calls that offer nothing bring no page into a frame
-pub no_other_on : {E : Type 0} (gave : E → E → List Piece → Type 0) (old new : Side E) (q : PageId) →
-    Keeps (StaysWithin gave) old new → HoldsNoOther q old.memory.now.pager new.memory.now.pager
-no_other_on gave old new q keeps k p n e = (keeps old (within_self gave old)).no_more.held k p e
+-- a page was reached after calls that offer nothing
+pub reach_on : {E : Type 0} (gave : E → E → List Piece → Type 0) (old mid new : ProgramSide E) (q : PageId) (kind : Kind) (given : Answer) →
+    Keeps (StaysWithin gave) old.side mid.side → ReachLeaves gave mid new q kind given → ReachLeaves gave old new q kind given
+reach_on gave old mid new q kind given keeps leaves = record {
+  keeps = λ first stays. leaves.keeps first (stays_on gave first old.side mid.side keeps stays);
+  others = λ k p n e. (keeps old.side (within_self gave old.side)).no_more.held k p (leaves.others k p n e);
+  readable = leaves.readable;
+  writable = leaves.writable;
+}
+
+-- a page of the domain that is served was offered, and calls after it offered nothing
+pub reach_offered : {E : Type 0} (gave : E → E → List Piece → Type 0) (old new : ProgramSide E) (memory : Memory) (e : E)
+    (v : Option Violation) (q : PageId) (kind : Kind) (g : ℕ) (write : Bool) (how : Ended) (given : Answer) → q.domain ≡ old.side.domain →
+    OfferLeaves gave old.side.emitter.now e old.side.memory.now memory q g write how →
+    Keeps (StaysWithin gave) (record (after_call old.side memory e) { violation = v }) new.side →
+    (given ≡ answer.Ok → CanRead new q) → (given ≡ answer.Ok → kind ≡ Store → CanWrite new q) → ReachLeaves gave old new q kind given
+reach_offered {E} gave old new memory e v q kind g write how given own leaves keeps readable writable = record {
+  keeps = λ first stays. stays_on gave first mid new.side keeps (stays_then gave first old.side mid stays (record {
+    same_memory = refl;
+    same_emitter = refl;
+    emits_some = leaves.emits_some;
+    size = leaves.same;
+    domain = refl;
+    regime = refl;
+    counting = leaves.counting;
+    others = λ k p n h. leaves.others k p (λ same. n (ap (λ (x : PageId). x.domain) same ∙ own)) h;
+  }));
+  others = λ k p n h. leaves.others k p n ((keeps mid (within_self gave mid)).no_more.held k p h);
+  readable = readable;
+  writable = writable;
+}
+  where
+    mid : Side E
+    mid = record (after_call old.side memory e) { violation = v }
+
+-- such calls alone, by which no page was reached
+pub reach_refused : {E : Type 0} (gave : E → E → List Piece → Type 0) (old new : ProgramSide E) (q : PageId) (kind : Kind) (given : Answer) →
+    Keeps (StaysWithin gave) old.side new.side → given ≢ answer.Ok → ReachLeaves gave old new q kind given
+reach_refused gave old new q kind given keeps refused = record {
+  keeps = λ first stays. stays_on gave first old.side new.side keeps stays;
+  others = λ k p n e. (keeps old.side (within_self gave old.side)).no_more.held k p e;
+  readable = λ ok. absurd (refused ok);
+  writable = λ ok store. absurd (refused ok);
+}
 
 -- the same for what stays of it if pages are offered too
 pub stays_repaged : {E : Type 0} (gave : E → E → List Piece → Type 0) (first old new : Side E) → Stays gave first old →
@@ -618,8 +668,3 @@ turned_size old new metas t =
 pub within_of : {E : Type 0} (gave : E → E → List Piece → Type 0) (old new : Side E) →
     Keeps (StaysWithin gave) old new → StaysWithin gave old new
 within_of gave old new keeps = keeps old (within_self gave old)
-
--- the same of one that offers a page
-pub stays_of : {E : Type 0} (gave : E → E → List Piece → Type 0) (old new : Side E) →
-    Keeps (Stays gave) old new → Stays gave old new
-stays_of gave old new keeps = keeps old (stays_self gave old)

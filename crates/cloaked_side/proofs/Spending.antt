@@ -213,10 +213,6 @@ ending_misses ends t = refl
 pub killed_misses : (f : Frame) (t : Table) → (killed f t).counts.misses ≡ t.counts.misses
 killed_misses f t = ending_misses (is_table f) (ending (is_target f) t) ∙ ending_misses (is_target f) t
 
-pub killed_if_misses : (b : Bool) (f : Frame) (t : Table) → (killed_if b f t).counts.misses ≡ t.counts.misses
-killed_if_misses true f t = killed_misses f t
-killed_if_misses false f t = refl
-
 -- entries ended, and nothing was read
 pub spends_ended : (old new : Memory) (g : Frame) → new.pager.reads ≡ old.pager.reads → new.shadows ≡ ending (is_table g) old.shadows →
     Spends 0 0 (spent_in old) (spent_in new)

@@ -47,10 +47,6 @@ pub no_events : (space : Option SpaceId) (s : Fold) → s ≡ after_events space
 unfolding after_events
 no_events space s = refl
 
-pub one_event : (space : Option SpaceId) (e : Event) (s : Fold) → after_events space (e ∷ []) s ≡ after_event space e s
-unfolding after_events
-one_event space e s = refl
-
 -- the calls of an event, and what frames hold after it
 pub goes_on : (space : Option SpaceId) (e : Event) (c : Bool) (t t' : Table) (held held' : ℕ → Option PageId) (s : Fold) → KeepsFold c t held s
     → (c ≡ true → AreCallsFor space e s t t') → ((f : ℕ) → held' f ≡ (after_event space e s).held f) → KeepsFold c t' held' (after_event space e s)
@@ -237,12 +233,11 @@ effect_is space q g m Missed s = by (settle g m).missed
     by true = refl
     by false = refl
 
-pub tracks_offer : (space : Option SpaceId) (c c' : Bool) (t t' : Table) (held held' : ℕ → Option PageId) (q : PageId) (g : ℕ) (m : CloakedMemory) (a b : OfferEnd) → a ≡ b
+pub tracks_offer : (space : Option SpaceId) (c c' : Bool) (t t' : Table) (held held' : ℕ → Option PageId) (q : PageId) (g : ℕ) (m : CloakedMemory) (a : OfferEnd)
     → ((s : Fold) → KeepsFold c t held s → KeepsFold c' t' held' (offer_effect q g m a s))
-    → (s : Fold) → KeepsFold c t held s → KeepsFold c' t' held' (after_events space (offer_events q g m b) s)
-tracks_offer space c c' t t' held held' q g m a b is tracks s keeps =
-    subst (λ (x : OfferEnd). KeepsFold c' t' held' (after_events space (offer_events q g m x) s)) is
-    (subst (λ (u : Fold). KeepsFold c' t' held' u) (effect_is space q g m a s) (tracks s keeps))
+    → (s : Fold) → KeepsFold c t held s → KeepsFold c' t' held' (after_events space (offer_events q g m a) s)
+tracks_offer space c c' t t' held held' q g m a tracks s keeps =
+    subst (λ (u : Fold). KeepsFold c' t' held' u) (effect_is space q g m a s) (tracks s keeps)
 
 -- a page is offered in the frame that holds it
 pub effect_again : (c : Bool) (t : Table) (held held' : ℕ → Option PageId) (q : PageId) (g : ℕ) (grant : Bool) → held g ≡ Some q → ((k : ℕ) → held' k ≡ held k)

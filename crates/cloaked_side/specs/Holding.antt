@@ -1,6 +1,8 @@
 -- What a memory with cloaked pages stands for.
-use Rattle.std.specs.Prelude.{ℕ, ◌≡◌, ◌≢◌, Bool, false, List, Some, length}
+use Rattle.std.specs.Prelude.{ℕ, ◌≡◌, ◌≢◌, ◌%◌, Bool, false, IsTrue, List, Some, None, length}
+use Rattle.cloak_base.specs.Constants.{frame_of, is_in_frames}
 use Rattle.cloak_base.specs.declared.names.PageId.{PageId}
+use Rattle.cloak_model.specs.Effect.{IsWidth}
 use Rattle.protect_meta.specs.Table.{domains_of}
 use Rattle.cloak_model.specs.Cloaking.{CloakedMemory, AfterSettling}
 use Rattle.cloak_model.specs.World.{cipher_items}
@@ -30,6 +32,13 @@ frames_of memory = length memory.pager.frames
 
 abbrev pub domains_in : Memory → ℕ
 domains_in memory = domains_of memory.pager.table
+
+-- A value of 1, 2 or 4 bytes lies at an address in a frame that holds no page.
+pub record IsValueOutside (memory : Memory) (pa bytes : ℕ) : Type 0 where
+  pub inside : IsTrue (is_in_frames (frames_of memory) pa)
+  pub outside : held_in memory.pager (frame_of pa) ≡ None
+  pub width : IsWidth bytes
+  pub aligned : pa % bytes ≡ 0
 
 -- a call left as many frames and domains as there were
 pub record SameSize (old new : Memory) : Type 0 where

@@ -1,21 +1,24 @@
 -- Where an access of a side leads.
-use Rattle.std.specs.Prelude.{ℕ, Bool, ◌≡◌, ◌<◌, ◌^◌, ◌/◌, true, false, length, List, [], ◌∷◌}
+use Rattle.std.specs.Prelude.{ℕ, Bool, ◌≡◌, ◌<◌, ◌^◌, ◌/◌, ◌%◌, IsTrue, true, false, length, List, [], ◌∷◌}
 use Rattle.std.specs.Prelude.{Option, Some, None, Result, Ok, Err, IfOk, IfSome}
+use Rattle.cloak_base.specs.declared.names.Frame.{Frame}
 use Rattle.cloak_base.specs.declared.names.Kind.{Kind}
+use Rattle.cloak_base.specs.declared.names.Kind.TheVariants.{Store}
 use Rattle.cloak_base.specs.declared.names.PageId.{PageId}
 use Rattle.cloak_model.specs.declared.access.Access.{Access}
 use Rattle.cloak_model.specs.declared.access.Walked.{Walked}
 use Rattle.cloak_base.specs.declared.names.SpaceId.{SpaceId}
-use Rattle.cloak_model.specs.Ask.{ask_led}
+use Rattle.cloak_model.specs.Ask.{ask_led, known}
 use Rattle.cloak_model.specs.declared.answer.Answer.{Answer}
+use Rattle.cloak_model.specs.declared.answer.Answer.TheVariants as answer
 use Rattle.cloak_model.specs.AskPages.{ask_inside_address, reach_by_table}
-use Rattle.cloak_model.specs.Asking.{Asking, FollowsFrom}
+use Rattle.cloak_model.specs.Asking.{Asking, FollowsFrom, Keeps}
 use Rattle.cloak_model.specs.Events.{Look, Born}
 use Rattle.cloak_model.specs.Exchange.{Piece}
-use Rattle.cloak_base.specs.Constants.{frame_of}
+use Rattle.cloak_base.specs.Constants.{frame_of, is_in_frames}
 use Rattle.cloak_model.specs.Memory.{is_in_ram}
 use Rattle.cloak_pager.specs.State.{held_in}
-use Rattle.shadow_fold.specs.Fold.{entry_in, regime_in}
+use Rattle.shadow_fold.specs.Fold.{entry_in, regime_in, is_own_table}
 use Rattle.shadow_fold.specs.Table.{is_known}
 use Rattle.cloaked_side.specs.declared.memory.Memory.{Memory}
 use Rattle.cloak_model.specs.Walk.{walk, access_fault}
@@ -26,10 +29,12 @@ use Rattle.shadow_fold.specs.declared.entry.Entry.{Entry}
 use Rattle.shadow_fold.specs.declared.entry.Regime.{Regime}
 use Rattle.shadow_fold.specs.declared.entry.Regime.TheVariants.{Inside}
 use Rattle.shadow_law.specs.Agreeing.{present, AreOutside}
-use Rattle.cloaked_side.specs.Seeing.{Sees, SeesWalking, space_in}
+use Rattle.cloaked_side.specs.Holding.{HoldsNoOther, frames_of}
+use Rattle.cloaked_side.specs.Seeing.{Sees, SeesWalking, Stays, StaysWithin, CanRead, CanWrite, space_in}
 use Rattle.cloaked_side.specs.declared.leading.Found.{Found}
 use Rattle.cloaked_side.specs.declared.leading.Found.TheVariants as found
 use Rattle.cloaked_side.specs.declared.leading.Led.{Led}
+use Rattle.cloaked_side.specs.declared.program_side.ProgramSide.{ProgramSide}
 use Rattle.cloaked_side.specs.declared.side.Side.{Side}
 use Rattle.cloak_model.specs.declared.regime.InsideRegime.{InsideRegime}
 
@@ -76,23 +81,43 @@ IsEntryOf (Flat ram) held e = ⊥
 IsEntryOf (Alone handed) held e = ⊥
 IsEntryOf (Cloaked c) held e = EntryAgrees (present held c.memory) e × IsWithin (length c.memory.ram) e
 
--- the entry of a walk that led an access to this address
-abbrev pub entry_at : Regime → ℕ → Kind → ℕ → Walked → Option PageId → Entry
-entry_at regime va kind pa walked cloaked = record {
+-- the entry of a walk through these tables that led an access to this frame
+abbrev pub entry_to : Regime → ℕ → Kind → Frame → Option Frame → Option Frame → Option PageId → Entry
+entry_to regime va kind frame pt1 pt0 cloaked = record {
   regime = regime;
   page = va / 4096;
   kind = kind;
-  frame = record { 0 = frame_of pa };
-  pt1 = walked.pt1;
-  pt0 = walked.pt0;
+  frame = frame;
+  pt1 = pt1;
+  pt0 = pt0;
   cloaked = cloaked;
 }
+
+-- the entry of a walk that led an access to this address
+abbrev pub entry_at : Regime → ℕ → Kind → ℕ → Walked → Option PageId → Entry
+entry_at regime va kind pa walked cloaked =
+    entry_to regime va kind (record { 0 = frame_of pa }) walked.pt1 walked.pt0 cloaked
+
+-- a side stands for what follows when a walk makes this entry, whose frame is none of its own tables
+abbrev pub Learns : {E : Type 0} → (E → E → List Piece → Type 0) → Side E → Side E → Entry → Type 0
+Learns {E} gave old new e =
+    (first : Side E) (w : World) (satp : ℕ) (a : Access) (walked : Walked) (cloaked : Option PageId) →
+    Sees gave first old w → IsEntryOf w (held_in old.memory.now.pager) e →
+    entry_in (space_in old.regime) satp a walked cloaked ≡ e → is_own_table e ≡ false →
+    Sees gave first new (noted (Born satp a walked cloaked ∷ []) w)
 
 -- a side stands for what follows when a walk to memory that is not cloaked makes this entry
 abbrev pub LearnsWalk : {E : Type 0} → (E → E → List Piece → Type 0) → Side E → Side E → Entry → Type 0
 LearnsWalk {E} gave old new e = (first : Side E) (w : World) (satp : ℕ) (a : Access) (walked : Walked) →
     Sees gave first old w → IsEntryOf w (held_in old.memory.now.pager) e → entry_in (space_in old.regime) satp a walked None ≡ e →
     Sees gave first new (noted (Born satp a walked None ∷ []) w)
+
+-- What the walk of an access leaves of a side, whatever it stands for: its translation is still unknown.
+pub record WalkLeaves {E : Type 0} (gave : E → E → List Piece → Type 0) (old new : Side E) (regime : Regime) (va : ℕ)
+    (kind : Kind) : Type 0 where
+  pub keeps : Keeps (StaysWithin gave) old new
+  pub same_count : frames_of new.memory.now ≡ frames_of old.memory.now
+  pub unknown : is_known regime (va / 4096) kind new.memory.now.shadows ≡ false
 
 -- Where an access was led, and what is true of the memory then: by the walk that there was, through tables that are
 -- outside, or by a translation that is known.
@@ -115,6 +140,18 @@ pub record IsReachedSo (memory : Memory) (w : World) (regime : Regime) (va : ℕ
   pub reached : IsReachedBy w (held_in memory.pager) regime va kind q led
   pub live : IsLive memory regime va kind (Some q) led
 
+-- a side stands for what follows when the translation that led to a cloaked page is known
+abbrev pub LearnsPage : {E : Type 0} → (E → E → List Piece → Type 0) → Side E → Side E → PageId → ℕ → Kind → Led → Type 0
+LearnsPage {E} gave old new q va kind led = (first : Side E) (w : World) → Sees gave first old w →
+    IsReachedSo old.memory.now w old.regime va kind q led →
+    Sees gave first new (known (satp_in old.regime) (access_in old.regime va kind) (Some q) w)
+
+-- What learning a translation, or none, leaves of a side, whatever it stands for.
+pub record LearnsOnly {E : Type 0} (gave : E → E → List Piece → Type 0) (old new : Side E) : Type 0 where
+  pub keeps : Keeps (StaysWithin gave) old new
+  pub same_pager : new.memory.now.pager ≡ old.memory.now.pager
+  pub same_missed : new.memory.now.missed ≡ old.memory.now.missed
+
 -- who translates for the questions of a cloaked program
 abbrev pub inside_regime : InsideRegime → SpaceId → Regime
 inside_regime regime space = Inside regime.satp regime.sum regime.mxr space
@@ -125,6 +162,15 @@ found_to kind (found.Straight pa frame) = Some (Ok (record { pa = pa; walked = N
 found_to kind (found.Other walked) = Some (Ok (record { pa = walked.pa; walked = Some walked; missed = false }))
 found_to kind found.Fault = Some (Err (access_fault kind))
 found_to kind found.Missed = None
+
+-- An access was led into a frame that there is, at the place that its own address has in a page.
+pub record IsLedInside (frames va : ℕ) (led : Led) : Type 0 where
+  pub inside : IsTrue (is_in_frames frames led.pa)
+  pub offset : led.pa % 4096 ≡ va % 4096
+
+-- so it is, if this was found of it
+abbrev pub IsFoundInside : ℕ → ℕ → Kind → Found → Type 0
+IsFoundInside frames va kind found = IfSome (found_to kind found) (λ to. IfOk to (IsLedInside frames va))
 
 -- the frame that was found is that of the address, and an address fits its word
 abbrev pub IsRightFound : Found → Type 0
@@ -152,3 +198,12 @@ Reaches {E} gave old new given q va kind to =
     IsFoundSo gave first old w old.regime va kind (Some q) to) →
     is_clashed (reach_by_table q va kind w).world ≡ false →
     FollowsFrom (Sees gave first) new given (reach_by_table q va kind w)
+
+-- What the question for page q leaves, whatever the side stands for. If it was granted, the page can be read, and
+-- written if it was reached for a store.
+pub record ReachLeaves {E : Type 0} (gave : E → E → List Piece → Type 0) (old new : ProgramSide E) (q : PageId)
+    (kind : Kind) (given : Answer) : Type 0 where
+  pub keeps : Keeps (Stays gave) old.side new.side
+  pub others : HoldsNoOther q old.side.memory.now.pager new.side.memory.now.pager
+  pub readable : given ≡ answer.Ok → CanRead new q
+  pub writable : given ≡ answer.Ok → kind ≡ Store → CanWrite new q

@@ -1,10 +1,16 @@
 -- What making room for a page, and offering it, results in.
-use Rattle.std.specs.Prelude.{ℕ, ◌≡◌, Bool, true, false, List, [], ◌++◌}
+use Rattle.std.specs.Prelude.{ℕ, ◌≡◌, Bool, true, false, IsTrue, Option, Some, List, [], ◌++◌, length}
 use Rattle.cloak_base.specs.declared.names.PageId.{PageId}
+use Rattle.cloak_base.specs.declared.names.SpaceId.{SpaceId}
+use Rattle.cloak_model.specs.AskPages.{offer_events}
 use Rattle.cloak_model.specs.Cloaking.{CloakedMemory, AfterOffer, OfferEnd, Ready, Mismatch, Missed, offer}
 use Rattle.cloak_model.specs.World.{cipher_items}
-use Rattle.cloak_model.specs.Exchange.{Piece, Emits, item_pieces}
-use Rattle.cloaked_side.specs.Holding.{Holds}
+use Rattle.cloak_model.specs.Exchange.{Piece, Emits, EmitsSome, item_pieces}
+use Rattle.cloak_pager.specs.State.{held_in, owed_at}
+use Rattle.shadow_fold.specs.Fold.{after_events}
+use Rattle.shadow_fold.specs.Reads.{Spends}
+use Rattle.cloaked_side.specs.Holding.{Holds, HoldsNoOther, SameSize}
+use Rattle.cloaked_side.specs.Tracking.{TracksBy, MapsStill, spent_in}
 use Rattle.cloaked_side.specs.declared.memory.Memory.{Memory}
 use Rattle.cloaked_side.specs.declared.memory.EndedOffer.{EndedOffer as Ended}
 use Rattle.cloaked_side.specs.declared.memory.EndedOffer.TheVariants as ended
@@ -39,3 +45,28 @@ pub record Offers {E : Type 0} (gave : E → E → List Piece → Type 0) (e e' 
   pub answer : offer_of given ≡ o.answer
   pub holds : Holds new o.memory
   pub emits : Emits gave e e' (item_pieces (cipher_items o.ciphers))
+
+-- Page q was offered in frame g: as is defined, unless two pages with one digest were compared. The fold follows the
+-- event of the answer that was given, and frames were read no more often than is due for what was shown.
+pub record OffersPage {E : Type 0} (gave : E → E → List Piece → Type 0) (e e' : E) (old new : Memory) (q : PageId) (g : ℕ)
+    (write : Bool) (given : Ended) : Type 0 where
+  pub offers : (m : CloakedMemory) → Holds old m → (offer q g write m).memory.ledger.clashed ≡ false →
+      Offers gave e e' new given (offer q g write m)
+  pub tracks : (m : CloakedMemory) → Holds old m → (space : Option SpaceId) →
+      TracksBy old new (after_events space (offer_events q g m (offer_of given)))
+  pub spends : (m : CloakedMemory) → Holds old m →
+      Spends 0 (length (offer q g write m).ciphers) (spent_in old) (spent_in new)
+  pub maps : MapsStill old new
+
+-- What the offer left, whatever the memory stands for. If it ended well, the frame holds the page, and is owed it if it
+-- was offered for writing.
+pub record OfferLeaves {E : Type 0} (gave : E → E → List Piece → Type 0) (e e' : E) (old new : Memory) (q : PageId) (g : ℕ)
+    (write : Bool) (given : Ended) : Type 0 where
+  pub same : SameSize old new
+  pub emits_some : EmitsSome gave e e'
+  pub counting : new.counting ≡ old.counting
+  pub again : held_in old.pager g ≡ Some q → new.shadows ≡ old.shadows
+  pub others : HoldsNoOther q old.pager new.pager
+  pub held : given ≡ ended.Ready → held_in new.pager g ≡ Some q
+  pub owed : given ≡ ended.Ready → IsTrue write → owed_at new.pager g ≡ Some q
+  pub drawn : given ≡ ended.Ready → new.missed ≡ false

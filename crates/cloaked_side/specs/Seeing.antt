@@ -4,8 +4,9 @@ use Rattle.cloak_base.specs.declared.names.Kind.{Kind}
 use Rattle.cloak_base.specs.declared.names.PageId.{PageId}
 use Rattle.cloak_base.specs.declared.names.SpaceId.{SpaceId}
 use Rattle.cloak_pager.specs.State.{held_in, owed_at, IsNoneOwed, IsNoneHeld}
+use Rattle.protect_meta.specs.Pages.{IsIn}
 use Rattle.cloak_model.specs.World.{World, MidStep, Flat, Cloaked, Alone, is_clashed}
-use Rattle.cloak_model.specs.Asking.{Asking, FollowsFrom}
+use Rattle.cloak_model.specs.Asking.{Asking, FollowsFrom, Keeps}
 use Rattle.cloak_model.specs.declared.regime.InsideRegime.{InsideRegime}
 use Rattle.cloak_model.specs.Exchange.{Piece, Emits, EmitsSome, item_pieces}
 use Rattle.cloak_model.specs.Events.{Event, Look, Touch, Offer, Born, Read, Write, Drop, Space}
@@ -145,6 +146,12 @@ pub record StaysWithin {E : Type 0} (gave : E → E → List Piece → Type 0) (
   pub stays : Stays gave first now
   pub no_more : HoldsNoMore first.memory.now.pager now.memory.now.pager
 
+-- What stays of it if an item is written: besides, the memory is the same.
+pub record WritesOnly {E : Type 0} (gave : E → E → List Piece → Type 0) (old new : Side E) : Type 0 where
+  pub keeps : Keeps (StaysWithin gave) old new
+  pub same : new.memory ≡ old.memory
+  pub domain : new.domain ≡ old.domain
+
 -- no translation is known that was not
 abbrev pub LosesOnly : Table → Table → Type 0
 LosesOnly old new = (regime : Regime) (page : ℕ) (kind : Kind) →
@@ -161,17 +168,13 @@ served side = if nat_lt side.domain (domains_in side.memory.now) then side.domai
 
 -- The page can be read: the frame that was reached last holds it, and no draw is missing.
 pub record CanRead {E : Type 0} (side : ProgramSide E) (q : PageId) : Type 0 where
-  pub domain : q.domain < domains_in side.side.memory.now
-  pub resource : q.resource < 16
-  pub page : q.page < 1024
+  pub page : IsIn (domains_in side.side.memory.now) q
   pub drawn : side.side.memory.now.missed ≡ false
   pub held : held_in side.side.memory.now.pager side.reached.0 ≡ Some q
 
 -- The page can be written: the frame that was reached last is owed it, and no draw is missing.
 pub record CanWrite {E : Type 0} (side : ProgramSide E) (q : PageId) : Type 0 where
-  pub domain : q.domain < domains_in side.side.memory.now
-  pub resource : q.resource < 16
-  pub page : q.page < 1024
+  pub page : IsIn (domains_in side.side.memory.now) q
   pub drawn : side.side.memory.now.missed ≡ false
   pub owed : owed_at side.side.memory.now.pager side.reached.0 ≡ Some q
 

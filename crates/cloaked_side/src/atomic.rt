@@ -30,7 +30,7 @@ impl<'m, 'e, E: Emit> Side<'m, 'e, E> {
     ghost use Rattle.cloak_base.specs.Constants.{frame_of, is_in_frames};
     ghost use Rattle.cloak_pager.specs.State.{held_in};
     ghost use Rattle.cloaked_side.specs.Atomic.{ask_led_word};
-    ghost use Rattle.cloaked_side.specs.Holding.{frames_of};
+    ghost use Rattle.cloaked_side.specs.Holding.{IsValueOutside, frames_of};
     ghost use Rattle.cloaked_side.specs.Seeing.{Sees, FollowsAlways, StaysWithin, space_in};
 
     /// The word to which an access of the kernel leads, or the cause of its fault. Its frame is settled then.
@@ -41,9 +41,7 @@ impl<'m, 'e, E: Emit> Side<'m, 'e, E> {
             FollowsFrom (Sees E.gave first) self.new result (ask_led_word satp access w) }
         ensures keeps { Keeps (StaysWithin E.gave) self.old self.new }
         ensures same_count { frames_of self.new.memory.now ≡ frames_of self.old.memory.now }
-        ensures inside { IfOk result (λ led. IsTrue (is_in_frames (frames_of self.new.memory.now) led.pa)) }
-        ensures outside { IfOk result (λ led. held_in self.new.memory.now.pager (frame_of led.pa) ≡ None) }
-        ensures aligned { IfOk result (λ led. led.pa % 4 ≡ 0) }
+        ensures value { IfOk result (λ led. IsValueOutside self.new.memory.now led.pa 4) }
     {
         let regime = Regime::Outside {
             satp,
@@ -82,9 +80,7 @@ impl<'m, 'e, E: Emit> Side<'m, 'e, E> {
     /// Stores a word in an outside frame, if a hart has reserved that word. Whether it was stored; the hart's
     /// reservation ends either way.
     pub(crate) fn write_if(&mut self, reserved: bool, hart: u32, pa: u32, v: u32) -> bool
-        requires inside { IsTrue (is_in_frames (frames_of self.old.memory.now) pa) }
-        requires outside { held_in self.old.memory.now.pager (frame_of pa) ≡ None }
-        requires aligned { pa % 4 ≡ 0 }
+        requires value { IsValueOutside self.old.memory.now pa 4 }
         ensures told { FollowsAlways E.gave self.old self.new result (ask.stored_if reserved hart pa v) }
         ensures keeps { Keeps (StaysWithin E.gave) self.old self.new }
         ensures same_count { frames_of self.new.memory.now ≡ frames_of self.old.memory.now }

@@ -35,16 +35,13 @@ fn is_store(kind: Kind) -> bool
 impl<'m, 'e, E: Emit> Side<'m, 'e, E> {
     ghost use Rattle.cloak_model.specs.declared.item.Item.TheVariants as item;
     ghost use Rattle.cloak_model.specs.World.{written};
-    ghost use Rattle.cloak_model.specs.Asking.{Keeps};
-    ghost use Rattle.cloaked_side.specs.Seeing.{Becomes, StaysWithin};
+    ghost use Rattle.cloaked_side.specs.Seeing.{Becomes, WritesOnly};
 
     /// Writes that a value was stored.
     fn write_put(&mut self, pa: u32, width: u32, v: u32)
         requires { IsWidth width }
         ensures sees { Becomes E.gave self.old self.new (written (item.Put pa width (v % 2 ^ (8 * width)))) }
-        ensures keeps { Keeps (StaysWithin E.gave) self.old self.new }
-        ensures same { self.new.memory ≡ self.old.memory }
-        ensures domain { self.new.domain ≡ self.old.domain }
+        ensures leaves { WritesOnly E.gave self.old self.new }
     {
         let value = low_bytes(width, v);
         set_put(&mut self.items.put, pa, width as u8, value);
@@ -61,19 +58,18 @@ impl<'m, 'e, E: Emit> ProgramSide<'m, 'e, E> {
     ghost use Rattle.cloak_model.specs.AskPages.{replies, if_drawn, get_at, got, put_at, stored_inside, ask_offer, reached};
     ghost use Rattle.cloak_model.specs.AskPages.{reach_by_table, get_by_table, put_by_table};
     ghost use Rattle.cloak_pager.specs.State.{held_in, owed_at};
-    ghost use Rattle.cloaked_side.specs.Holding.{HoldsNoOther, frames_of, domains_in};
-    ghost use Rattle.cloaked_side.specs.Leading.{IsLedSo, Reaches};
+    ghost use Rattle.protect_meta.specs.Pages.{IsIn};
+    ghost use Rattle.cloaked_side.specs.Holding.{IsValueOutside, frames_of, domains_in};
+    ghost use Rattle.cloaked_side.specs.Leading.{IsLedSo, Reaches, ReachLeaves};
     ghost use Rattle.shadow_fold.specs.Table.{is_known};
-    ghost use Rattle.cloaked_side.specs.Seeing.{Sees, Becomes, FollowsAlways, FollowsInside, Stays, StaysWithin, CanRead, CanWrite, space_in};
+    ghost use Rattle.cloaked_side.specs.Seeing.{Sees, Becomes, FollowsAlways, FollowsInside, StaysWithin, WritesOnly, space_in};
 
     /// Writes that a page is absent. Kept out of line, since building an item clears room for a page.
     #[cold]
     #[inline(never)]
     fn write_absent(&mut self, cause: u32)
         ensures sees { Becomes E.gave self.old.side self.new.side (written (item.Absent self.old.side.domain cause)) }
-        ensures keeps { Keeps (StaysWithin E.gave) self.old.side self.new.side }
-        ensures same { self.new.side.memory ≡ self.old.side.memory }
-        ensures domain { self.new.side.domain ≡ self.old.side.domain }
+        ensures leaves { WritesOnly E.gave self.old.side self.new.side }
     {
         let domain = self.side.domain;
         self.side.emitter.item(&Item::Absent { domain, cause });
@@ -84,9 +80,7 @@ impl<'m, 'e, E: Emit> ProgramSide<'m, 'e, E> {
     #[inline(never)]
     fn write_stopped(&mut self)
         ensures sees { Becomes E.gave self.old.side self.new.side (written (item.Stopped self.old.side.domain)) }
-        ensures keeps { Keeps (StaysWithin E.gave) self.old.side self.new.side }
-        ensures same { self.new.side.memory ≡ self.old.side.memory }
-        ensures domain { self.new.side.domain ≡ self.old.side.domain }
+        ensures leaves { WritesOnly E.gave self.old.side self.new.side }
     {
         let domain = self.side.domain;
         self.side.emitter.item(&Item::Stopped { domain });
@@ -96,9 +90,7 @@ impl<'m, 'e, E: Emit> ProgramSide<'m, 'e, E> {
     #[inline(always)]
     fn write_ok(&mut self)
         ensures sees { Becomes E.gave self.old.side self.new.side (written (item.Ok self.old.side.domain)) }
-        ensures keeps { Keeps (StaysWithin E.gave) self.old.side self.new.side }
-        ensures same { self.new.side.memory ≡ self.old.side.memory }
-        ensures domain { self.new.side.domain ≡ self.old.side.domain }
+        ensures leaves { WritesOnly E.gave self.old.side self.new.side }
     {
         let domain = self.side.domain;
         self.side.emitter.item(&Item::Ok { domain });
@@ -108,9 +100,7 @@ impl<'m, 'e, E: Emit> ProgramSide<'m, 'e, E> {
     #[inline(always)]
     fn write_word(&mut self, value: u32)
         ensures sees { Becomes E.gave self.old.side self.new.side (written (item.Word self.old.side.domain value)) }
-        ensures keeps { Keeps (StaysWithin E.gave) self.old.side self.new.side }
-        ensures same { self.new.side.memory ≡ self.old.side.memory }
-        ensures domain { self.new.side.domain ≡ self.old.side.domain }
+        ensures leaves { WritesOnly E.gave self.old.side self.new.side }
     {
         let domain = self.side.domain;
         self.side.emitter.item(&Item::Word { domain, value });
@@ -121,9 +111,7 @@ impl<'m, 'e, E: Emit> ProgramSide<'m, 'e, E> {
     fn write_answer(&mut self, a: Answer)
         ensures sees { Becomes E.gave self.old.side self.new.side
             (written (inside.answer_item self.old.side.domain a)) }
-        ensures keeps { Keeps (StaysWithin E.gave) self.old.side self.new.side }
-        ensures same { self.new.side.memory ≡ self.old.side.memory }
-        ensures domain { self.new.side.domain ≡ self.old.side.domain }
+        ensures leaves { WritesOnly E.gave self.old.side self.new.side }
     {
         match a {
             Answer::Ok => self.write_ok(),
@@ -137,9 +125,7 @@ impl<'m, 'e, E: Emit> ProgramSide<'m, 'e, E> {
     #[inline(always)]
     pub(crate) fn answer(&mut self, a: Answer) -> Answer
         ensures told { FollowsAlways E.gave self.old.side self.new.side result (replies a) }
-        ensures keeps { Keeps (StaysWithin E.gave) self.old.side self.new.side }
-        ensures same { self.new.side.memory ≡ self.old.side.memory }
-        ensures domain { self.new.side.domain ≡ self.old.side.domain }
+        ensures leaves { WritesOnly E.gave self.old.side self.new.side }
         ensures value { result ≡ a }
     {
         self.write_answer(a);
@@ -152,9 +138,7 @@ impl<'m, 'e, E: Emit> ProgramSide<'m, 'e, E> {
     #[inline(never)]
     fn stop(&mut self) -> Answer
         ensures told { FollowsAlways E.gave self.old.side self.new.side result (replies Answer.Stopped) }
-        ensures keeps { Keeps (StaysWithin E.gave) self.old.side self.new.side }
-        ensures same { self.new.side.memory ≡ self.old.side.memory }
-        ensures domain { self.new.side.domain ≡ self.old.side.domain }
+        ensures leaves { WritesOnly E.gave self.old.side self.new.side }
         ensures value { result ≡ Answer.Stopped }
     {
         self.answer(Answer::Stopped)
@@ -162,10 +146,7 @@ impl<'m, 'e, E: Emit> ProgramSide<'m, 'e, E> {
 
     /// Answers with the value at a settled address, unless a draw was missing.
     fn get_settled(&mut self, pa: u32, width: u32) -> Answer
-        requires inside { IsTrue (is_in_frames (frames_of self.old.side.memory.now) pa) }
-        requires outside { held_in self.old.side.memory.now.pager (frame_of pa) ≡ None }
-        requires width { IsWidth width }
-        requires aligned { pa % width ≡ 0 }
+        requires value { IsValueOutside self.old.side.memory.now pa width }
         ensures told { FollowsAlways E.gave self.old.side self.new.side result (if_drawn (get_at pa width)) }
         ensures keeps { Keeps (StaysWithin E.gave) self.old.side self.new.side }
     {
@@ -199,10 +180,7 @@ impl<'m, 'e, E: Emit> ProgramSide<'m, 'e, E> {
 
     /// Stores a value at a settled address, and writes that, unless a draw was missing.
     fn put_settled(&mut self, pa: u32, width: u32, v: u32) -> Answer
-        requires inside { IsTrue (is_in_frames (frames_of self.old.side.memory.now) pa) }
-        requires outside { held_in self.old.side.memory.now.pager (frame_of pa) ≡ None }
-        requires width { IsWidth width }
-        requires aligned { pa % width ≡ 0 }
+        requires value { IsValueOutside self.old.side.memory.now pa width }
         ensures told { FollowsAlways E.gave self.old.side self.new.side result (if_drawn (put_at pa width v)) }
         ensures keeps { Keeps (StaysWithin E.gave) self.old.side self.new.side }
     {
@@ -239,8 +217,7 @@ impl<'m, 'e, E: Emit> ProgramSide<'m, 'e, E> {
     #[inline(always)]
     fn grant(&mut self, g: Frame) -> Answer
         ensures told { FollowsAlways E.gave self.old.side self.new.side result (replies Answer.Ok) }
-        ensures keeps { Keeps (StaysWithin E.gave) self.old.side self.new.side }
-        ensures same { self.new.side.memory ≡ self.old.side.memory }
+        ensures leaves { WritesOnly E.gave self.old.side self.new.side }
         ensures value { result ≡ Answer.Ok }
         ensures reached { self.new.reached ≡ g }
     {
@@ -254,20 +231,15 @@ impl<'m, 'e, E: Emit> ProgramSide<'m, 'e, E> {
     fn reached(&mut self, q: PageId, va: u32, kind: Kind, led: &Led, g: Frame) -> Answer
         requires frame { g.0 ≡ frame_of led.now.pa }
         requires inside { IsTrue (is_in_frames (frames_of self.old.side.memory.now) led.now.pa) }
-        requires domain { q.domain < domains_in self.old.side.memory.now }
+        requires page { IsIn (domains_in self.old.side.memory.now) q }
         requires own { q.domain ≡ self.old.side.domain }
-        requires resource { q.resource < 16 }
-        requires page { q.page < 1024 }
         requires drawn { self.old.side.memory.now.missed ≡ false }
         ensures told { (first : _) (w : World) (s : _) → Sees E.gave first self.old.side w →
             space_in self.old.side.regime ≡ Some s →
             IsLedSo self.old.side.memory.now w self.old.side.regime va kind (Some q) led.now →
             is_clashed (reached q va kind (Ok led.now.pa) w).world ≡ false →
             FollowsFrom (Sees E.gave first) self.new.side result (reached q va kind (Ok led.now.pa) w) }
-        ensures keeps { Keeps (Stays E.gave) self.old.side self.new.side }
-        ensures others { HoldsNoOther q self.old.side.memory.now.pager self.new.side.memory.now.pager }
-        ensures readable { result ≡ Answer.Ok → CanRead self.new q }
-        ensures writable { result ≡ Answer.Ok → kind ≡ Kind.Store → CanWrite self.new q }
+        ensures leaves { ReachLeaves E.gave self.old self.new q kind result }
     {
         let side = &mut self.side;
         match side.memory.offer(q, g, is_store(kind), side.emitter) {
@@ -288,15 +260,10 @@ impl<'m, 'e, E: Emit> ProgramSide<'m, 'e, E> {
     fn reach_led(&mut self, q: PageId, va: u32, kind: Kind, led: &Led, g: Frame) -> Answer
         requires frame { g.0 ≡ frame_of led.now.pa }
         requires inside { IsTrue (is_in_frames (frames_of self.old.side.memory.now) led.now.pa) }
-        requires domain { q.domain < domains_in self.old.side.memory.now }
+        requires page { IsIn (domains_in self.old.side.memory.now) q }
         requires own { q.domain ≡ self.old.side.domain }
-        requires resource { q.resource < 16 }
-        requires page { q.page < 1024 }
         ensures told { Reaches E.gave self.old.side self.new.side result q va kind (Some (Ok led.now)) }
-        ensures keeps { Keeps (Stays E.gave) self.old.side self.new.side }
-        ensures others { HoldsNoOther q self.old.side.memory.now.pager self.new.side.memory.now.pager }
-        ensures readable { result ≡ Answer.Ok → CanRead self.new q }
-        ensures writable { result ≡ Answer.Ok → kind ≡ Kind.Store → CanWrite self.new q }
+        ensures leaves { ReachLeaves E.gave self.old self.new q kind result }
     {
         if self.side.memory.missed {
             return self.stop();
@@ -331,16 +298,11 @@ impl<'m, 'e, E: Emit> ProgramSide<'m, 'e, E> {
     ) -> Answer
         requires low { pa < 2 ^ 32 }
         requires inside { IsTrue (is_in_frames (frames_of self.old.side.memory.now) pa) }
-        requires domain { q.domain < domains_in self.old.side.memory.now }
+        requires page { IsIn (domains_in self.old.side.memory.now) q }
         requires own { q.domain ≡ self.old.side.domain }
-        requires resource { q.resource < 16 }
-        requires page { q.page < 1024 }
         ensures told { Reaches E.gave self.old.side self.new.side result q va kind
             (Some (Ok (record { pa = pa; walked = Some (record { pa = pa; pt1 = pt1; pt0 = pt0 }); missed = false }))) }
-        ensures keeps { Keeps (Stays E.gave) self.old.side self.new.side }
-        ensures others { HoldsNoOther q self.old.side.memory.now.pager self.new.side.memory.now.pager }
-        ensures readable { result ≡ Answer.Ok → CanRead self.new q }
-        ensures writable { result ≡ Answer.Ok → kind ≡ Kind.Store → CanWrite self.new q }
+        ensures leaves { ReachLeaves E.gave self.old self.new q kind result }
     {
         let led = handed_on(pa, pt1, pt0);
         self.reach_led(q, va, kind, &led, frame_of(led.pa))
@@ -350,15 +312,10 @@ impl<'m, 'e, E: Emit> ProgramSide<'m, 'e, E> {
     #[inline(never)]
     fn reach_walking(&mut self, q: PageId, va: u32, kind: Kind) -> Answer
         requires unknown { is_known self.old.side.regime (va / 4096) kind self.old.side.memory.now.shadows ≡ false }
-        requires domain { q.domain < domains_in self.old.side.memory.now }
+        requires page { IsIn (domains_in self.old.side.memory.now) q }
         requires own { q.domain ≡ self.old.side.domain }
-        requires resource { q.resource < 16 }
-        requires page { q.page < 1024 }
         ensures told { Reaches E.gave self.old.side self.new.side result q va kind None }
-        ensures keeps { Keeps (Stays E.gave) self.old.side self.new.side }
-        ensures others { HoldsNoOther q self.old.side.memory.now.pager self.new.side.memory.now.pager }
-        ensures readable { result ≡ Answer.Ok → CanRead self.new q }
-        ensures writable { result ≡ Answer.Ok → kind ≡ Kind.Store → CanWrite self.new q }
+        ensures leaves { ReachLeaves E.gave self.old self.new q kind result }
     {
         let regime = self.side.regime;
         match self.side.led_by_walk(&regime, va, kind) {
@@ -370,15 +327,10 @@ impl<'m, 'e, E: Emit> ProgramSide<'m, 'e, E> {
     /// Brings the page to where the kernel's page table leads from this address.
     #[inline(always)]
     pub(crate) fn reach_page(&mut self, q: PageId, va: u32, kind: Kind) -> Answer
-        requires domain { q.domain < domains_in self.old.side.memory.now }
+        requires page { IsIn (domains_in self.old.side.memory.now) q }
         requires own { q.domain ≡ self.old.side.domain }
-        requires resource { q.resource < 16 }
-        requires page { q.page < 1024 }
         ensures follows { FollowsInside E.gave self.old.side self.new.side result (reach_by_table q va kind) }
-        ensures keeps { Keeps (Stays E.gave) self.old.side self.new.side }
-        ensures others { HoldsNoOther q self.old.side.memory.now.pager self.new.side.memory.now.pager }
-        ensures readable { result ≡ Answer.Ok → CanRead self.new q }
-        ensures writable { result ≡ Answer.Ok → kind ≡ Kind.Store → CanWrite self.new q }
+        ensures leaves { ReachLeaves E.gave self.old self.new q kind result }
     {
         match self.side.look(va, kind, Some(q)) {
             Found::Straight { pa, frame } => {

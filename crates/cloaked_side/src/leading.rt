@@ -1,6 +1,7 @@
 //! Where an access leads: by a translation that is known, or else by a walk, which makes one known.
-ghost use Rattle.std.specs.Prelude.{◌≡◌, ◌≢◌, ◌<◌, ◌^◌, ◌/◌, ◌%◌, ℕ, [], ◌∷◌, false, IsTrue, IfOk, IfSome, Option, None, Some, Ok};
+ghost use Rattle.std.specs.Prelude.{◌≡◌, ◌≢◌, ◌<◌, ◌^◌, ◌/◌, ◌%◌, [], ◌∷◌, false, IsTrue, IfOk, Option, None, Some, Ok};
 ghost use Rattle.shadow_fold.specs.Agreement.{satp_in, access_in};
+ghost use Rattle.cloaked_side.specs.Leading.{entry_to};
 
 use crate::side::Side;
 use cloak_base::{Frame, Kind, Mode, PageId, RAM_START, frame_of};
@@ -73,15 +74,7 @@ fn entry_of(
     walked: &Walked,
     cloaked: Option<PageId>,
 ) -> Entry
-    ensures { result ≡ record {
-      regime = regime.now;
-      page = va / 4096;
-      kind = kind;
-      frame = frame;
-      pt1 = walked.now.pt1;
-      pt0 = walked.now.pt0;
-      cloaked = cloaked;
-    } }
+    ensures { result ≡ entry_to regime.now va kind frame walked.now.pt1 walked.now.pt0 cloaked }
 {
     Entry {
         regime: *regime,
@@ -110,22 +103,19 @@ pub(crate) fn handed_on(pa: u64, pt1: Option<Frame>, pt0: Option<Frame>) -> Led
 }
 
 impl<'m, 'e, E: Emit> Side<'m, 'e, E> {
-    ghost use Rattle.cloak_model.specs.declared.access.Access.{Access as AnyAccess};
-    ghost use Rattle.cloak_model.specs.declared.access.Walked.{Walked as AnyWalk};
     ghost use Rattle.cloak_base.specs.declared.names.PageId.{PageId as AnyPage};
-    ghost use Rattle.shadow_fold.specs.declared.entry.Entry.{Entry as AnyEntry};
-    ghost use Rattle.cloak_model.specs.Ask.{known, opened};
-    ghost use Rattle.cloak_model.specs.Events.{Look, Born};
+    ghost use Rattle.cloak_model.specs.Ask.{opened};
+    ghost use Rattle.cloak_model.specs.Events.{Look};
     ghost use Rattle.cloak_model.specs.Walk.{has_paging};
     ghost use Rattle.cloak_model.specs.Asking.{FollowsFrom, Keeps};
     ghost use Rattle.cloak_base.specs.Constants.{frame_of, is_in_frames};
     ghost use Rattle.cloak_model.specs.World.{World, is_clashed, noted};
     ghost use Rattle.cloak_pager.specs.State.{held_in};
     ghost use Rattle.cloaked_side.specs.Holding.{frames_of};
-    ghost use Rattle.cloaked_side.specs.Leading.{place_in, found_to, IsFoundSo, IsRightFound, IsLedSo, IsEntryOf};
-    ghost use Rattle.cloaked_side.specs.Leading.{IsReachedSo, IsUnknownIfMissed, IsRegimeIn, LearnsWalk, asked_led};
+    ghost use Rattle.cloaked_side.specs.Leading.{place_in, found_to, IsFoundInside, IsFoundSo, IsRightFound};
+    ghost use Rattle.cloaked_side.specs.Leading.{IsLedInside, IsLedSo, IsUnknownIfMissed};
+    ghost use Rattle.cloaked_side.specs.Leading.{IsRegimeIn, Learns, LearnsOnly, LearnsPage, LearnsWalk, WalkLeaves, asked_led};
     ghost use Rattle.cloaked_side.specs.Seeing.{Sees, SeesWalking, StaysWithin, space_in};
-    ghost use Rattle.shadow_fold.specs.Fold.{entry_in, is_own_table};
     ghost use Rattle.shadow_fold.specs.Table.{is_known};
 
     /// No translation is looked for: without paging an access leads to its own address, unless accesses are counted.
@@ -148,9 +138,7 @@ impl<'m, 'e, E: Emit> Side<'m, 'e, E> {
         ensures same { self.new ≡ self.old }
         ensures known { result ≢ Found.Missed }
         ensures placed { IsRightFound result }
-        ensures inside { IfSome (found_to kind result) (λ to. IfOk to (λ led.
-            IsTrue (is_in_frames (frames_of self.new.memory.now) led.pa))) }
-        ensures offset { IfSome (found_to kind result) (λ to. IfOk to (λ led. led.pa % 4096 ≡ va % 4096)) }
+        ensures inside { IsFoundInside (frames_of self.new.memory.now) va kind result }
     {
         if self.memory.is_inside(va as u64) {
             Found::Straight {
@@ -172,9 +160,7 @@ impl<'m, 'e, E: Emit> Side<'m, 'e, E> {
             is_known regime.now (va / 4096) kind self.new.memory.now.shadows ≡ false }
         ensures placed { IsRightFound result }
         ensures keeps { Keeps (StaysWithin E.gave) self.old self.new }
-        ensures inside { IfSome (found_to kind result) (λ to. IfOk to (λ led.
-            IsTrue (is_in_frames (frames_of self.new.memory.now) led.pa))) }
-        ensures offset { IfSome (found_to kind result) (λ to. IfOk to (λ led. led.pa % 4096 ≡ va % 4096)) }
+        ensures inside { IsFoundInside (frames_of self.new.memory.now) va kind result }
         ensures same_count { frames_of self.new.memory.now ≡ frames_of self.old.memory.now }
     {
         let Some(e) = self.memory.shadows.find(regime, va / 4096, kind) else {
@@ -206,9 +192,7 @@ impl<'m, 'e, E: Emit> Side<'m, 'e, E> {
             is_known self.old.regime (va / 4096) kind self.new.memory.now.shadows ≡ false }
         ensures placed { IsRightFound result }
         ensures keeps { Keeps (StaysWithin E.gave) self.old self.new }
-        ensures inside { IfSome (found_to kind result) (λ to. IfOk to (λ led.
-            IsTrue (is_in_frames (frames_of self.new.memory.now) led.pa))) }
-        ensures offset { IfSome (found_to kind result) (λ to. IfOk to (λ led. led.pa % 4096 ≡ va % 4096)) }
+        ensures inside { IsFoundInside (frames_of self.new.memory.now) va kind result }
         ensures same_count { frames_of self.new.memory.now ≡ frames_of self.old.memory.now }
     {
         let regime = self.regime;
@@ -228,11 +212,8 @@ impl<'m, 'e, E: Emit> Side<'m, 'e, E> {
             SeesWalking E.gave first self.old (noted (Look (satp_in regime.now) (access_in regime.now va kind) ∷ []) w) →
             is_clashed (asked_led regime.now va kind w).world ≡ false →
             FollowsFrom (Sees E.gave first) self.new (place_in result) (asked_led regime.now va kind w) }
-        ensures keeps { Keeps (StaysWithin E.gave) self.old self.new }
-        ensures inside { IfOk result (λ led. IsTrue (is_in_frames (frames_of self.old.memory.now) led.pa)) }
-        ensures offset { IfOk result (λ led. led.pa % 4096 ≡ va % 4096) }
-        ensures same_count { frames_of self.new.memory.now ≡ frames_of self.old.memory.now }
-        ensures unknown { is_known regime.now (va / 4096) kind self.new.memory.now.shadows ≡ false }
+        ensures inside { IfOk result (IsLedInside (frames_of self.new.memory.now) va) }
+        ensures leaves { WalkLeaves E.gave self.old self.new regime.now va kind }
         ensures leads { IfOk result (λ led. (first : _) (w : World) (cloaked : Option AnyPage) →
             SeesWalking E.gave first self.old (noted (Look (satp_in regime.now) (access_in regime.now va kind) ∷ []) w) →
             let told = asked_led regime.now va kind w in is_clashed told.world ≡ false →
@@ -256,16 +237,13 @@ impl<'m, 'e, E: Emit> Side<'m, 'e, E> {
         requires unknown { found ≡ Found.Missed →
             is_known regime.now (va / 4096) kind self.old.memory.now.shadows ≡ false }
         requires placed { IsRightFound found }
-        requires inside { IfSome (found_to kind found) (λ to. IfOk to (λ led.
-            IsTrue (is_in_frames (frames_of self.old.memory.now) led.pa))) }
-        requires offset { IfSome (found_to kind found) (λ to. IfOk to (λ led. led.pa % 4096 ≡ va % 4096)) }
+        requires inside { IsFoundInside (frames_of self.old.memory.now) va kind found }
         ensures follows { (first : _) (w : World) (cloaked : Option AnyPage) →
             IsFoundSo E.gave first self.old w regime.now va kind cloaked (found_to kind found) →
             is_clashed (asked_led regime.now va kind w).world ≡ false →
             FollowsFrom (Sees E.gave first) self.new (place_in result) (asked_led regime.now va kind w) }
         ensures keeps { Keeps (StaysWithin E.gave) self.old self.new }
-        ensures inside { IfOk result (λ led. IsTrue (is_in_frames (frames_of self.old.memory.now) led.pa)) }
-        ensures offset { IfOk result (λ led. led.pa % 4096 ≡ va % 4096) }
+        ensures inside { IfOk result (IsLedInside (frames_of self.new.memory.now) va) }
         ensures same_count { frames_of self.new.memory.now ≡ frames_of self.old.memory.now }
         ensures missed { IfOk result (λ led. IsUnknownIfMissed self.new.memory.now regime.now va kind led.missed) }
         ensures leads { IfOk result (λ led. (first : _) (w : World) (cloaked : Option AnyPage) →
@@ -300,8 +278,7 @@ impl<'m, 'e, E: Emit> Side<'m, 'e, E> {
             is_clashed (asked_led regime.now va kind w).world ≡ false →
             FollowsFrom (Sees E.gave first) self.new (place_in result) (asked_led regime.now va kind w) }
         ensures keeps { Keeps (StaysWithin E.gave) self.old self.new }
-        ensures inside { IfOk result (λ led. IsTrue (is_in_frames (frames_of self.old.memory.now) led.pa)) }
-        ensures offset { IfOk result (λ led. led.pa % 4096 ≡ va % 4096) }
+        ensures inside { IfOk result (IsLedInside (frames_of self.new.memory.now) va) }
         ensures same_count { frames_of self.new.memory.now ≡ frames_of self.old.memory.now }
         ensures missed { IfOk result (λ led. IsUnknownIfMissed self.new.memory.now regime.now va kind led.missed) }
         ensures leads { IfOk result (λ led. (first : _) (w : World) → Sees E.gave first self.old w →
@@ -320,13 +297,8 @@ impl<'m, 'e, E: Emit> Side<'m, 'e, E> {
     /// Makes a translation known.
     #[inline(always)]
     fn learn(&mut self, e: Entry)
-        ensures sees { (first : _) (w : World) (satp : ℕ) (a : AnyAccess) (walked : AnyWalk) (cloaked : Option AnyPage) →
-            Sees E.gave first self.old w → IsEntryOf w (held_in self.old.memory.now.pager) e →
-            entry_in (space_in self.old.regime) satp a walked cloaked ≡ e → is_own_table e ≡ false →
-            Sees E.gave first self.new (noted (Born satp a walked cloaked ∷ []) w) }
-        ensures keeps { Keeps (StaysWithin E.gave) self.old self.new }
-        ensures same_pager { self.new.memory.now.pager ≡ self.old.memory.now.pager }
-        ensures same_missed { self.new.memory.now.missed ≡ self.old.memory.now.missed }
+        ensures sees { Learns E.gave self.old self.new e }
+        ensures leaves { LearnsOnly E.gave self.old self.new }
     {
         self.memory.shadows.learn(e);
     }
@@ -335,13 +307,8 @@ impl<'m, 'e, E: Emit> Side<'m, 'e, E> {
     #[inline(always)]
     fn learn_missed(&mut self, e: Entry)
         requires unknown { is_known e.regime e.page e.kind self.old.memory.now.shadows ≡ false }
-        ensures sees { (first : _) (w : World) (satp : ℕ) (a : AnyAccess) (walked : AnyWalk) (cloaked : Option AnyPage) →
-            Sees E.gave first self.old w → IsEntryOf w (held_in self.old.memory.now.pager) e →
-            entry_in (space_in self.old.regime) satp a walked cloaked ≡ e → is_own_table e ≡ false →
-            Sees E.gave first self.new (noted (Born satp a walked cloaked ∷ []) w) }
-        ensures keeps { Keeps (StaysWithin E.gave) self.old self.new }
-        ensures same_pager { self.new.memory.now.pager ≡ self.old.memory.now.pager }
-        ensures same_missed { self.new.memory.now.missed ≡ self.old.memory.now.missed }
+        ensures sees { Learns E.gave self.old self.new e }
+        ensures leaves { LearnsOnly E.gave self.old self.new }
     {
         self.memory.shadows.learn_missed(e);
     }
@@ -380,18 +347,8 @@ impl<'m, 'e, E: Emit> Side<'m, 'e, E> {
         missed: bool,
     )
         requires unknown { IsUnknownIfMissed self.old.memory.now regime.now va kind missed }
-        ensures sees { LearnsWalk E.gave self.old self.new (record {
-          regime = regime.now;
-          page = va / 4096;
-          kind = kind;
-          frame = f;
-          pt1 = pt1;
-          pt0 = pt0;
-          cloaked = None;
-        }) }
-        ensures keeps { Keeps (StaysWithin E.gave) self.old self.new }
-        ensures same_pager { self.new.memory.now.pager ≡ self.old.memory.now.pager }
-        ensures same_missed { self.new.memory.now.missed ≡ self.old.memory.now.missed }
+        ensures sees { LearnsWalk E.gave self.old self.new (entry_to regime.now va kind f pt1 pt0 None) }
+        ensures leaves { LearnsOnly E.gave self.old self.new }
     {
         if missed && !self.memory.counting && !self.memory.shadows.is_worth_learning() {
             return;
@@ -412,18 +369,8 @@ impl<'m, 'e, E: Emit> Side<'m, 'e, E> {
         missed: bool,
     )
         requires unknown { IsUnknownIfMissed self.old.memory.now regime.now va kind missed }
-        ensures sees { LearnsWalk E.gave self.old self.new (record {
-          regime = regime.now;
-          page = va / 4096;
-          kind = kind;
-          frame = f;
-          pt1 = pt1;
-          pt0 = pt0;
-          cloaked = None;
-        }) }
-        ensures keeps { Keeps (StaysWithin E.gave) self.old self.new }
-        ensures same_pager { self.new.memory.now.pager ≡ self.old.memory.now.pager }
-        ensures same_missed { self.new.memory.now.missed ≡ self.old.memory.now.missed }
+        ensures sees { LearnsWalk E.gave self.old self.new (entry_to regime.now va kind f pt1 pt0 None) }
+        ensures leaves { LearnsOnly E.gave self.old self.new }
     {
         let e = Entry {
             regime: *regime,
@@ -446,12 +393,8 @@ impl<'m, 'e, E: Emit> Side<'m, 'e, E> {
     #[inline(always)]
     pub(crate) fn learn_page(&mut self, q: PageId, va: u32, kind: Kind, led: &Led)
         requires inside { IsTrue (is_in_frames (frames_of self.old.memory.now) led.now.pa) }
-        ensures sees { (first : _) (w : World) → Sees E.gave first self.old w →
-            IsReachedSo self.old.memory.now w self.old.regime va kind q led.now →
-            Sees E.gave first self.new (known (satp_in self.old.regime) (access_in self.old.regime va kind) (Some q) w) }
-        ensures keeps { Keeps (StaysWithin E.gave) self.old self.new }
-        ensures same_pager { self.new.memory.now.pager ≡ self.old.memory.now.pager }
-        ensures same_missed { self.new.memory.now.missed ≡ self.old.memory.now.missed }
+        ensures sees { LearnsPage E.gave self.old self.new q va kind led.now }
+        ensures leaves { LearnsOnly E.gave self.old self.new }
     {
         match led.walked {
             Some(_) => {
@@ -466,12 +409,8 @@ impl<'m, 'e, E: Emit> Side<'m, 'e, E> {
     #[inline(never)]
     fn learn_walked_page(&mut self, q: PageId, va: u32, kind: Kind, led: &Led)
         requires inside { IsTrue (is_in_frames (frames_of self.old.memory.now) led.now.pa) }
-        ensures sees { (first : _) (w : World) → Sees E.gave first self.old w →
-            IsReachedSo self.old.memory.now w self.old.regime va kind q led.now →
-            Sees E.gave first self.new (known (satp_in self.old.regime) (access_in self.old.regime va kind) (Some q) w) }
-        ensures keeps { Keeps (StaysWithin E.gave) self.old self.new }
-        ensures same_pager { self.new.memory.now.pager ≡ self.old.memory.now.pager }
-        ensures same_missed { self.new.memory.now.missed ≡ self.old.memory.now.missed }
+        ensures sees { LearnsPage E.gave self.old self.new q va kind led.now }
+        ensures leaves { LearnsOnly E.gave self.old self.new }
     {
         let f = frame_of(led.pa);
         if let Some(walked) = &led.walked {

@@ -58,13 +58,12 @@ impl Memory {
     ghost use Rattle.cloak_model.specs.Exchange.{Emits, EmitsSome, item_pieces};
     ghost use Rattle.cloak_pager.specs.State.{held_in, owed_at, bytes_in};
     ghost use Rattle.cloak_pager.specs.Turns.{IsReadOnce, StaysBut};
-    ghost use Rattle.cloaked_side.specs.Offering.{Rooms, Offers};
-    ghost use Rattle.cloaked_side.specs.Holding.{Holds, Settles, SameSize, HoldsNoMore, HoldsNoOther};
+    ghost use Rattle.protect_meta.specs.Pages.{IsIn};
+    ghost use Rattle.cloaked_side.specs.Offering.{Rooms, OffersPage, OfferLeaves};
+    ghost use Rattle.cloaked_side.specs.Holding.{Holds, Settles, SameSize, HoldsNoMore};
     ghost use Rattle.cloaked_side.specs.Holding.{frames_of, domains_in};
     ghost use Rattle.cloaked_side.specs.Tracking.{Tracks, TracksBy, MapsStill, room_made, spent_in};
-    ghost use Rattle.cloak_base.specs.declared.names.SpaceId.{SpaceId};
-    ghost use Rattle.cloak_model.specs.AskPages.{offer_events};
-    ghost use Rattle.shadow_fold.specs.Fold.{after_events, frame, fresh_fold, touched};
+    ghost use Rattle.shadow_fold.specs.Fold.{frame, fresh_fold, touched};
     ghost use Rattle.shadow_fold.specs.Following.{killed_if};
     ghost use Rattle.shadow_fold.specs.Reads.{Spends};
 
@@ -127,9 +126,7 @@ impl Memory {
     #[inline(never)]
     fn make_room<E: Emit>(&mut self, q: PageId, g: Frame, e: &mut E) -> bool
         requires inside { g.0 < frames_of self.old }
-        requires domain { q.domain < domains_in self.old }
-        requires resource { q.resource < 16 }
-        requires page { q.page < 1024 }
+        requires page { IsIn (domains_in self.old) q }
         requires drawn { self.old.missed ≡ false }
         requires away { held_in self.old.pager g.0 ≢ Some q }
         ensures same { SameSize self.old self.new }
@@ -163,27 +160,10 @@ impl Memory {
     #[inline(always)]
     pub fn offer<E: Emit>(&mut self, q: PageId, g: Frame, write: bool, e: &mut E) -> EndedOffer
         requires inside { g.0 < frames_of self.old }
-        requires domain { q.domain < domains_in self.old }
-        requires resource { q.resource < 16 }
-        requires page { q.page < 1024 }
+        requires page { IsIn (domains_in self.old) q }
         requires drawn { self.old.missed ≡ false }
-        ensures same { SameSize self.old self.new }
-        ensures emits_some { EmitsSome E.gave e.old e.new }
-        ensures offers { (m : CloakedMemory) → Holds self.old m →
-            (offer q g.0 write m).memory.ledger.clashed ≡ false →
-            Offers E.gave e.old e.new self.new result (offer q g.0 write m) }
-        ensures tracks { (m : CloakedMemory) → Holds self.old m →
-            (offer q g.0 write m).memory.ledger.clashed ≡ false → (space : Option SpaceId) →
-            TracksBy self.old self.new (after_events space (offer_events q g.0 m (offer q g.0 write m).answer)) }
-        ensures spends { (m : CloakedMemory) → Holds self.old m →
-            Spends 0 (length (offer q g.0 write m).ciphers) (spent_in self.old) (spent_in self.new) }
-        ensures maps { MapsStill self.old self.new }
-        ensures again { held_in self.old.pager g.0 ≡ Some q → self.new.shadows ≡ self.old.shadows }
-        ensures counting { self.new.counting ≡ self.old.counting }
-        ensures held { result ≡ EndedOffer.Ready → held_in self.new.pager g.0 ≡ Some q }
-        ensures others { HoldsNoOther q self.old.pager self.new.pager }
-        ensures owed { result ≡ EndedOffer.Ready → IsTrue write → owed_at self.new.pager g.0 ≡ Some q }
-        ensures drawn { result ≡ EndedOffer.Ready → self.new.missed ≡ false }
+        ensures offers { OffersPage E.gave e.old e.new self.old self.new q g.0 write result }
+        ensures leaves { OfferLeaves E.gave e.old e.new self.old self.new q g.0 write result }
     {
         if self.pager.is_ready(q, g, write) {
             return EndedOffer::Ready;
@@ -196,27 +176,10 @@ impl Memory {
     #[inline(never)]
     fn offer_anew<E: Emit>(&mut self, q: PageId, g: Frame, write: bool, e: &mut E) -> EndedOffer
         requires inside { g.0 < frames_of self.old }
-        requires domain { q.domain < domains_in self.old }
-        requires resource { q.resource < 16 }
-        requires page { q.page < 1024 }
+        requires page { IsIn (domains_in self.old) q }
         requires drawn { self.old.missed ≡ false }
-        ensures same { SameSize self.old self.new }
-        ensures emits_some { EmitsSome E.gave e.old e.new }
-        ensures offers { (m : CloakedMemory) → Holds self.old m →
-            (offer q g.0 write m).memory.ledger.clashed ≡ false →
-            Offers E.gave e.old e.new self.new result (offer q g.0 write m) }
-        ensures tracks { (m : CloakedMemory) → Holds self.old m →
-            (offer q g.0 write m).memory.ledger.clashed ≡ false → (space : Option SpaceId) →
-            TracksBy self.old self.new (after_events space (offer_events q g.0 m (offer q g.0 write m).answer)) }
-        ensures spends { (m : CloakedMemory) → Holds self.old m →
-            Spends 0 (length (offer q g.0 write m).ciphers) (spent_in self.old) (spent_in self.new) }
-        ensures maps { MapsStill self.old self.new }
-        ensures again { held_in self.old.pager g.0 ≡ Some q → self.new.shadows ≡ self.old.shadows }
-        ensures counting { self.new.counting ≡ self.old.counting }
-        ensures held { result ≡ EndedOffer.Ready → held_in self.new.pager g.0 ≡ Some q }
-        ensures others { HoldsNoOther q self.old.pager self.new.pager }
-        ensures owed { result ≡ EndedOffer.Ready → IsTrue write → owed_at self.new.pager g.0 ≡ Some q }
-        ensures drawn { result ≡ EndedOffer.Ready → self.new.missed ≡ false }
+        ensures offers { OffersPage E.gave e.old e.new self.old self.new q g.0 write result }
+        ensures leaves { OfferLeaves E.gave e.old e.new self.old self.new q g.0 write result }
     {
         if self.is_held(q, g) {
             self.pager.whole();

@@ -38,7 +38,7 @@ impl<'m, 'e, E: Emit> Side<'m, 'e, E> {
     ghost use Rattle.cloak_model.specs.Asking.{Keeps};
     ghost use Rattle.cloak_pager.specs.State.{held_in};
     ghost use Rattle.cloak_model.specs.Cloaking.{CloakedMemory, settle};
-    ghost use Rattle.cloaked_side.specs.Holding.{Holds, Settles, frames_of};
+    ghost use Rattle.cloaked_side.specs.Holding.{Holds, Settles, IsValueOutside, frames_of};
     ghost use Rattle.cloaked_side.specs.Seeing.{Becomes, FollowsAlways, StaysWithin};
     ghost use Rattle.cloaked_side.specs.Tracking.{TracksBy, spent_in};
     ghost use Rattle.shadow_fold.specs.Reads.{Spends};
@@ -73,10 +73,7 @@ impl<'m, 'e, E: Emit> Side<'m, 'e, E> {
 
     /// The value at an address in an outside frame.
     pub(crate) fn read_settled(&mut self, pa: u32, width: u32) -> u32
-        requires inside { IsTrue (is_in_frames (frames_of self.old.memory.now) pa) }
-        requires outside { held_in self.old.memory.now.pager (frame_of pa) ≡ None }
-        requires width { IsWidth width }
-        requires aligned { pa % width ≡ 0 }
+        requires value { IsValueOutside self.old.memory.now pa width }
         ensures told { FollowsAlways E.gave self.old self.new result (shown_value pa width) }
         ensures keeps { Keeps (StaysWithin E.gave) self.old self.new }
         ensures same_count { frames_of self.new.memory.now ≡ frames_of self.old.memory.now }
@@ -91,10 +88,7 @@ impl<'m, 'e, E: Emit> Side<'m, 'e, E> {
     /// Stores the lowest bytes of a word at an address in an outside frame. Translations through the frame end, and so
     /// do reservations of the word.
     pub(crate) fn write_settled(&mut self, pa: u32, width: u32, v: u32)
-        requires inside { IsTrue (is_in_frames (frames_of self.old.memory.now) pa) }
-        requires outside { held_in self.old.memory.now.pager (frame_of pa) ≡ None }
-        requires width { IsWidth width }
-        requires aligned { pa % width ≡ 0 }
+        requires value { IsValueOutside self.old.memory.now pa width }
         ensures told { FollowsAlways E.gave self.old self.new tt (stored_value pa width v) }
         ensures keeps { Keeps (StaysWithin E.gave) self.old self.new }
         ensures regime { self.new.regime ≡ self.old.regime }

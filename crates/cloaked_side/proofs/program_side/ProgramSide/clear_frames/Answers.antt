@@ -59,6 +59,6 @@ returns-clause-cleared g c ok r mark =
     let p = c.loop-i.self.side.memory.now.pager in
     let past : c.count-count.result ≤ c.loop-i.i = c.loop-i-test.false in
     let same : length p.frames ≡ c.count-count.result = c.loop-i.invariant.same_count in
-    subst (λ m. IsNoneOwed m.now.pager c.args.domain r) (sym c.answer-2.ensures.same)
+    subst (λ m. IsNoneOwed m.now.pager c.args.domain r) (sym c.answer-2.ensures.leaves.same)
     (none_owed p c.args.domain c.args.resources.now c.whole.ensures
     (λ k lt. c.loop-i.invariant.cleared k (omega (arith, lt, past, same))) r mark)

@@ -15,4 +15,4 @@ returns-clause-told g c first w sees =
 
 pub returns-clause-keeps : goal.returns-clause-keeps
 returns-clause-keeps g c first stays =
-    c.answer-2.ensures.keeps first (c.read_settled-value.ensures.keeps first stays)
+    c.answer-2.ensures.leaves.keeps first (c.read_settled-value.ensures.keeps first stays)

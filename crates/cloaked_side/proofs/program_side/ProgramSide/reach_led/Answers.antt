@@ -1,9 +1,10 @@
-use Rattle.std.proofs.Common.{Some, Ok}
+use Rattle.std.proofs.Common.{◌≡◌, ◌∙◌, Some, Ok, sym}
+use Rattle.cloak_model.specs.declared.answer.Answer.TheVariants as answer
 use Rattle.cloak_model.specs.AskPages.{reached, reach_by_table}
 use Rattle.cloak_model.proofs.PagesLater.{later_reached}
 use Rattle.cloaked_side.proofs.Answering.{asked_drawn, asked_undrawn}
 use Rattle.cloaked_side.proofs.Known.{found_inside}
-use Rattle.cloaked_side.proofs.Sided.{stays_on}
+use Rattle.cloaked_side.proofs.Sided.{reach_refused}
 use Rattle.cloaked_side.proofs.program_side.ProgramSide.reach_led.Goals as goal
 
 pub returns-then-self-clause-told : goal.returns-then-self-clause-told
@@ -23,6 +24,6 @@ returns-clause-told g c first w s at_space same so unclashed =
     (λ u. (found u).0) c.if-self.false
     (λ u stands clash. c.reached.ensures.told first _ s stands at_space (found u).1 clash)
 
-pub returns-then-self-clause-keeps : goal.returns-then-self-clause-keeps
-returns-then-self-clause-keeps g c first stays =
-    stays_on g.E.Emit.gave first c.args.self.now.side _ c.stop.ensures.keeps stays
+pub returns-then-self-clause-leaves : goal.returns-then-self-clause-leaves
+returns-then-self-clause-leaves g c = reach_refused g.E.Emit.gave c.args.self.now _ c.args.q c.args.kind _ c.stop.ensures.leaves.keeps
+    (λ ok. let clash : answer.Stopped ≡ answer.Ok = sym c.stop.ensures.value ∙ ok in cc)

@@ -1,10 +1,11 @@
-use Rattle.std.proofs.Common.{◌≡◌, ◌∙◌, ◌<◌, ◌/◌, ℕ, false, None, Some, Ok, Err, refl, sym, subst}
+use Rattle.std.proofs.Common.{◌≡◌, ◌∙◌, ◌/◌, ℕ, false, None, Some, Ok, Err, refl, sym, subst}
 use Rattle.cloak_model.specs.Walk.{access_fault}
 use Rattle.shadow_fold.specs.Table.{is_known}
 use Rattle.shadow_fold.specs.declared.entry.Regime.{Regime}
 use Rattle.cloaked_side.specs.Leading.{Reaches}
+use Rattle.protect_meta.specs.Pages.{IsIn}
 use Rattle.cloaked_side.proofs.Known.{asked_inside, fault_reaches, found_on}
-use Rattle.cloaked_side.proofs.Sided.{stays_on, no_other_on, within_of}
+use Rattle.cloaked_side.proofs.Sided.{reach_on, reach_refused, within_of}
 use Rattle.cloaked_side.proofs.program_side.ProgramSide.reach_page.Goals as goal
 
 pub returns-in-Straight-clause-follows : goal.returns-in-Straight-clause-follows
@@ -17,18 +18,14 @@ returns-in-Straight-clause-follows g c first w s sees at_space =
     c.reach_led.ensures.told first w s at_space (asked_inside gave first old s c.args.va c.args.kind w sees at_space)
     (λ u. c.in-Straight.ensures.found first w sees)
 
-pub returns-in-Straight-clause-keeps : goal.returns-in-Straight-clause-keeps
-returns-in-Straight-clause-keeps g c first stays =
-    c.reach_led.ensures.keeps first (stays_on g.E.Emit.gave first c.args.self.now.side c.look.new.self c.look.ensures.keeps stays)
+pub returns-in-Straight-clause-leaves : goal.returns-in-Straight-clause-leaves
+returns-in-Straight-clause-leaves g c =
+    reach_on g.E.Emit.gave c.args.self.now _ _ c.args.q c.args.kind _ c.look.ensures.keeps c.reach_led.ensures.leaves
 
-pub returns-in-Straight-clause-others : goal.returns-in-Straight-clause-others
-returns-in-Straight-clause-others g c k p n e =
-    no_other_on g.E.Emit.gave c.args.self.now.side c.look.new.self c.args.q c.look.ensures.keeps k p n (c.reach_led.ensures.others k p n e)
-
-pub reach_led-requires-clause-domain : goal.reach_led-requires-clause-domain
-reach_led-requires-clause-domain g c =
+pub reach_led-requires-clause-page : goal.reach_led-requires-clause-page
+reach_led-requires-clause-page g c =
     let kept = (within_of g.E.Emit.gave c.args.self.now.side c.look.new.self c.look.ensures.keeps).stays in
-    subst (λ (n : ℕ). c.args.q.domain < n) (sym kept.size.domains) c.requires.domain
+    subst (λ (n : ℕ). IsIn n c.args.q) (sym kept.size.domains) c.requires.page
 
 pub reach_led-requires-clause-own : goal.reach_led-requires-clause-own
 reach_led-requires-clause-own g c =
@@ -45,18 +42,14 @@ returns-in-Other-clause-follows g c first w s sees at_space =
     c.reach_other.ensures.told first w s at_space (asked_inside gave first old s c.args.va c.args.kind w sees at_space)
     (λ u. c.in-Other.ensures.found first w sees)
 
-pub returns-in-Other-clause-keeps : goal.returns-in-Other-clause-keeps
-returns-in-Other-clause-keeps g c first stays =
-    c.reach_other.ensures.keeps first (stays_on g.E.Emit.gave first c.args.self.now.side c.look.new.self c.look.ensures.keeps stays)
+pub returns-in-Other-clause-leaves : goal.returns-in-Other-clause-leaves
+returns-in-Other-clause-leaves g c =
+    reach_on g.E.Emit.gave c.args.self.now _ _ c.args.q c.args.kind _ c.look.ensures.keeps c.reach_other.ensures.leaves
 
-pub returns-in-Other-clause-others : goal.returns-in-Other-clause-others
-returns-in-Other-clause-others g c k p n e =
-    no_other_on g.E.Emit.gave c.args.self.now.side c.look.new.self c.args.q c.look.ensures.keeps k p n (c.reach_other.ensures.others k p n e)
-
-pub reach_other-requires-clause-domain : goal.reach_other-requires-clause-domain
-reach_other-requires-clause-domain g c =
+pub reach_other-requires-clause-page : goal.reach_other-requires-clause-page
+reach_other-requires-clause-page g c =
     let kept = (within_of g.E.Emit.gave c.args.self.now.side c.look.new.self c.look.ensures.keeps).stays in
-    subst (λ (n : ℕ). c.args.q.domain < n) (sym kept.size.domains) c.requires.domain
+    subst (λ (n : ℕ). IsIn n c.args.q) (sym kept.size.domains) c.requires.page
 
 pub reach_other-requires-clause-own : goal.reach_other-requires-clause-own
 reach_other-requires-clause-own g c =
@@ -76,21 +69,11 @@ returns-in-Fault-clause-follows g c first w s sees at_space =
     told first w s at_space (asked_inside gave first old s c.args.va c.args.kind w sees at_space)
     (λ u. c.in-Fault.ensures.found first w sees)
 
-pub returns-in-Fault-clause-keeps : goal.returns-in-Fault-clause-keeps
-returns-in-Fault-clause-keeps g c first stays =
-    stays_on g.E.Emit.gave first c.look.new.self c.answer_fault.new.self.side c.answer_fault.ensures.keeps
-    (stays_on g.E.Emit.gave first c.args.self.now.side c.look.new.self c.look.ensures.keeps stays)
-
-pub returns-in-Fault-clause-others : goal.returns-in-Fault-clause-others
-returns-in-Fault-clause-others g c k p n e =
-    no_other_on g.E.Emit.gave c.args.self.now.side c.look.new.self c.args.q c.look.ensures.keeps k p n
-    (no_other_on g.E.Emit.gave c.look.new.self c.answer_fault.new.self.side c.args.q c.answer_fault.ensures.keeps k p n e)
-
-pub returns-in-Fault-clause-readable : goal.returns-in-Fault-clause-readable
-returns-in-Fault-clause-readable g c ok = absurd (c.answer_fault.ensures.refused ok)
-
-pub returns-in-Fault-clause-writable : goal.returns-in-Fault-clause-writable
-returns-in-Fault-clause-writable g c ok store = absurd (c.answer_fault.ensures.refused ok)
+pub returns-in-Fault-clause-leaves : goal.returns-in-Fault-clause-leaves
+returns-in-Fault-clause-leaves g c =
+    reach_on g.E.Emit.gave c.args.self.now _ _ c.args.q c.args.kind _ c.look.ensures.keeps
+    (reach_refused g.E.Emit.gave (record c.args.self.now { side = c.look.new.self }) _ c.args.q c.args.kind _ c.answer_fault.ensures.keeps
+    c.answer_fault.ensures.refused)
 
 pub returns-in-Missed-clause-follows : goal.returns-in-Missed-clause-follows
 returns-in-Missed-clause-follows g c first w s sees at_space =
@@ -102,18 +85,14 @@ returns-in-Missed-clause-follows g c first w s sees at_space =
     c.reach_walking.ensures.told first w s at_space (asked_inside gave first old s c.args.va c.args.kind w sees at_space)
     (λ u. c.in-Missed.ensures.found first w sees)
 
-pub returns-in-Missed-clause-keeps : goal.returns-in-Missed-clause-keeps
-returns-in-Missed-clause-keeps g c first stays =
-    c.reach_walking.ensures.keeps first (stays_on g.E.Emit.gave first c.args.self.now.side c.look.new.self c.look.ensures.keeps stays)
+pub returns-in-Missed-clause-leaves : goal.returns-in-Missed-clause-leaves
+returns-in-Missed-clause-leaves g c =
+    reach_on g.E.Emit.gave c.args.self.now _ _ c.args.q c.args.kind _ c.look.ensures.keeps c.reach_walking.ensures.leaves
 
-pub returns-in-Missed-clause-others : goal.returns-in-Missed-clause-others
-returns-in-Missed-clause-others g c k p n e =
-    no_other_on g.E.Emit.gave c.args.self.now.side c.look.new.self c.args.q c.look.ensures.keeps k p n (c.reach_walking.ensures.others k p n e)
-
-pub reach_walking-requires-clause-domain : goal.reach_walking-requires-clause-domain
-reach_walking-requires-clause-domain g c =
+pub reach_walking-requires-clause-page : goal.reach_walking-requires-clause-page
+reach_walking-requires-clause-page g c =
     let kept = (within_of g.E.Emit.gave c.args.self.now.side c.look.new.self c.look.ensures.keeps).stays in
-    subst (λ (n : ℕ). c.args.q.domain < n) (sym kept.size.domains) c.requires.domain
+    subst (λ (n : ℕ). IsIn n c.args.q) (sym kept.size.domains) c.requires.page
 
 pub reach_walking-requires-clause-own : goal.reach_walking-requires-clause-own
 reach_walking-requires-clause-own g c =

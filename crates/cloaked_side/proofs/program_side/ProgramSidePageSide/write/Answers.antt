@@ -1,8 +1,9 @@
-use Rattle.std.proofs.Common.{◌<◌, ◌∙◌, ℕ, List, slice_index_or, Option, refl, sym, ap, subst}
+use Rattle.std.proofs.Common.{◌∙◌, ℕ, List, slice_index_or, Option, refl, sym, ap, subst}
 use Rattle.cloak_base.specs.declared.names.PageId.{PageId}
 use Rattle.cloak_pager.specs.State.{held_in, owed_under}
 use Rattle.cloak_pager.specs.declared.frame_right.FrameRight.{FrameRight}
 use Rattle.cloak_pager.specs.declared.frame_right.FrameRight.TheVariants.{Spent}
+use Rattle.protect_meta.specs.Pages.{IsIn}
 use Rattle.cloaked_side.proofs.Answering.{plain_stored}
 use Rattle.cloaked_side.proofs.Holders.{no_more_rights}
 use Rattle.cloaked_side.proofs.Sided.{stays_repaged, written_size, written_count}
@@ -34,9 +35,7 @@ returns-clause-writable g c =
     let r = c.requires.writable in
     let state = c.write_plain.ensures.state in
     record {
-      domain = subst (λ (n : ℕ). c.args.q.domain < n) (sym state.domains_stay) r.domain;
-      resource = r.resource;
-      page = r.page;
+      page = subst (λ (n : ℕ). IsIn n c.args.q) (sym state.domains_stay) r.page;
       drawn = r.drawn;
       owed = ap (λ (rs : List FrameRight). owed_under (slice_index_or rs c.args.self.now.reached.0 Spent)) state.rights_are ∙ r.owed;
     }

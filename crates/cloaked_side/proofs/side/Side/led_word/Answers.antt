@@ -1,4 +1,4 @@
-use Rattle.std.proofs.Common.{ap, sym, subst, Option}
+use Rattle.std.proofs.Common.{rules, ap, sym, subst, Option}
 use Rattle.cloak_base.specs.declared.names.SpaceId.{SpaceId}
 use Rattle.cloak_base.specs.Constants.{frame_of}
 use Rattle.cloak_model.specs.Ask.{ask_led, opened}
@@ -34,9 +34,14 @@ returns-in-Ok-clause-follows g c first w sees none unclashed =
     (subst (λ (o : Option SpaceId). IsRegimeIn o regime) (sym (ap space_in kept.stays.regime)) viewed)
     (c.in-Ok.ensures.leads first w sees viewed unclashed)))
 
-pub returns-in-Ok-clause-outside : goal.returns-in-Ok-clause-outside
-returns-in-Ok-clause-outside g c =
+pub returns-in-Ok-clause-value : goal.returns-in-Ok-clause-value
+returns-in-Ok-clause-value g c =
     let mid = c.settle_led.new.self in
     let kept = within_of g.E.Emit.gave mid c.read_settled-word.new.self c.read_settled-word.ensures.keeps in
-    none_still mid.memory.now.pager c.read_settled-word.new.self.memory.now.pager (frame_of c.in-Ok.led.pa) kept.no_more
-    c.settle_led.ensures.outside
+    record {
+      inside = search rules;
+      outside = none_still mid.memory.now.pager c.read_settled-word.new.self.memory.now.pager (frame_of c.in-Ok.led.pa) kept.no_more
+          c.settle_led.ensures.outside;
+      width = search rules;
+      aligned = search rules;
+    }

@@ -2,14 +2,11 @@ use Rattle.std.proofs.Common.{refl, rules, subst, [], ◌∷◌, ◌*◌, ◌%�
 use Rattle.cloak_model.specs.declared.item.Item.{Item}
 use Rattle.cloak_model.specs.declared.item.Item.TheVariants as item
 use Rattle.cloak_model.specs.Exchange.{Emits, item_pieces}
-use Rattle.cloaked_side.proofs.Holders.{no_more_self}
-use Rattle.cloaked_side.proofs.Sided.{sees_written, within_more, same_size}
+use Rattle.cloaked_side.proofs.Sided.{sees_written, writes_only}
 use Rattle.cloaked_side.proofs.side.Side.write_put.Goals as goal
 
-pub returns-clause-keeps : goal.returns-clause-keeps
-returns-clause-keeps g c first stays =
-    within_more g.E.Emit.gave first c.args.self.now _ stays refl refl (_, c.item.ensures) same_size refl refl refl
-    (no_more_self _)
+pub returns-clause-leaves : goal.returns-clause-leaves
+returns-clause-leaves g c = writes_only g.E.Emit.gave c.args.self.now _ refl refl (_, c.item.ensures) refl refl
 
 pub returns-clause-sees : goal.returns-clause-sees
 returns-clause-sees g c first w sees =
