@@ -230,8 +230,10 @@ sees_offered gave first old mid given q g write c sees o page violation domain r
   domain = domain ∙ sees.domain;
   regime = subst (λ (r : Regime). IsRegimeFor c.regime r) (sym regime) sees.regime;
   tracks = tracks_on first.memory.now old.memory.now mid.memory.now (space_in mid.regime) c.events (offer_events q g c.memory (offer q g write c.memory).answer)
-      (respaced first.memory.now old.memory.now (space_in old.regime) (space_in mid.regime) c.events (ap space_in regime) sees.tracks)
-      (subst (λ x. TracksBy old.memory.now mid.memory.now (after_events (space_in mid.regime) (offer_events q g c.memory x))) o.answer
+      (respaced first.memory.now old.memory.now (space_in old.regime) (space_in mid.regime) c.events
+      (ap space_in regime) sees.tracks)
+      (subst (λ x. TracksBy old.memory.now mid.memory.now
+      (after_events (space_in mid.regime) (offer_events q g c.memory x))) o.answer
       (page.tracks c.memory sees.holds (space_in mid.regime)));
   spends = spends_looks
       (let looks = looks_then c.events (offer_events q g c.memory (offer q g write c.memory).answer) in omega (arith, looks))
@@ -276,17 +278,22 @@ pub asked_offer : {E : Type 0} (gave : E → E → List Piece → Type 0) (first
     FollowsFrom (Sees gave first) new a (offered_by q va kind g (offer_of given) (Cloaked c'))) →
     FollowsFrom (Sees gave first) new a (ask_offer q va kind g w)
 unfolding ask_offer
-asked_offer gave first old mid new given q va kind g write a (Flat ram) kind_is sees clash offers violation domain regime told = absurd sees
-asked_offer gave first old mid new given q va kind g write a (Alone handed) kind_is sees clash offers violation domain regime told = absurd sees
-asked_offer {E} gave first old mid new given q va kind g write a (Cloaked c) kind_is sees clash offers violation domain regime told =
+asked_offer gave first old mid new given q va kind g write a (Flat ram) kind_is sees clash offers violation domain
+    regime told = absurd sees
+asked_offer gave first old mid new given q va kind g write a (Alone handed) kind_is sees clash offers violation domain
+    regime told = absurd sees
+asked_offer {E} gave first old mid new given q va kind g write a (Cloaked c) kind_is sees clash offers violation
+    domain regime told =
     let store = is_store kind in
     let o = offer q g store c.memory in
     let c' = offered_cloak q g store c in
     let unclashed = (later_offered q va kind g o.answer (Cloaked c')).mark clash in
-    let page = subst (λ (b : Bool). OffersPage gave old.emitter.now mid.emitter.now old.memory.now mid.memory.now q g b given) kind_is offers in
+    let page = subst (λ (b : Bool). OffersPage gave old.emitter.now mid.emitter.now old.memory.now mid.memory.now q g
+    b given) kind_is offers in
     let done = page.offers c.memory sees.holds unclashed in
     subst (λ (x : OfferEnd). FollowsFrom (Sees gave first) new a (offered_by q va kind g x (Cloaked c'))) done.answer
-    (told c c' refl sees (sees_offered gave first old mid given q g store c sees done page violation domain regime) refl refl)
+    (told c c' refl sees (sees_offered gave first old mid given q g store c sees done page violation domain regime)
+    refl refl)
 
 -- It is granted, once its translation is known.
 pub granted_told : {E : Type 0} (gave : E → E → List Piece → Type 0) (first after new : Side E) (q : PageId) (va : ℕ) (kind : Kind)

@@ -42,7 +42,8 @@ use Rattle.shadow_fold.specs.Following.{AreBirthCallsUnless, killed_if}
 use Rattle.shadow_law.proofs.Misses.{settled_walk}
 use Rattle.cloaked_side.specs.Offering.{OfferLeaves}
 use Rattle.cloaked_side.specs.declared.memory.EndedOffer.TheVariants as ended
-use Rattle.cloaked_side.specs.Seeing.{FollowsAlways, IsRegimeFor, SeesCloak, SeesCounted, SeesWalking, asked_by, paid, space_in, touched_since}
+use Rattle.cloaked_side.specs.Seeing.{FollowsAlways, FollowsInside, IsRegimeFor, SeesCloak, SeesCounted, SeesWalking}
+use Rattle.cloaked_side.specs.Seeing.{asked_by, paid, space_in, touched_since, StaysWithin}
 use Rattle.cloak_base.specs.declared.names.Kind.{Kind}
 use Rattle.cloak_base.specs.declared.names.PageId.{PageId}
 use Rattle.cloak_model.specs.declared.access.Walked.{Walked}
@@ -51,7 +52,7 @@ use Rattle.cloak_model.specs.declared.regime.InsideRegime.{InsideRegime}
 use Rattle.cloak_base.specs.declared.names.Mode.TheVariants.{U}
 use Rattle.cloak_model.specs.Ask.{shown_word, ask_word, ask_walk, ask_in_ram, ask_translate, ask_led, opened, ask_value, ask_store, shown_value, stored_value, loaded_at, ask_load, stored_to, ask_store_at}
 use Rattle.cloak_model.proofs.WalkParts.{ask_after, ask_first}
-use Rattle.cloak_model.specs.Asking.{Told, FollowsFrom, answered}
+use Rattle.cloak_model.specs.Asking.{Told, FollowsFrom, answered, Keeps}
 use Rattle.cloak_model.specs.Exchange.{Piece}
 use Rattle.cloak_base.specs.Constants.{frame_of, is_in_frames}
 use Rattle.cloak_model.specs.Memory.{is_in_ram}
@@ -65,7 +66,7 @@ use Rattle.shadow_fold.specs.declared.entry.Regime.{Regime}
 use Rattle.shadow_fold.specs.declared.entry.Regime.TheVariants.{Outside, Inside}
 use Rattle.cloak_model.specs.World.{ram_of}
 use Rattle.cloaked_side.proofs.Answering.{asked_fault, reached_fault}
-use Rattle.cloaked_side.proofs.Sided.{count_of, sees_also, sees_noted}
+use Rattle.cloaked_side.proofs.Sided.{count_of, sees_also, sees_noted, within_of}
 use Rattle.cloaked_side.proofs.Spending.{due_events, paid_is, maps_born, maps_looked, maps_on, looks_then, maps_still, since_then, spends_looks, spends_missed, spends_more, spends_still, spends_then, live_looked}
 use Rattle.shadow_fold.specs.Reads.{SpendsFor, looks_in, reads_due}
 use Rattle.shadow_fold.proofs.Keys.{is_for-key}
@@ -783,7 +784,8 @@ offered_is gave first old regime va kind q g write walked c c' sees is out by =
 pub reached_so : {E : Type 0} (gave : E → E → List Piece → Type 0) (first old new : Side E) (regime : Regime) (va : ℕ) (kind : Kind) (q : PageId) (led : Led) (c c' : MidStep)
     → SeesCloak gave first old c → SeesCloak gave first new c' → c'.memory ≡ (offer q (frame_of led.pa) (is_store kind) c.memory).memory
     → IsLedSo old.memory.now (Cloaked c) regime va kind (Some q) led
-    → OfferLeaves gave old.emitter.now new.emitter.now old.memory.now new.memory.now q (frame_of led.pa) (is_store kind) ended.Ready
+    → OfferLeaves gave old.emitter.now new.emitter.now old.memory.now new.memory.now q (frame_of led.pa)
+    (is_store kind) ended.Ready
     → IsReachedSo new.memory.now (Cloaked c') regime va kind q led
 reached_so gave first old new regime va kind q led c c' sees sees' is so leaves = record {
   by = by_walk led.walked so.by so.outside;
@@ -803,7 +805,8 @@ reached_so gave first old new regime va kind q led c c' sees sees' is so leaves 
         → IfSome o (λ walked. let e = entry_at regime va kind led.pa walked (Some q) in is_table e.frame e ≡ false → IsEntryOf (Cloaked c') (held_in new.memory.now.pager) e)
     entry None by out = tt
     entry (Some walked) by out =
-        λ apart. page_entry_in gave first old new regime va kind q led.pa walked c c' sees sees' is by.0 by.1 out leaves.others (leaves.held refl)
+        λ apart. page_entry_in gave first old new regime va kind q led.pa walked c c' sees sees' is by.0 by.1 out
+        leaves.others (leaves.held refl)
         (λ store. leaves.owed refl (ap is_store store)) leaves.same.frames apart
 
 -- An entry through its page's own frame never becomes live.
@@ -1019,6 +1022,15 @@ pub found_on : {E : Type 0} (gave : E → E → List Piece → Type 0) (old new 
 found_on gave old new given q va kind to regime same reaches first w s at asked found =
     reaches first w s (sym (ap space_in same) ∙ at) (asked ∙ ap (λ (v : Regime). asked_led v va kind w) same)
     (subst (λ (v : Regime). is_clashed (asked_led v va kind w).world ≡ false → IsFoundSo gave first old w v va kind (Some q) to) same found)
+
+-- so it is after the look
+pub found_reaches : {E : Type 0} (gave : E → E → List Piece → Type 0) (old mid new : Side E) (given : Answer)
+    (q : PageId) (va : ℕ) (kind : Kind) (to : Option (Result Led ℕ)) → Keeps (StaysWithin gave) old mid
+    → ((first : Side E) (w : World) → Sees gave first old w → IsFoundSo gave first mid w old.regime va kind (Some q) to)
+    → Reaches gave mid new given q va kind to → FollowsInside gave old new given (reach_by_table q va kind)
+found_reaches gave old mid new given q va kind to keeps found reaches first w s sees at =
+    found_on gave mid new given q va kind to old.regime (sym (within_of gave old mid keeps).stays.regime) reaches
+    first w s at (asked_inside gave first old s va kind w sees at) (λ u. found first w sees)
 
 -- if it leads to no address, the answer to the question for a page is its fault
 pub fault_reaches : {E : Type 0} (gave : E → E → List Piece → Type 0) (old new : Side E) (given : Answer) (q : PageId) (va : ℕ)

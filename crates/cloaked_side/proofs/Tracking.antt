@@ -233,7 +233,8 @@ effect_is space q g m Missed s = by (settle g m).missed
     by true = refl
     by false = refl
 
-pub tracks_offer : (space : Option SpaceId) (c c' : Bool) (t t' : Table) (held held' : ℕ → Option PageId) (q : PageId) (g : ℕ) (m : CloakedMemory) (a : OfferEnd)
+pub tracks_offer : (space : Option SpaceId) (c c' : Bool) (t t' : Table) (held held' : ℕ → Option PageId) (q : PageId)
+    (g : ℕ) (m : CloakedMemory) (a : OfferEnd)
     → ((s : Fold) → KeepsFold c t held s → KeepsFold c' t' held' (offer_effect q g m a s))
     → (s : Fold) → KeepsFold c t held s → KeepsFold c' t' held' (after_events space (offer_events q g m a) s)
 tracks_offer space c c' t t' held held' q g m a tracks s keeps =

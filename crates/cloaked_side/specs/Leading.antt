@@ -141,7 +141,8 @@ pub record IsReachedSo (memory : Memory) (w : World) (regime : Regime) (va : ℕ
   pub live : IsLive memory regime va kind (Some q) led
 
 -- a side stands for what follows when the translation that led to a cloaked page is known
-abbrev pub LearnsPage : {E : Type 0} → (E → E → List Piece → Type 0) → Side E → Side E → PageId → ℕ → Kind → Led → Type 0
+abbrev pub LearnsPage : {E : Type 0} → (E → E → List Piece → Type 0) → Side E → Side E → PageId → ℕ → Kind → Led →
+    Type 0
 LearnsPage {E} gave old new q va kind led = (first : Side E) (w : World) → Sees gave first old w →
     IsReachedSo old.memory.now w old.regime va kind q led →
     Sees gave first new (known (satp_in old.regime) (access_in old.regime va kind) (Some q) w)

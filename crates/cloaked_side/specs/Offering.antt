@@ -48,8 +48,8 @@ pub record Offers {E : Type 0} (gave : E → E → List Piece → Type 0) (e e' 
 
 -- Page q was offered in frame g: as is defined, unless two pages with one digest were compared. The fold follows the
 -- event of the answer that was given, and frames were read no more often than is due for what was shown.
-pub record OffersPage {E : Type 0} (gave : E → E → List Piece → Type 0) (e e' : E) (old new : Memory) (q : PageId) (g : ℕ)
-    (write : Bool) (given : Ended) : Type 0 where
+pub record OffersPage {E : Type 0} (gave : E → E → List Piece → Type 0) (e e' : E) (old new : Memory) (q : PageId)
+    (g : ℕ) (write : Bool) (given : Ended) : Type 0 where
   pub offers : (m : CloakedMemory) → Holds old m → (offer q g write m).memory.ledger.clashed ≡ false →
       Offers gave e e' new given (offer q g write m)
   pub tracks : (m : CloakedMemory) → Holds old m → (space : Option SpaceId) →
@@ -60,8 +60,8 @@ pub record OffersPage {E : Type 0} (gave : E → E → List Piece → Type 0) (e
 
 -- What the offer left, whatever the memory stands for. If it ended well, the frame holds the page, and is owed it if it
 -- was offered for writing.
-pub record OfferLeaves {E : Type 0} (gave : E → E → List Piece → Type 0) (e e' : E) (old new : Memory) (q : PageId) (g : ℕ)
-    (write : Bool) (given : Ended) : Type 0 where
+pub record OfferLeaves {E : Type 0} (gave : E → E → List Piece → Type 0) (e e' : E) (old new : Memory) (q : PageId)
+    (g : ℕ) (write : Bool) (given : Ended) : Type 0 where
   pub same : SameSize old new
   pub emits_some : EmitsSome gave e e'
   pub counting : new.counting ≡ old.counting

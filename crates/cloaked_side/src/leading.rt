@@ -114,7 +114,8 @@ impl<'m, 'e, E: Emit> Side<'m, 'e, E> {
     ghost use Rattle.cloaked_side.specs.Holding.{frames_of};
     ghost use Rattle.cloaked_side.specs.Leading.{place_in, found_to, IsFoundInside, IsFoundSo, IsRightFound};
     ghost use Rattle.cloaked_side.specs.Leading.{IsLedInside, IsLedSo, IsUnknownIfMissed};
-    ghost use Rattle.cloaked_side.specs.Leading.{IsRegimeIn, Learns, LearnsOnly, LearnsPage, LearnsWalk, WalkLeaves, asked_led};
+    ghost use Rattle.cloaked_side.specs.Leading.{IsRegimeIn, Learns, LearnsOnly, LearnsPage, LearnsWalk, WalkLeaves};
+    ghost use Rattle.cloaked_side.specs.Leading.{asked_led};
     ghost use Rattle.cloaked_side.specs.Seeing.{Sees, SeesWalking, StaysWithin, space_in};
     ghost use Rattle.shadow_fold.specs.Table.{is_known};
 

@@ -22,7 +22,8 @@ returns-then-is_ready-clause-offers g c =
     record { count = refl; domains = refl; keys = refl; rights = λ k n. refl; bytes = λ k n. refl } in
     record {
       offers = λ m h clash.
-          offers_so g.E.Emit.gave _ _ old _ ended.Ready Ready q f write m (rooms_self g.E.Emit.gave c.args.e.now old q f m h)
+          offers_so g.E.Emit.gave _ _ old _ ended.Ready Ready q f write m
+          (rooms_self g.E.Emit.gave c.args.e.now old q f m h)
           (λ (e : Ready ≡ Missed). cc) refl (c.if-is_ready.ensures.model refl) refl refl refl refl
           (λ ends. offered_again old.pager old.pager h.wiped m q f write old.shadows h.pager stays was was h.agrees)
           refl refl clash;

@@ -25,5 +25,6 @@ returns-clause-told g c first w s at_space same so unclashed =
     (λ u stands clash. c.reached.ensures.told first _ s stands at_space (found u).1 clash)
 
 pub returns-then-self-clause-leaves : goal.returns-then-self-clause-leaves
-returns-then-self-clause-leaves g c = reach_refused g.E.Emit.gave c.args.self.now _ c.args.q c.args.kind _ c.stop.ensures.leaves.keeps
+returns-then-self-clause-leaves g c =
+    reach_refused g.E.Emit.gave c.args.self.now _ c.args.q c.args.kind _ c.stop.ensures.leaves.keeps
     (λ ok. let clash : answer.Stopped ≡ answer.Ok = sym c.stop.ensures.value ∙ ok in cc)

@@ -14,7 +14,8 @@ use Rattle.cloaked_side.proofs.program_side.ProgramSide.reached.Goals as goal
 
 pub learn_page-requires : goal.learn_page-requires
 learn_page-requires g c = record {
-  inside = subst (λ (n : ℕ). is_in_frames n c.args.led.now.pa ≡ true) (sym c.offer.ensures.leaves.same.frames) c.requires.inside;
+  inside = subst (λ (n : ℕ). is_in_frames n c.args.led.now.pa ≡ true) (sym c.offer.ensures.leaves.same.frames)
+      c.requires.inside;
 }
 
 pub returns-in-Ready-clause-told : goal.returns-in-Ready-clause-told
@@ -30,8 +31,10 @@ returns-in-Ready-clause-told g c first w s sees at_space so unclashed =
     asked_offer gave first old mid _ ended.Ready q c.args.va c.args.kind c.args.g.0 c.is_store.result _ w c.is_store.ensures sees u
     c.in-Ready.ensures.offers refl refl refl
     (λ k k' there seen seen' is_memory same_regime.
-    let leaves = subst (λ n. OfferLeaves gave old.emitter.now mid.emitter.now old.memory.now mid.memory.now q n (is_store c.args.kind) ended.Ready) at
-    (subst (λ b. OfferLeaves gave old.emitter.now mid.emitter.now old.memory.now mid.memory.now q c.args.g.0 b ended.Ready) c.is_store.ensures
+    let leaves = subst (λ n. OfferLeaves gave old.emitter.now mid.emitter.now old.memory.now mid.memory.now q n
+    (is_store c.args.kind) ended.Ready) at
+    (subst (λ b. OfferLeaves gave old.emitter.now mid.emitter.now old.memory.now mid.memory.now q c.args.g.0 b
+    ended.Ready) c.is_store.ensures
     c.in-Ready.ensures.leaves) in
     let reached = reached_so gave first old mid regime c.args.va c.args.kind q led k k' seen seen'
     (is_memory ∙ ap (λ (n : ℕ). (offer q n (is_store c.args.kind) k.memory).memory) at)
@@ -71,17 +74,19 @@ returns-in-Missed-clause-told g c first w s sees at_space so unclashed =
 pub returns-in-Ready-clause-leaves : goal.returns-in-Ready-clause-leaves
 returns-in-Ready-clause-leaves g c =
     reach_offered g.E.Emit.gave c.args.self.now _ c.offer.new.self c.offer.new.e c.args.self.now.side.violation
-    c.args.q c.args.kind _ _ _ _ c.requires.own c.offer.ensures.leaves (λ first stays. c.grant.ensures.leaves.keeps first (c.learn_page.ensures.leaves.keeps first stays))
+    c.args.q c.args.kind _ _ _ _ c.requires.page.own c.offer.ensures.leaves
+    (λ first stays. c.grant.ensures.leaves.keeps first (c.learn_page.ensures.leaves.keeps first stays))
     (search rules) (search rules)
 
 pub returns-in-Mismatch-clause-leaves : goal.returns-in-Mismatch-clause-leaves
 returns-in-Mismatch-clause-leaves g c =
-    reach_offered g.E.Emit.gave c.args.self.now _ c.offer.new.self c.offer.new.e (Some (violation.Page c.args.q c.args.g))
-    c.args.q c.args.kind _ _ _ _ c.requires.own c.offer.ensures.leaves c.stop.ensures.leaves.keeps
+    reach_offered g.E.Emit.gave c.args.self.now _ c.offer.new.self c.offer.new.e
+    (Some (violation.Page c.args.q c.args.g))
+    c.args.q c.args.kind _ _ _ _ c.requires.page.own c.offer.ensures.leaves c.stop.ensures.leaves.keeps
     (search rules) (search rules)
 
 pub returns-in-Missed-clause-leaves : goal.returns-in-Missed-clause-leaves
 returns-in-Missed-clause-leaves g c =
     reach_offered g.E.Emit.gave c.args.self.now _ c.offer.new.self c.offer.new.e c.args.self.now.side.violation
-    c.args.q c.args.kind _ _ _ _ c.requires.own c.offer.ensures.leaves c.stop-in-Missed.ensures.leaves.keeps
+    c.args.q c.args.kind _ _ _ _ c.requires.page.own c.offer.ensures.leaves c.stop-in-Missed.ensures.leaves.keeps
     (search rules) (search rules)

@@ -56,12 +56,15 @@ returns-clause-leads g c first w cloaked sees unclashed =
 
 pub returns-in_err-walked-clause-leaves : goal.returns-in_err-walked-clause-leaves
 returns-in_err-walked-clause-leaves g c =
-    walk_leaves g.E.Emit.gave c.args.self.now c.walk.new.w c.args.regime.now c.args.va c.args.kind c.walk.ensures.keeps c.requires.unknown
+    walk_leaves g.E.Emit.gave c.args.self.now c.walk.new.w c.args.regime.now c.args.va c.args.kind
+    c.walk.ensures.keeps c.requires.unknown
 
 pub returns-then-not-is_inside-clause-leaves : goal.returns-then-not-is_inside-clause-leaves
 returns-then-not-is_inside-clause-leaves g c =
-    walk_leaves g.E.Emit.gave c.args.self.now c.walk.new.w c.args.regime.now c.args.va c.args.kind c.walk.ensures.keeps c.requires.unknown
+    walk_leaves g.E.Emit.gave c.args.self.now c.walk.new.w c.args.regime.now c.args.va c.args.kind
+    c.walk.ensures.keeps c.requires.unknown
 
 pub returns-clause-leaves : goal.returns-clause-leaves
 returns-clause-leaves g c =
-    walk_leaves g.E.Emit.gave c.args.self.now c.walk.new.w c.args.regime.now c.args.va c.args.kind c.walk.ensures.keeps c.requires.unknown
+    walk_leaves g.E.Emit.gave c.args.self.now c.walk.new.w c.args.regime.now c.args.va c.args.kind
+    c.walk.ensures.keeps c.requires.unknown

@@ -40,7 +40,8 @@ returns-in-Ok-clause-value g c =
     let kept = within_of g.E.Emit.gave mid c.read_settled-word.new.self c.read_settled-word.ensures.keeps in
     record {
       inside = search rules;
-      outside = none_still mid.memory.now.pager c.read_settled-word.new.self.memory.now.pager (frame_of c.in-Ok.led.pa) kept.no_more
+      outside = none_still mid.memory.now.pager c.read_settled-word.new.self.memory.now.pager
+          (frame_of c.in-Ok.led.pa) kept.no_more
           c.settle_led.ensures.outside;
       width = search rules;
       aligned = search rules;
