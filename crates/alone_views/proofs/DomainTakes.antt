@@ -15,8 +15,8 @@ use Rattle.cloak_model.specs.DomainAlone.{Tried, Over, Wants, Wrong, domain_unfi
 use Rattle.hypercalls.specs.declared.domain.Domain.{Domain}
 use Rattle.hypercalls.specs.Standing.{StandsFor, ResumesAs, control_of}
 use Rattle.alone_views.specs.declared.domain.DomainAlone.{DomainAlone}
-use Rattle.alone_views.specs.declared.domain.DomainPlace.{DomainPlace}
-use Rattle.alone_views.specs.declared.domain.DomainPlace.TheVariants as place
+use Rattle.alone_views.specs.declared.domain.DomainStage.{DomainStage}
+use Rattle.alone_views.specs.declared.domain.DomainStage.TheVariants as place
 use Rattle.alone_views.specs.declared.side.HandedSide.{HandedSide}
 use Rattle.alone_views.specs.declared.side.Handing.{Handing}
 use Rattle.alone_views.specs.declared.side.Handing.TheVariants as handing
@@ -43,7 +43,7 @@ part_of_same machine other p domain side stands = record {
 }
 
 -- the machine has this part and place, and the rest is as it was
-pub stands_at : (machine : DomainAlone) (s : model.DomainAlone) (p : DomainPart) (q : model.DomainPlace) → s.unfit ≡ None → machine.unfit ≡ None → machine.steps ≡ s.steps →
+pub stands_at : (machine : DomainAlone) (s : model.DomainAlone) (p : DomainPart) (q : model.DomainStage) → s.unfit ≡ None → machine.unfit ≡ None → machine.steps ≡ s.steps →
     StandsForPart machine p → q ≡ place_told (hart_at (schedule_in machine) machine.steps) machine.place → StandsForState machine (record s { part = p; place = q })
 stands_at machine s p q fit unfit steps part at = record {
   unfit = ap step_of unfit ∙ sym fit;
@@ -66,7 +66,7 @@ pub over_made : (mid machine : DomainAlone) (answers : List Answer) (s : model.D
 unfolding made_by
 over_made mid machine answers s (Over p) tried fit unfit steps domain side at =
     stands_at machine s p model.Between fit unfit steps (part_of_same mid machine p domain side tried)
-    (sym (ap (λ (q : DomainPlace). place_told (hart_at (schedule_in machine) machine.steps) q) at))
+    (sym (ap (λ (q : DomainStage). place_told (hart_at (schedule_in machine) machine.steps) q) at))
 over_made mid machine answers s _ tried fit unfit steps domain side at = absurd tried
 
 pub other_made : (mid machine : DomainAlone) (given : Handing) (answers : List Answer) (s : model.DomainAlone) (t : Tried) (n : ℕ) → IsTried mid given answers s t → given ≢ handing.Over →
@@ -91,7 +91,7 @@ pub over_answered : (mid machine : DomainAlone) (slot : ℕ) (so_far : List Answ
 unfolding answered_by
 over_answered mid machine slot so_far a answers s (Over p) tried fit unfit steps domain side at =
     stands_at machine s p (cond (is_stopped a) model.Stopped model.Done) fit unfit steps (part_of_same mid machine p domain side tried)
-    (place_behind (is_stopped a) _ ∙ sym (ap (λ (q : DomainPlace). place_told (hart_at (schedule_in machine) machine.steps) q) at))
+    (place_behind (is_stopped a) _ ∙ sym (ap (λ (q : DomainStage). place_told (hart_at (schedule_in machine) machine.steps) q) at))
 over_answered mid machine slot so_far a answers s _ tried fit unfit steps domain side at = absurd tried
 
 -- fewer than two answers are one
@@ -108,7 +108,7 @@ wants_answered mid machine slot so_far a first second s (Over p) are tried fit u
 wants_answered mid machine slot so_far a first second s Wants are tried fit unfit steps domain side at =
     stands_at machine s s.part (model.Running slot (so_far ++ a ∷ [])) fit unfit steps (part_of_same mid machine s.part domain side tried.0)
     (ap (λ (l : List Answer). model.Running slot l) (sym are ∙ one_of first second tried.1)
-    ∙ sym (ap (λ (q : DomainPlace). place_told (hart_at (schedule_in machine) machine.steps) q) at))
+    ∙ sym (ap (λ (q : DomainStage). place_told (hart_at (schedule_in machine) machine.steps) q) at))
 wants_answered mid machine slot so_far a first second s Wrong are tried fit unfit steps domain side at = absurd tried
 
 pub wrong_answered : (mid machine : DomainAlone) (slot : ℕ) (so_far : List Answer) (a : Answer) (answers : List Answer) (s : model.DomainAlone) (t : Tried) (n : ℕ) → IsTried mid handing.Wrong answers s t →
@@ -133,10 +133,10 @@ resumed_with machine slot reply s hart here same made = subst (λ (h : ℕ). Sta
 
 -- Where the items stand.
 
-placed : (old machine : DomainAlone) (s : model.DomainAlone) (q : DomainPlace) (told : model.DomainPlace → model.DomainAlone) → StandsWhileFit old s → old.place ≡ q →
+placed : (old machine : DomainAlone) (s : model.DomainAlone) (q : DomainStage) (told : model.DomainStage → model.DomainAlone) → StandsWhileFit old s → old.place ≡ q →
     StandsForState machine (told (place_told (hart_at (schedule_in old) old.steps) q)) → StandsForState machine (told s.place)
 placed old machine s q told stands is there =
-    subst (λ (p : model.DomainPlace). StandsForState machine (told p)) (sym (stands.place ∙ ap (λ (x : DomainPlace). place_told (hart_at (schedule_in old) old.steps) x) is)) there
+    subst (λ (p : model.DomainStage). StandsForState machine (told p)) (sym (stands.place ∙ ap (λ (x : DomainStage). place_told (hart_at (schedule_in old) old.steps) x) is)) there
 
 -- The end of a step.
 
@@ -155,17 +155,17 @@ moved_between : (old machine : DomainAlone) (s : model.DomainAlone) → StandsWh
     StandsForState machine (record s { place = model.Between })
 moved_between old machine s stands domain side steps unfit at =
     stands_at machine s s.part model.Between stands.fit (unfit ∙ stands.unfit) (steps ∙ stands.steps) (part_of_same old machine s.part domain side stands.part)
-    (sym (ap (λ (q : DomainPlace). place_told (hart_at (schedule_in machine) machine.steps) q) at))
+    (sym (ap (λ (q : DomainStage). place_told (hart_at (schedule_in machine) machine.steps) q) at))
 
 stays_between : (s : model.DomainAlone) → s.place ≡ model.Between → record s { place = model.Between } ≡ s
-stays_between s is = ap (λ (q : model.DomainPlace). record s { place = q }) (sym is)
+stays_between s is = ap (λ (q : model.DomainStage). record s { place = q }) (sym is)
 
-ended_at : (old machine : DomainAlone) (s : model.DomainAlone) (q : DomainPlace) → old.place ≡ q → ((slot : ℕ) (answer : Option Answer) → q ≡ place.Running slot answer → ⊥) → (q ≡ place.Stopped → ⊥) → StandsWhileFit old s →
+ended_at : (old machine : DomainAlone) (s : model.DomainAlone) (q : DomainStage) → old.place ≡ q → ((slot : ℕ) (answer : Option Answer) → q ≡ place.Running slot answer → ⊥) → (q ≡ place.Stopped → ⊥) → StandsWhileFit old s →
     StandsForState machine (record s { place = model.Between }) → StandsForState machine (domain_step_ended (place_told (hart_at (schedule_in old) old.steps) q) s)
 unfolding domain_step_ended
 ended_at old machine s place.Between is no_run no_stop stands there =
     subst (λ (x : model.DomainAlone). StandsForState machine x)
-    (stays_between s (stands.place ∙ ap (λ (x : DomainPlace). place_told (hart_at (schedule_in old) old.steps) x) is)) there
+    (stays_between s (stands.place ∙ ap (λ (x : DomainStage). place_told (hart_at (schedule_in old) old.steps) x) is)) there
 ended_at old machine s place.Other is no_run no_stop stands there = there
 ended_at old machine s (place.Running slot answer) is no_run no_stop stands there = absurd (no_run slot answer refl)
 ended_at old machine s place.Done is no_run no_stop stands there = there
@@ -198,7 +198,7 @@ unfolding take_domain_step
 stopped_step old machine schedule number s stands is unfit =
     placed old machine s place.Stopped (λ p. take_domain_step schedule number p s) stands is (stands_unfit machine s old.steps unfit stands.steps)
 
-step_at : (machine : DomainAlone) (schedule : List ℕ) (number hart : ℕ) (s : model.DomainAlone) (q : DomainPlace) → (q ≡ place.Stopped → ⊥) →
+step_at : (machine : DomainAlone) (schedule : List ℕ) (number hart : ℕ) (s : model.DomainAlone) (q : DomainStage) → (q ≡ place.Stopped → ⊥) →
     StandsForState machine (then_begun schedule number (domain_step_ended (place_told hart q) s)) → StandsForState machine (take_domain_step schedule number (place_told hart q) s)
 unfolding take_domain_step
 step_at machine schedule number hart s place.Stopped never there = absurd (never refl)
@@ -209,7 +209,7 @@ pub next_step : (old machine : DomainAlone) (schedule : List ℕ) (number : ℕ)
 next_step old machine schedule number s stands never there =
     placed old machine s old.place (λ p. take_domain_step schedule number p s) stands refl
     (step_at machine schedule number (hart_at (schedule_in old) old.steps) s old.place never
-    (subst (λ (p : model.DomainPlace). StandsForState machine (then_begun schedule number (domain_step_ended p s))) stands.place there))
+    (subst (λ (p : model.DomainStage). StandsForState machine (then_begun schedule number (domain_step_ended p s))) stands.place there))
 
 pub begins : (old machine : DomainAlone) (s : model.DomainAlone) (number hart : ℕ) (on : Option ℕ) → StandsWhileFit old s → hart ≡ hart_at (schedule_in old) number →
     (length (control_of old.domain).contexts ≡ 8 → on ≡ slot_on hart 0 (control_of old.domain).contexts) →
@@ -242,7 +242,7 @@ pub answer_running : (old machine : DomainAlone) (s : model.DomainAlone) (slot :
 unfolding take_answer
 answer_running old machine s slot answer a stands is there = placed old machine s (place.Running slot answer) (λ p. take_answer p a s) stands is there
 
-answer_at : (q : DomainPlace) (hart : ℕ) (a : Answer) (s : model.DomainAlone) → ((slot : ℕ) (answer : Option Answer) → q ≡ place.Running slot answer → ⊥) → take_answer (place_told hart q) a s ≡ domain_unfit s
+answer_at : (q : DomainStage) (hart : ℕ) (a : Answer) (s : model.DomainAlone) → ((slot : ℕ) (answer : Option Answer) → q ≡ place.Running slot answer → ⊥) → take_answer (place_told hart q) a s ≡ domain_unfit s
 unfolding take_answer
 answer_at (place.Running slot answer) hart a s never = absurd (never slot answer refl)
 answer_at _ hart a s never = refl
@@ -267,7 +267,7 @@ timer_answered old machine s slot None stands is never unfit = absurd (never ref
 timer_answered old machine s slot (Some a) stands is never unfit =
     placed old machine s (place.Running slot (Some a)) (λ p. take_timer p s) stands is (stands_unfit machine s old.steps unfit stands.steps)
 
-timer_at : (q : DomainPlace) (hart : ℕ) (s : model.DomainAlone) → ((slot : ℕ) (answer : Option Answer) → q ≡ place.Running slot answer → ⊥) → take_timer (place_told hart q) s ≡ domain_unfit s
+timer_at : (q : DomainStage) (hart : ℕ) (s : model.DomainAlone) → ((slot : ℕ) (answer : Option Answer) → q ≡ place.Running slot answer → ⊥) → take_timer (place_told hart q) s ≡ domain_unfit s
 unfolding take_timer
 timer_at (place.Running slot answer) hart s never = absurd (never slot answer refl)
 timer_at _ hart s never = refl
@@ -287,7 +287,7 @@ interrupts old machine s slot stands domain side steps unfit at =
       pages = subst (λ (x : HandedSide). HasPlain x.pages s.part.plain) (sym side) stands.part.pages;
       slots = slots_interrupt slot s.part.domain.control ∙ stands.part.slots;
     })
-    (sym (ap (λ (q : DomainPlace). place_told (hart_at (schedule_in machine) machine.steps) q) at))
+    (sym (ap (λ (q : DomainStage). place_told (hart_at (schedule_in machine) machine.steps) q) at))
 
 interrupt_free : (slot : ℕ) (d : Control) → context_at d.contexts slot ≡ None → (interrupt slot d).control ≡ d
 unfolding interrupt interrupt_if
@@ -319,7 +319,7 @@ resume_foreign old machine s d ctx reply stands is other unfit =
     (subst (λ (b : Bool). StandsForState machine (cond b (resumed_by (resume_slot (ctx % 8) hart reply s.part.domain.control) s) (domain_unfit s))) (sym (ne_eqb (ctx / 8) d other))
     (stands_unfit machine s old.steps unfit stands.steps))
 
-resume_at : (q : DomainPlace) (hart d ctx reply : ℕ) (s : model.DomainAlone) → (q ≡ place.Other → ⊥) → take_resume d (place_told hart q) ctx reply s ≡ domain_unfit s
+resume_at : (q : DomainStage) (hart d ctx reply : ℕ) (s : model.DomainAlone) → (q ≡ place.Other → ⊥) → take_resume d (place_told hart q) ctx reply s ≡ domain_unfit s
 unfolding take_resume
 resume_at place.Other hart d ctx reply s never = absurd (never refl)
 resume_at _ hart d ctx reply s never = refl
@@ -344,7 +344,7 @@ resumes old machine s slot hart reply stands told side steps unfit at =
       pages = subst (λ (x : HandedSide). HasPlain x.pages s.part.plain) (sym side) stands.part.pages;
       slots = slots_resume slot hart reply s.part.domain.control ∙ stands.part.slots;
     })
-    (sym (ap (λ (q : DomainPlace). place_told (hart_at (schedule_in machine) machine.steps) q) at)))
+    (sym (ap (λ (q : DomainStage). place_told (hart_at (schedule_in machine) machine.steps) q) at)))
 
 pub resumes_not : (machine : DomainAlone) (domain : Domain) (s : model.DomainAlone) (slot hart reply n : ℕ) (f : ResumeFault) →
     ResumesAs domain s.part.domain (Err f) (resume_slot slot hart reply s.part.domain.control) →
@@ -382,7 +382,7 @@ pub ended_stopped : (old machine : DomainAlone) (s : model.DomainAlone) (d : ℕ
 ended_stopped old machine s d ended stands is there =
     placed old machine s place.Stopped (λ p. take_ended d ended p s) stands is (stopped_at machine s d ended there)
 
-unfit_at : (q : DomainPlace) (hart d : ℕ) (ended : Bool) (s : model.DomainAlone) → (q ≡ place.Other → ⊥) → (q ≡ place.Stopped → ⊥) → take_ended d ended (place_told hart q) s ≡ domain_unfit s
+unfit_at : (q : DomainStage) (hart d : ℕ) (ended : Bool) (s : model.DomainAlone) → (q ≡ place.Other → ⊥) → (q ≡ place.Stopped → ⊥) → take_ended d ended (place_told hart q) s ≡ domain_unfit s
 unfolding take_ended
 unfit_at place.Between hart d true s no_other no_stop = refl
 unfit_at place.Between hart d false s no_other no_stop = refl
@@ -406,7 +406,7 @@ unfolding ended_domain
 goes old machine s d stands domain pages steps unfit at =
     stands_at machine s (ended_part d s.part) model.Done stands.fit (unfit ∙ stands.unfit) (steps ∙ stands.steps)
     (record { domain = domain; pages = pages; slots = refl })
-    (sym (ap (λ (q : DomainPlace). place_told (hart_at (schedule_in machine) machine.steps) q) at))
+    (sym (ap (λ (q : DomainStage). place_told (hart_at (schedule_in machine) machine.steps) q) at))
 
 -- An item.
 

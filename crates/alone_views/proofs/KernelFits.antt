@@ -9,11 +9,11 @@ use Rattle.alone_views.specs.KernelStanding.{state_with}
 use Rattle.alone_views.specs.declared.kernel.KernelAlone.{KernelAlone}
 
 -- the place is known
-pub at_place : (old new : KernelAlone) (place : model.KernelPlace)
-    (next : model.KernelPlace → model.KernelAlone → model.KernelAlone) → stood_place old.place ≡ place →
+pub at_place : (old new : KernelAlone) (place : model.KernelStage)
+    (next : model.KernelStage → model.KernelAlone → model.KernelAlone) → stood_place old.place ≡ place →
     ChangesTo old new (next place) → ChangesTo old new (λ s. next s.place s)
 at_place old new place next is becomes = record {
-  state = λ console. becomes.state console ∙ ap (λ (p : model.KernelPlace). next p (state_with old console)) (sym is);
+  state = λ console. becomes.state console ∙ ap (λ (p : model.KernelStage). next p (state_with old console)) (sym is);
   console = becomes.console;
   schedule = becomes.schedule;
 }

@@ -98,7 +98,7 @@ gains_byte {E} gave e e' old mid new turns s number k stands steps stays same sc
 
 -- The end of a step.
 
-place_stood : (old : KernelAlone) (turns : List ℕ) (s : model.KernelAlone) (place : model.KernelPlace) →
+place_stood : (old : KernelAlone) (turns : List ℕ) (s : model.KernelAlone) (place : model.KernelStage) →
     StandsForKernel old turns s → stood_place old.place ≡ place → place ≡ s.place
 place_stood old turns s place stands is = sym is ∙ ap (λ (t : model.KernelAlone). t.place) (sym stands.state)
 
@@ -107,5 +107,5 @@ pub ends_outside : {E : Type 0} (gave : E → E → List Piece → Type 0) (e e'
     Gains gave e e' new turns s (plain_step hart s) → Gains gave e e' new turns s (kernel_step_ended s.place s)
 unfolding kernel_step_ended
 ends_outside {E} gave e e' old new turns s hart stands is gains =
-    subst (λ (p : model.KernelPlace). Gains gave e e' new turns s (kernel_step_ended p s))
+    subst (λ (p : model.KernelStage). Gains gave e e' new turns s (kernel_step_ended p s))
     (place_stood old turns s (model.Outside hart) stands is) gains

@@ -103,11 +103,11 @@ ended_plainly s number h h' disk k seen is made =
     ∙ ap (λ (t : Told SteppedKernel). t.answer.ending) made)
 
 -- the number of a hart outside
-abbrev pub outside_hart : model.KernelPlace → ℕ
+abbrev pub outside_hart : model.KernelStage → ℕ
 outside_hart (model.Outside number) = number
 outside_hart other = 0
 
-abbrev pub is_outside : model.KernelPlace → Bool
+abbrev pub is_outside : model.KernelStage → Bool
 is_outside (model.Outside number) = true
 is_outside other = false
 
@@ -120,7 +120,7 @@ ends_as old new hart is ends = λ turns s stands number at.
     ∙ ap (λ (n : ℕ). plain_ending n s) (ap outside_hart (sym is ∙ (ap (λ (t : model.KernelAlone). t.place) (sym stands.state) ∙ at)))
 
 -- no step of a hart outside is open
-pub ends_none : (old new : KernelAlone) (place : model.KernelPlace) → stood_place old.place ≡ place →
+pub ends_none : (old new : KernelAlone) (place : model.KernelStage) → stood_place old.place ≡ place →
     is_outside place ≡ false → EndsAs old new
 ends_none old new place is not_outside = λ turns s stands number at.
     absurd (let clash : false ≡ true = sym not_outside

@@ -9,8 +9,8 @@ use Rattle.cloak_model.specs.Asking.{Told}
 use Rattle.cloak_model.specs.DomainStep.{DomainStepped, interrupt}
 use Rattle.hypercalls.specs.Standing.{StandsFor}
 use Rattle.alone_views.specs.declared.domain.DomainAlone.{DomainAlone}
-use Rattle.alone_views.specs.declared.domain.DomainPlace.{DomainPlace}
-use Rattle.alone_views.specs.declared.domain.DomainPlace.TheVariants as place
+use Rattle.alone_views.specs.declared.domain.DomainStage.{DomainStage}
+use Rattle.alone_views.specs.declared.domain.DomainStage.TheVariants as place
 use Rattle.alone_views.specs.declared.side.Handing.{Handing}
 use Rattle.alone_views.specs.declared.side.Handing.TheVariants as handing
 use Rattle.alone_views.specs.declared.unfit.Unfit.{Unfit}
@@ -34,7 +34,7 @@ abbrev pub hart_at : List ℕ → ℕ → ℕ
 hart_at schedule number = hart_after schedule (number - 1)
 
 -- where the items stand, in a step of this hart if in one
-abbrev pub place_told : ℕ → DomainPlace → model.DomainPlace
+abbrev pub place_told : ℕ → DomainStage → model.DomainStage
 place_told hart place.Between = model.Between
 place_told hart place.Other = model.Other hart
 place_told hart (place.Running slot answer) = model.Running slot (one_answer answer)

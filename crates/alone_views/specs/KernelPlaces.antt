@@ -1,23 +1,23 @@
 -- Where the items of a kernel that runs alone stand.
 use Rattle.std.specs.Prelude.{ℕ, ◌≡◌, ◌<◌, Option, Some, None}
 use Rattle.cloak_model.specs.KernelAlone as model
-use Rattle.alone_views.specs.declared.kernel_place.KernelPlace.{KernelPlace}
-use Rattle.alone_views.specs.declared.kernel_place.KernelPlace.TheVariants as here
+use Rattle.alone_views.specs.declared.kernel_place.KernelStage.{KernelStage}
+use Rattle.alone_views.specs.declared.kernel_place.KernelStage.TheVariants as here
 
 -- the place of the definition
-abbrev pub stood_place : KernelPlace → model.KernelPlace
+abbrev pub stood_place : KernelStage → model.KernelStage
 stood_place here.Between = model.Between
 stood_place (here.Outside hart) = model.Outside hart
 stood_place (here.Inside hart ctx) = model.Inside hart ctx
 stood_place here.Left = model.Left
 
 -- the hart whose step it is, and which has not left
-abbrev pub hart_in_step : KernelPlace → Option ℕ
+abbrev pub hart_in_step : KernelStage → Option ℕ
 hart_in_step here.Between = None
 hart_in_step (here.Outside hart) = Some hart
 hart_in_step (here.Inside hart ctx) = Some hart
 hart_in_step here.Left = None
 
 -- it is one of this many
-abbrev pub IsPlaceAmong : ℕ → KernelPlace → Type 0
+abbrev pub IsPlaceAmong : ℕ → KernelStage → Type 0
 IsPlaceAmong harts place = (hart : ℕ) → hart_in_step place ≡ Some hart → hart < harts

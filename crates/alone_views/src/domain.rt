@@ -24,7 +24,7 @@ use std::alloc::Global;
 
 /// Where the items stand.
 #[derive(Clone, Copy)]
-pub(crate) enum DomainPlace {
+pub(crate) enum DomainStage {
     /// In no step: before the first one, or after the last.
     Between,
     /// In a step whose hart runs none of the program's contexts.
@@ -46,7 +46,7 @@ pub struct DomainAlone {
     schedule: Vec<u8>,
     /// The number of the last step, 0 before the first.
     pub(crate) steps: u32,
-    pub(crate) place: DomainPlace,
+    pub(crate) place: DomainStage,
     unfit: Option<Unfit>,
     ghost served: { number_of domain ≡ side.domain },
     ghost some_turns: { 0 < length schedule.items },
@@ -77,7 +77,7 @@ impl DomainAlone {
             side,
             schedule,
             steps: 0,
-            place: DomainPlace::Between,
+            place: DomainStage::Between,
             unfit: None,
         })
     }
@@ -222,7 +222,7 @@ impl DomainAlone {
         ensures keeps { KeepsSetting self.old self.new }
     {
         match self.place {
-            DomainPlace::Stopped => self.fail(),
+            DomainStage::Stopped => self.fail(),
             _ => self.next_step(number),
         }
     }
@@ -246,9 +246,9 @@ impl DomainAlone {
         ensures keeps { KeepsSetting self.old self.new }
     {
         match self.place {
-            DomainPlace::Running { slot, answer } => self.make_step(slot, answer),
-            DomainPlace::Stopped => {}
-            _ => self.place = DomainPlace::Between,
+            DomainStage::Running { slot, answer } => self.make_step(slot, answer),
+            DomainStage::Stopped => {}
+            _ => self.place = DomainStage::Between,
         }
     }
 
@@ -259,7 +259,7 @@ impl DomainAlone {
         ensures keeps { KeepsSetting self.old self.new }
     {
         match self.try_step(slot, answer, None) {
-            Handing::Over => self.place = DomainPlace::Between,
+            Handing::Over => self.place = DomainStage::Between,
             _ => self.fail(),
         }
     }
@@ -272,8 +272,8 @@ impl DomainAlone {
         self.steps = number;
         let hart = self.hart();
         match self.slot_on(hart) {
-            None => self.place = DomainPlace::Other,
-            Some(slot) => self.place = DomainPlace::Running { slot, answer: None },
+            None => self.place = DomainStage::Other,
+            Some(slot) => self.place = DomainStage::Running { slot, answer: None },
         }
     }
 
@@ -340,7 +340,7 @@ impl DomainAlone {
         ensures keeps { KeepsSetting self.old self.new }
     {
         match self.place {
-            DomainPlace::Running { slot, answer } => self.answer_step(slot, answer, a),
+            DomainStage::Running { slot, answer } => self.answer_step(slot, answer, a),
             _ => self.fail(),
         }
     }
@@ -355,7 +355,7 @@ impl DomainAlone {
         match self.try_step(slot, Some(first), second) {
             Handing::Over => self.place = place_behind(a),
             Handing::Wants => {
-                self.place = DomainPlace::Running {
+                self.place = DomainStage::Running {
                     slot,
                     answer: Some(first),
                 }
@@ -370,7 +370,7 @@ impl DomainAlone {
         ensures keeps { KeepsSetting self.old self.new }
     {
         match self.place {
-            DomainPlace::Running { slot, answer } => match answer {
+            DomainStage::Running { slot, answer } => match answer {
                 None => self.interrupt(slot),
                 Some(_) => self.fail(),
             },
@@ -383,7 +383,7 @@ impl DomainAlone {
         ensures takes { TakesAs self.old self.new (timer_taken slot) }
         ensures keeps { KeepsSetting self.old self.new }
     {
-        self.place = DomainPlace::Done;
+        self.place = DomainStage::Done;
         if self.domain.context(slot).is_some() {
             self.domain.interrupt(slot);
         }
@@ -395,7 +395,7 @@ impl DomainAlone {
         ensures keeps { KeepsSetting self.old self.new }
     {
         match self.place {
-            DomainPlace::Other => {
+            DomainStage::Other => {
                 if ctx / 8 == self.side.domain {
                     self.resume(ctx % 8, answer);
                 } else {
@@ -414,11 +414,11 @@ impl DomainAlone {
         ensures keeps { KeepsSetting self.old self.new }
     {
         match self.place {
-            DomainPlace::Other => {
+            DomainStage::Other => {
                 let ended = self.domain.has_ended();
                 self.end_unless(ended);
             }
-            DomainPlace::Stopped => self.end(),
+            DomainStage::Stopped => self.end(),
             _ => self.fail(),
         }
     }
@@ -443,7 +443,7 @@ impl DomainAlone {
     {
         self.domain.end_all();
         self.side.end_pages();
-        self.place = DomainPlace::Done;
+        self.place = DomainStage::Done;
     }
 
     /// The context of a slot runs on the hart of the step, if it is there and runs on none.
@@ -454,19 +454,19 @@ impl DomainAlone {
     {
         let hart = HartId(self.hart());
         match self.domain.resume(slot, hart, answer) {
-            Ok(()) => self.place = DomainPlace::Done,
+            Ok(()) => self.place = DomainStage::Done,
             Err(_) => self.fail(),
         }
     }
 }
 
 /// Where the items stand after the last answer of a step.
-fn place_behind(a: Answer) -> DomainPlace
-    ensures { result ≡ (if spec.is_stopped a then DomainPlace.Stopped else DomainPlace.Done) }
+fn place_behind(a: Answer) -> DomainStage
+    ensures { result ≡ (if spec.is_stopped a then DomainStage.Stopped else DomainStage.Done) }
 {
     match a {
-        Answer::Stopped => DomainPlace::Stopped,
-        _ => DomainPlace::Done,
+        Answer::Stopped => DomainStage::Stopped,
+        _ => DomainStage::Done,
     }
 }
 

@@ -4,7 +4,7 @@ ghost use Rattle.cloak_model.specs.Contexts.{context_at};
 ghost use Rattle.cloak_model.specs.DomainAlone as spec;
 ghost use Rattle.cloak_model.specs.Resources.{page_at};
 
-use crate::domain::{DomainAlone, DomainPlace};
+use crate::domain::{DomainAlone, DomainStage};
 use cloak_base::PageId;
 use plain_pages::page_place;
 use thread_context::Context;
@@ -35,11 +35,11 @@ impl DomainAlone {
             StandsForDomain number schedule self.now s → s.unfit ≡ None → result ≡ running_in s.place }
     {
         match self.place {
-            DomainPlace::Running { slot, .. } => Some(slot),
-            DomainPlace::Between => None,
-            DomainPlace::Other => None,
-            DomainPlace::Done => None,
-            DomainPlace::Stopped => None,
+            DomainStage::Running { slot, .. } => Some(slot),
+            DomainStage::Between => None,
+            DomainStage::Other => None,
+            DomainStage::Done => None,
+            DomainStage::Stopped => None,
         }
     }
 

@@ -11,7 +11,7 @@ ghost use Rattle.io_traits.specs.Sinks.{PutsTo};
 ghost use Rattle.io_traits.specs.Told.{Counts};
 ghost use Rattle.alone_views.specs.KernelPlaces.{IsPlaceAmong};
 
-use crate::kernel_place::KernelPlace;
+use crate::kernel_place::KernelStage;
 use crate::kernel_ram::{FlatRam, load_segments};
 use crate::kernel_starting::start_harts;
 use crate::unfit::Unfit;
@@ -33,7 +33,7 @@ pub struct KernelAlone {
     pub(crate) schedule: Vec<u8>,
     /// The number of the last Step, 0 before the first.
     pub(crate) steps: u32,
-    pub(crate) place: KernelPlace,
+    pub(crate) place: KernelStage,
     /// The last step that was made halted.
     pub(crate) halted: bool,
     /// How the last plain step ended; before the first, as one that shows nothing.
@@ -68,7 +68,7 @@ impl KernelAlone {
             console: Console::new(),
             schedule,
             steps: 0,
-            place: KernelPlace::Between,
+            place: KernelStage::Between,
             halted: false,
             ending: Kernel::Stay,
             unfit: None,

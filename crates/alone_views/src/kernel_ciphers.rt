@@ -2,7 +2,7 @@
 ghost use Rattle.cloak_model.specs.KernelAlone as spec;
 
 use crate::kernel::KernelAlone;
-use crate::kernel_place::KernelPlace;
+use crate::kernel_place::KernelStage;
 
 impl KernelAlone {
     ghost use Rattle.alone_views.specs.KernelChanges.{ChangesTo};
@@ -23,10 +23,10 @@ impl KernelAlone {
         ensures { ChangesTo self.old self.new (λ s. spec.take_cipher s.place frame bytes.now s) }
     {
         match self.place {
-            KernelPlace::Between => self.show_cipher(frame, bytes),
-            KernelPlace::Outside { .. } => self.show_cipher(frame, bytes),
-            KernelPlace::Inside { .. } => self.show_cipher(frame, bytes),
-            KernelPlace::Left => self.refuse(),
+            KernelStage::Between => self.show_cipher(frame, bytes),
+            KernelStage::Outside { .. } => self.show_cipher(frame, bytes),
+            KernelStage::Inside { .. } => self.show_cipher(frame, bytes),
+            KernelStage::Left => self.refuse(),
         }
     }
 }

@@ -3,7 +3,7 @@ ghost use Rattle.std.specs.Prelude.{◌<◌, length};
 ghost use Rattle.cloak_model.specs.KernelAlone as spec;
 
 use crate::kernel::KernelAlone;
-use crate::kernel_place::KernelPlace;
+use crate::kernel_place::KernelStage;
 use cloak_base::Shown;
 use host_calls::leave;
 
@@ -18,7 +18,7 @@ impl KernelAlone {
         if shown.ctx == ctx {
             leave(&mut self.harts[hart], shown);
             self.ram.reservations.unmark(hart as u32);
-            self.place = KernelPlace::Left;
+            self.place = KernelStage::Left;
         } else {
             self.refuse();
         }
@@ -29,10 +29,10 @@ impl KernelAlone {
         ensures { ChangesTo self.old self.new (λ s. spec.take_leave s.place shown.now s) }
     {
         match self.place {
-            KernelPlace::Inside { hart, ctx } => self.leave_context(hart, ctx, shown),
-            KernelPlace::Between => self.refuse(),
-            KernelPlace::Outside { .. } => self.refuse(),
-            KernelPlace::Left => self.refuse(),
+            KernelStage::Inside { hart, ctx } => self.leave_context(hart, ctx, shown),
+            KernelStage::Between => self.refuse(),
+            KernelStage::Outside { .. } => self.refuse(),
+            KernelStage::Left => self.refuse(),
         }
     }
 }

@@ -3,7 +3,7 @@ ghost use Rattle.std.specs.Prelude.{◌≡◌, ◌≤◌, ℕ, List, length};
 ghost use Rattle.cloak_model.specs.KernelAlone as spec;
 
 use crate::kernel::KernelAlone;
-use crate::kernel_place::KernelPlace;
+use crate::kernel_place::KernelStage;
 use cloak_model::Kernel;
 use host_calls::Hart;
 
@@ -38,7 +38,7 @@ impl KernelAlone {
     }
 
     /// Where the items stand.
-    pub fn place(&self) -> KernelPlace
+    pub fn place(&self) -> KernelStage
         ensures { (turns : List ℕ) (s : spec.KernelAlone) → StandsForKernel self.now turns s →
             stood_place result ≡ s.place }
     {

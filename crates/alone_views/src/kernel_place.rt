@@ -1,6 +1,6 @@
 /// Where the items of a kernel that runs alone stand.
 #[derive(Clone, Copy)]
-pub enum KernelPlace {
+pub enum KernelStage {
     /// In no step: before the first Step, or after Close.
     Between,
     /// In a step of this hart, which is outside.

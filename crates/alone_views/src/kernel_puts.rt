@@ -4,7 +4,7 @@ ghost use Rattle.cloak_model.specs.Effect.{IsWidth};
 ghost use Rattle.cloak_model.specs.KernelAlone as spec;
 
 use crate::kernel::KernelAlone;
-use crate::kernel_place::KernelPlace;
+use crate::kernel_place::KernelStage;
 
 /// An access has this width.
 fn is_width(width: u32) -> bool
@@ -45,10 +45,10 @@ impl KernelAlone {
         ensures schedule { turns_of self.new ≡ turns_of self.old }
     {
         match self.place {
-            KernelPlace::Inside { .. } => self.store(address, width, value),
-            KernelPlace::Between => self.refuse(),
-            KernelPlace::Outside { .. } => self.refuse(),
-            KernelPlace::Left => self.refuse(),
+            KernelStage::Inside { .. } => self.store(address, width, value),
+            KernelStage::Between => self.refuse(),
+            KernelStage::Outside { .. } => self.refuse(),
+            KernelStage::Left => self.refuse(),
         }
     }
 }

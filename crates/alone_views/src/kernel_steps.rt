@@ -5,7 +5,7 @@ ghost use Rattle.cloak_model.specs.Exchange.{EmitsSome};
 ghost use Rattle.cloak_model.specs.KernelAlone as spec;
 
 use crate::kernel::KernelAlone;
-use crate::kernel_place::KernelPlace;
+use crate::kernel_place::KernelStage;
 use crate::kernel_showing::show;
 use cloak_model::Emit;
 use host_calls::{Kernel, kernel_step, tick};
@@ -35,7 +35,7 @@ impl KernelAlone {
         ensures schedule { turns_of self.new ≡ turns_of self.old }
     {
         let ending = kernel_step(&mut self.harts[hart], &mut self.disk, &mut self.ram);
-        self.place = KernelPlace::Between;
+        self.place = KernelStage::Between;
         self.halted = has_halted(ending);
         self.ending = ending;
         ending
@@ -64,10 +64,10 @@ impl KernelAlone {
         ensures emits_some { EmitsSome E.gave e.old e.new }
     {
         match self.place {
-            KernelPlace::Between => {}
-            KernelPlace::Outside { hart } => self.end_plainly(hart, e),
-            KernelPlace::Inside { .. } => self.place = KernelPlace::Between,
-            KernelPlace::Left => self.place = KernelPlace::Between,
+            KernelStage::Between => {}
+            KernelStage::Outside { hart } => self.end_plainly(hart, e),
+            KernelStage::Inside { .. } => self.place = KernelStage::Between,
+            KernelStage::Left => self.place = KernelStage::Between,
         }
     }
 
@@ -87,10 +87,10 @@ impl KernelAlone {
         ensures ending { ending_in self.new ≡ ending_in self.old }
     {
         match self.harts[hart].inside {
-            None => self.place = KernelPlace::Outside { hart },
+            None => self.place = KernelStage::Outside { hart },
             Some(ctx) => {
                 tick(&mut self.harts[hart]);
-                self.place = KernelPlace::Inside { hart, ctx };
+                self.place = KernelStage::Inside { hart, ctx };
             }
         }
     }

@@ -31,6 +31,6 @@ mod unfit;
 pub use asked::AskedAccess;
 pub use domain::DomainAlone;
 pub use kernel::KernelAlone;
-pub use kernel_place::KernelPlace;
+pub use kernel_place::KernelStage;
 pub use kernel_ram::FlatRam;
 pub use unfit::Unfit;

@@ -15,7 +15,7 @@ use Rattle.cloak_model.specs.Contexts.{domain_of, slot_of}
 use Rattle.cloak_model.specs.DomainState.{Domain}
 use Rattle.cloak_model.specs.DomainStep.{domain_script, domain_step, DomainStepped, interrupt, resume_slot}
 use Rattle.cloak_model.specs.DomainAlone as alone
-use Rattle.cloak_model.specs.DomainAlone.{DomainAlone, DomainPlace, Between, Other, Running, Done, Stopped, Over, Wants, tried, try_with, handed_of, is_stopped, domain_taken, take_domain_item, domain_takes, take_domain_step, domain_step_ended, domain_step_begun, slot_on, place_for, take_answer, answered_by, made_by, take_timer, take_resume, resumed_by, is_granted, with_control}
+use Rattle.cloak_model.specs.DomainAlone.{DomainAlone, DomainStage, Between, Other, Running, Done, Stopped, Over, Wants, tried, try_with, handed_of, is_stopped, domain_taken, take_domain_item, domain_takes, take_domain_step, domain_step_ended, domain_step_begun, slot_on, place_for, take_answer, answered_by, made_by, take_timer, take_resume, resumed_by, is_granted, with_control}
 use Rattle.cloak_model.specs.Script.{played}
 use Rattle.script_fold.proofs.StepScripts.{step_scripted}
 use Rattle.domain_isolation.proofs.Answers.{alone_with, IsServing}
@@ -23,7 +23,7 @@ use Rattle.domain_isolation.proofs.Played.{answers_of, answer_items, last_stoppe
 use Rattle.domain_isolation.proofs.Ignoring.{item_taken}
 
 -- the machine alone with this part, at this place, with no item unfit
-abbrev pub alone_at : DomainPart → ℕ → DomainPlace → DomainAlone
+abbrev pub alone_at : DomainPart → ℕ → DomainStage → DomainAlone
 alone_at p n place = record { part = p; steps = n; place = place; unfit = None }
 
 -- the step that is open has ended
@@ -33,7 +33,7 @@ ended s = domain_step_ended s.place s
 -- It has this part, and is between two steps, unless the run was stopped.
 pub record RestsAt (s : DomainAlone) (p : DomainPart) (stops : Bool) : Type 0 where
   pub steps : ℕ
-  pub place : DomainPlace
+  pub place : DomainStage
   pub is : s ≡ alone_at p steps place
   pub between : stops ≡ false → place ≡ Between
 
@@ -62,19 +62,19 @@ unfolding made_by
 made_fits (Over p) s fits = fits
 made_fits _ s fits = absurd cc
 
-ended_fits : (place : DomainPlace) (s : DomainAlone) → (domain_step_ended place s).unfit ≡ None → s.unfit ≡ None
+ended_fits : (place : DomainStage) (s : DomainAlone) → (domain_step_ended place s).unfit ≡ None → s.unfit ≡ None
 unfolding domain_step_ended
 ended_fits (Running slot answers) s fits = made_fits (try_with slot answers s.part) s fits
 ended_fits _ s fits = fits
 
-step_again : (schedule : List ℕ) (k : ℕ) (place : DomainPlace) (s : DomainAlone) → s.place ≡ place →
+step_again : (schedule : List ℕ) (k : ℕ) (place : DomainStage) (s : DomainAlone) → s.place ≡ place →
     (domain_step_ended place s).place ≡ Between →
     take_domain_step schedule k place s ≡ take_domain_step schedule k (domain_step_ended place s).place
     (domain_step_ended place s)
 unfolding domain_step_ended take_domain_step
-step_again schedule k Between s is rests = ap (λ (place : DomainPlace). take_domain_step schedule k place s) (sym rests)
+step_again schedule k Between s is rests = ap (λ (place : DomainStage). take_domain_step schedule k place s) (sym rests)
 step_again schedule k (Running slot answers) s is rests =
-    ap (λ (place : DomainPlace). take_domain_step schedule k place (made_by (try_with slot answers s.part) s))
+    ap (λ (place : DomainStage). take_domain_step schedule k place (made_by (try_with slot answers s.part) s))
     (sym rests)
 step_again schedule k Stopped s is rests = absurd (let clash : Stopped ≡ Between = sym is ∙ rests in cc)
 step_again schedule k _ s is rests = refl

@@ -10,7 +10,7 @@ use Rattle.cloak_model.specs.declared.item.Item.TheVariants as item
 use Rattle.cloak_model.specs.AskPages.{ask_forget}
 use Rattle.cloak_model.specs.Cloaking.{CloakedMemory}
 use Rattle.cloak_model.specs.Contexts.{domain_of}
-use Rattle.cloak_model.specs.DomainAlone.{DomainAlone, DomainPlace, Between, Other, Done, Stopped, handed_of, domain_taken, take_domain_item, domain_takes, take_ended, ended_part, domain_gone, domain_step_ended, slot_on, place_for}
+use Rattle.cloak_model.specs.DomainAlone.{DomainAlone, DomainStage, Between, Other, Done, Stopped, handed_of, domain_taken, take_domain_item, domain_takes, take_ended, ended_part, domain_gone, domain_step_ended, slot_on, place_for}
 use Rattle.cloak_model.specs.DomainState.{Domain}
 use Rattle.cloak_model.specs.Ending.{settled_for, ask_end, cloak_for, handed_for, ended_domain}
 use Rattle.cloak_model.specs.Fork.{forget_each}
@@ -103,7 +103,7 @@ end_half d e m =
     ∙ ap (λ (l : List Item). l ++ (if e == d then item.Ended e ∷ [] else [])) ((end_leaves e m).items d)
 
 -- the program takes the end
-open_taken : (d : ℕ) (schedule : List ℕ) (part : DomainPart) (steps : ℕ) (place : DomainPlace) →
+open_taken : (d : ℕ) (schedule : List ℕ) (part : DomainPart) (steps : ℕ) (place : DomainStage) →
     (take_ended d part.domain.control.ended place (alone_at part steps place) ≡ domain_gone d (alone_at part steps place)) →
     domain_taken d schedule (alone_at part steps place) (item.Ended d ∷ []) ≡ alone_at (ended_part d part) steps Done
 unfolding domain_taken take_domain_item domain_takes
@@ -205,7 +205,7 @@ all_append (i ∷ a) b here there = (here.0, all_append a b here.1 there)
 -- its own end
 end_own : (d count : ℕ) (schedule : List ℕ) (k hart : ℕ) (p : DomainPart) (inside : Option ℕ) (t : Turn)
     (old : Domain) (v : Violation) → slice_get t.joint.domains d ≡ Some old →
-    (step : StepAlone d count schedule k hart p inside t) (steps : ℕ) (place : DomainPlace) →
+    (step : StepAlone d count schedule k hart p inside t) (steps : ℕ) (place : DomainStage) →
     read_by d schedule k hart p t ≡ alone_at step.part steps place →
     take_ended d step.part.domain.control.ended place (alone_at step.part steps place)
     ≡ domain_gone d (alone_at step.part steps place) →

@@ -6,7 +6,7 @@ use Rattle.std.proofs.lemmas.List.{get_or_default}
 use Rattle.std.proofs.lemmas.List.Sums.{get_or-le-sum_by}
 use Rattle.cloak_model.specs.declared.context.Phase.{Phase}
 use Rattle.cloak_model.specs.declared.context.Phase.TheVariants.{Plain, CopyIn, Waiting, CopyOut}
-use Rattle.cloak_model.specs.declared.context.WordPlace.{WordPlace}
+use Rattle.cloak_model.specs.declared.context.PageWord.{PageWord}
 use Rattle.cloak_model.specs.declared.resource.Owner.{Owner}
 use Rattle.cloak_model.specs.declared.resource.Owner.TheVariants.{Space, File}
 use Rattle.cloak_model.specs.declared.resource.Resource.{Resource}
@@ -37,7 +37,7 @@ phase_words regs (CopyIn done) is = omega (arith, is.part, is.call.few)
 phase_words regs Waiting is = tt
 phase_words regs (CopyOut done total) is = (omega (arith, is.part, is.whole, is.call.few), omega (arith, is.whole, is.call.few))
 
-mark_words : (mark : Option WordPlace) → IfSome mark IsWordPlace → HasMarkWords mark
+mark_words : (mark : Option PageWord) → IfSome mark IsWordPlace → HasMarkWords mark
 mark_words None is = tt
 mark_words (Some place) is = record {
   resource = omega (arith, is.resource);

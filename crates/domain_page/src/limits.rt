@@ -8,7 +8,7 @@ ghost use Rattle.frozen_state.specs.Limits.{IsCall, IsCopyIn, IsCopyOut, IsPhase
 ghost use Rattle.frozen_state.specs.Words.{AreWords, HasContextWords, HasSlotWords, HasOwnerWord, AreFileWords};
 
 use cloak_base::{HartId, Regs};
-use cloak_model::{Owner, Phase, WordPlace};
+use cloak_model::{Owner, Phase, PageWord};
 use resource_map::Resources;
 use thread_context::Context;
 
@@ -66,13 +66,13 @@ fn waits_on_no_hart(phase: &Phase, on: Option<HartId>) -> bool
     }
 }
 
-fn is_word_place(place: WordPlace) -> bool
+fn is_word_place(place: PageWord) -> bool
     ensures { IsTrue result ↔ IsWordPlace place }
 {
     place.resource < 16 && place.page < 1024 && place.at < 4096 && place.at % 4 == 0
 }
 
-fn is_mark(mark: Option<WordPlace>) -> bool
+fn is_mark(mark: Option<PageWord>) -> bool
     ensures { IsTrue result ↔ IfSome mark IsWordPlace }
 {
     match mark {

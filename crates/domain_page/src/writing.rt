@@ -9,7 +9,7 @@ ghost use Rattle.frozen_state.specs.DomainPage as page;
 ghost use Rattle.domain_page.specs.Writing.{Appends, HasHart, IsOnHart, told_bytes, state_of};
 
 use cloak_base::HartId;
-use cloak_model::{Owner, Phase, Region, WordPlace};
+use cloak_model::{Owner, Phase, Region, PageWord};
 use resource_map::Resources;
 use thread_context::{Context, Contexts};
 
@@ -191,7 +191,7 @@ fn put_resources(into: &mut [u8; 4096], at: usize, r: &Resources) -> usize
 }
 
 /// Writes a reservation, in 13 bytes at most: 0 if there is none.
-fn put_mark(into: &mut [u8; 4096], at: usize, mark: Option<WordPlace>) -> usize
+fn put_mark(into: &mut [u8; 4096], at: usize, mark: Option<PageWord>) -> usize
     requires { at + 13 ≤ 4096 }
     ensures written { Appends into.old into.new at result (page.mark_bytes mark) }
     ensures few { result ≤ at + 13 }
@@ -206,7 +206,7 @@ fn put_mark(into: &mut [u8; 4096], at: usize, mark: Option<WordPlace>) -> usize
 }
 
 /// The reservation of a slot. A free slot has none.
-fn mark_of(slot: &Option<Context>) -> Option<WordPlace>
+fn mark_of(slot: &Option<Context>) -> Option<PageWord>
     ensures { page.mark_bytes result ≡ page.slot_mark_bytes slot.now }
 {
     match slot {

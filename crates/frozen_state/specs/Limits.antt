@@ -7,7 +7,7 @@ use Rattle.cloak_base.specs.declared.names.PageId.{PageId}
 use Rattle.cloak_base.specs.declared.names.SpaceId.{SpaceId}
 use Rattle.cloak_model.specs.declared.context.Phase.{Phase}
 use Rattle.cloak_model.specs.declared.context.Phase.TheVariants.{Plain, CopyIn, Waiting, CopyOut}
-use Rattle.cloak_model.specs.declared.context.WordPlace.{WordPlace}
+use Rattle.cloak_model.specs.declared.context.PageWord.{PageWord}
 use Rattle.cloak_model.specs.declared.resource.Region.{Region}
 use Rattle.cloak_model.specs.Contexts.{Context, context_at}
 use Rattle.cloak_model.specs.DomainState.{Control, Domain}
@@ -53,7 +53,7 @@ WaitsOnNoHart (CopyOut done total) on = Unit {0}
 
 -- The place of a word in a page that a program can have: there are 16 numbers of resources, and a resource has 1024
 -- pages at most.
-pub record IsWordPlace (place : WordPlace) : Type 0 where
+pub record IsWordPlace (place : PageWord) : Type 0 where
   pub resource : place.resource < 16
   pub page : place.page < 1024
   pub inside : place.at < 4096

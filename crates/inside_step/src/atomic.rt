@@ -15,7 +15,7 @@ ghost use Rattle.cloak_model.specs.Script.{played};
 
 use crate::instruction::{go_on_with, loaded};
 use cloak_base::{Kind, PageId};
-use cloak_model::{Answer, PageSide, Ran, WordPlace};
+use cloak_model::{Answer, PageSide, Ran, PageWord};
 use resource_map::{Resources, page_at};
 use rv_atomic::{Atomic, AtomicOp, combine, decode_atomic};
 use thread_context::{Context, is_reserved, word_of_page};
@@ -60,7 +60,7 @@ fn store_conditional<M: PageSide>(
     va: u32,
     operand: u32,
     m: &mut M,
-    wrote: &mut Option<WordPlace>,
+    wrote: &mut Option<PageWord>,
 ) -> Ran
     requires nothing_yet { wrote.old ≡ None }
     requires register { rd < 32 }
@@ -95,7 +95,7 @@ fn operate<M: PageSide>(
     va: u32,
     operand: u32,
     m: &mut M,
-    wrote: &mut Option<WordPlace>,
+    wrote: &mut Option<PageWord>,
 ) -> Ran
     requires nothing_yet { wrote.old ≡ None }
     requires register { rd < 32 }
@@ -126,7 +126,7 @@ fn granted<M: PageSide>(
     va: u32,
     operand: u32,
     m: &mut M,
-    wrote: &mut Option<WordPlace>,
+    wrote: &mut Option<PageWord>,
     reserved: &mut bool,
 ) -> Ran
     requires nothing_yet { wrote.old ≡ None }
@@ -163,7 +163,7 @@ fn placed<M: PageSide>(
     va: u32,
     operand: u32,
     m: &mut M,
-    wrote: &mut Option<WordPlace>,
+    wrote: &mut Option<PageWord>,
     reserved: &mut bool,
 ) -> Ran
     requires nothing_yet { wrote.old ≡ None }
@@ -198,7 +198,7 @@ fn atomic_step<M: PageSide>(
     domain: u32,
     a: &Option<Atomic>,
     m: &mut M,
-    wrote: &mut Option<WordPlace>,
+    wrote: &mut Option<PageWord>,
     reserved: &mut bool,
 ) -> Ran
     requires nothing_yet { wrote.old ≡ None }
@@ -237,7 +237,7 @@ fn make_atomic<M: PageSide>(
     domain: u32,
     word: u32,
     m: &mut M,
-    wrote: &mut Option<WordPlace>,
+    wrote: &mut Option<PageWord>,
     reserved: &mut bool,
     ended: &mut Ran,
 )
@@ -262,7 +262,7 @@ pub(crate) fn atomic_word<M: PageSide>(
     domain: u32,
     word: u32,
     m: &mut M,
-    wrote: &mut Option<WordPlace>,
+    wrote: &mut Option<PageWord>,
     reserved: &mut bool,
 ) -> Ran
     requires nothing_yet { wrote.old ≡ None }

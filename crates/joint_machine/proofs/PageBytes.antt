@@ -11,7 +11,7 @@ use Rattle.cloak_model.specs.DomainState.{Control, hart_byte, owner_bytes, phase
 use Rattle.cloak_model.specs.Resources.{Resources, regions_in}
 use Rattle.cloak_model.specs.declared.context.Phase.{Phase}
 use Rattle.cloak_model.specs.declared.context.Phase.TheVariants.{Plain, CopyIn, Waiting, CopyOut}
-use Rattle.cloak_model.specs.declared.context.WordPlace.{WordPlace}
+use Rattle.cloak_model.specs.declared.context.PageWord.{PageWord}
 use Rattle.cloak_model.specs.declared.resource.Owner.{Owner}
 use Rattle.cloak_model.specs.declared.resource.Owner.TheVariants.{Space, File}
 use Rattle.cloak_model.specs.declared.resource.Region.{Region}
@@ -91,7 +91,7 @@ slot_short r (Some c) fits =
     (joined 4 128 (word c.space) _ (word_short c.space)
     (joined 4 124 (word c.pc) _ (word_short c.pc) last))))
 
-mark_short : (mark : Option WordPlace) → Short 13 (mark_bytes mark)
+mark_short : (mark : Option PageWord) → Short 13 (mark_bytes mark)
 mark_short None = wider 1 13 (0 ∷ []) (omega arith) (one_more 0 0 [] (omega arith) none)
 mark_short (Some place) =
     one_more 12 1 _ (omega arith) (joined 4 8 (word place.resource) _ (word_short place.resource)

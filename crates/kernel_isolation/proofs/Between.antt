@@ -2,7 +2,7 @@
 use Rattle.std.proofs.Common.{◌≡◌, ◌∙◌, ℕ, suc, ◌-◌, ◌%◌, Bool, false, List, ◌∷◌, length, slice_index, None, refl, sym, ap, subst}
 use Rattle.cloak_model.specs.declared.item.Item.{Item}
 use Rattle.cloak_model.specs.declared.item.Item.TheVariants as item
-use Rattle.cloak_model.specs.KernelAlone.{KernelAlone, KernelPlace, Between, Outside, kernel_takes, take_kernel_item, take_kernel_step, kernel_step_ended, plain_step, kernel_taken}
+use Rattle.cloak_model.specs.KernelAlone.{KernelAlone, KernelStage, Between, Outside, kernel_takes, take_kernel_item, take_kernel_step, kernel_step_ended, plain_step, kernel_taken}
 use Rattle.cloak_model.specs.Parts.{KernelPart}
 use Rattle.kernel_isolation.proofs.Ignoring.{taken_fit}
 
@@ -31,12 +31,12 @@ hart_behind schedule n = slice_index schedule ((suc n - 1) % length schedule)
 
 -- The end of a step.
 
-pub ended_unfit : (p : KernelPlace) (s : KernelAlone) → (kernel_step_ended p s).unfit ≡ s.unfit
+pub ended_unfit : (p : KernelStage) (s : KernelAlone) → (kernel_step_ended p s).unfit ≡ s.unfit
 unfolding kernel_step_ended plain_step
 ended_unfit (Outside number) s = refl
 ended_unfit _ s = refl
 
-pub ended_between : (p : KernelPlace) (s : KernelAlone) → p ≡ Between → kernel_step_ended p s ≡ s
+pub ended_between : (p : KernelStage) (s : KernelAlone) → p ≡ Between → kernel_step_ended p s ≡ s
 unfolding kernel_step_ended
 ended_between Between s e = refl
 ended_between _ s e = absurd cc

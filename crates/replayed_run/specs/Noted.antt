@@ -35,14 +35,14 @@ asked_by hart (outcome.Put byte) = None
 asked_by hart (outcome.Halt value) = None
 
 -- by how the plain step of the hart that is outside ends
-abbrev pub asked_from : model.KernelPlace → (ℕ → Kernel) → Option Asking
+abbrev pub asked_from : model.KernelStage → (ℕ → Kernel) → Option Asking
 asked_from (model.Outside hart) ends = asked_by hart (ends hart)
 asked_from model.Between ends = None
 asked_from (model.Inside hart ctx) ends = None
 asked_from model.Left ends = None
 
 -- unless a context was resumed in the step
-abbrev pub asked_unless : Bool → model.KernelPlace → Kernel → Option Asking
+abbrev pub asked_unless : Bool → model.KernelStage → Kernel → Option Asking
 asked_unless resumed place ending = if resumed then None else asked_from place (λ hart. ending)
 
 -- It asks for one as the step that is open ends, and the step has no resume.
@@ -63,7 +63,7 @@ is_left b items space (suc n) =
     is_left b items space n && not (is_in_space space (standing_told b items (space / 8 * 8 + n)))
 
 -- a hart that is outside resumed a context, which is there
-abbrev pub resume_noted : Notes → ℕ → model.KernelPlace → model.KernelAlone → Option StandingContext → ToldContexts
+abbrev pub resume_noted : Notes → ℕ → model.KernelStage → model.KernelAlone → Option StandingContext → ToldContexts
 resume_noted n ctx (model.Outside hart) s (Some c) =
     resumed_at n.contexts ctx c.space (words_of (kernel_hart s.kernel hart)).satp n.step
 resume_noted n ctx (model.Outside hart) s None = n.contexts

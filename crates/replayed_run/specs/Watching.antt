@@ -32,7 +32,7 @@ WatchTakes b items i w (Ok a) = Watches b (items ++ i ∷ []) w
 WatchTakes b items i w (Err unfit) = IsUnfitAlone b (items ++ i ∷ []) unfit.step
 
 -- The machines took an item, before which the kernel alone was at this place.
-pub record WatchTook (b : Bundle) (items : List Item) (i : Item) (at : model.KernelPlace) (w : Watch) : Type 0 where
+pub record WatchTook (b : Bundle) (items : List Item) (i : Item) (at : model.KernelStage) (w : Watch) : Type 0 where
   pub took : TookItem b items i w.machines
   pub place : (kernel_alone b.kernel items).place ≡ at
 

@@ -14,7 +14,7 @@ ghost use Rattle.replayed_run.specs.Machines.{ProgramsStand, ProgramsTake, Stand
 use crate::frames::{PresentedPage, Tables, frame_at, tables_of};
 use crate::questions::access_in;
 use crate::silent::Silent;
-use alone_views::{AskedAccess, DomainAlone, KernelAlone, KernelPlace, Unfit};
+use alone_views::{AskedAccess, DomainAlone, KernelAlone, KernelStage, Unfit};
 use cloak_base::{HartId, Kind, Mode, NoMemory, PageId};
 use cloak_model::{Bundle, Item};
 use host_calls::Hart;
@@ -105,7 +105,7 @@ impl Machines {
     }
 
     /// Where the items of the kernel stand.
-    pub fn place(&self) -> KernelPlace
+    pub fn place(&self) -> KernelStage
         ensures { (b : Bundle) (items : List Item) → StandAlone b items self.now →
             stood_place result ≡ (kernel_alone b.kernel items).place }
     {
@@ -150,10 +150,10 @@ impl Machines {
             result ≡ leading.tables_in (kernel_alone b.kernel items) }
     {
         match self.place() {
-            KernelPlace::Outside { hart } => self.tables_at(hart),
-            KernelPlace::Inside { hart, .. } => self.tables_at(hart),
-            KernelPlace::Between => None,
-            KernelPlace::Left => None,
+            KernelStage::Outside { hart } => self.tables_at(hart),
+            KernelStage::Inside { hart, .. } => self.tables_at(hart),
+            KernelStage::Between => None,
+            KernelStage::Left => None,
         }
     }
 

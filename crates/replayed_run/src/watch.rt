@@ -26,7 +26,7 @@ use crate::machines::{HartWords, Machines, StandingContext};
 use crate::notes::{Asking, Notes, asked_from};
 use crate::pages::{Pages, Showing};
 use crate::questions::Questions;
-use alone_views::{AskedAccess, KernelPlace, Unfit};
+use alone_views::{AskedAccess, KernelStage, Unfit};
 use cloak_base::{Kind, NoMemory};
 use cloak_model::{Bundle, Item};
 use host_calls::Hart;
@@ -78,7 +78,7 @@ impl Watch {
     }
 
     /// Where the items of the kernel stand.
-    pub fn place(&self) -> KernelPlace
+    pub fn place(&self) -> KernelStage
         ensures { (b : Bundle) (items : List Item) → Watches b items self.now →
             stood_place result ≡ (kernel_alone b.kernel items).place }
     {
@@ -210,7 +210,7 @@ impl Watch {
         ensures pages { self.new.pages ≡ self.old.pages }
     {
         self.notes.has_resumed = true;
-        if let KernelPlace::Outside { hart } = self.machines.place() {
+        if let KernelStage::Outside { hart } = self.machines.place() {
             if let Some(context) = self.context(ctx) {
                 let satp = self.machines.words_of(hart).satp;
                 let step = self.notes.step;
@@ -237,7 +237,7 @@ impl Watch {
     }
 
     /// A step ended, before which the kernel was at this place.
-    fn note_end(&mut self, place: KernelPlace)
+    fn note_end(&mut self, place: KernelStage)
         ensures notes { self.new.notes ≡ record self.old.notes {
           asked = noted.asked_unless self.old.notes.has_resumed (stood_place place) self.old.machines.kernel.ending;
         } }
@@ -262,7 +262,7 @@ impl Watch {
     }
 
     /// Notes an item that the machines took, before which the kernel was at this place.
-    fn note(&mut self, place: KernelPlace, item: &Item)
+    fn note(&mut self, place: KernelStage, item: &Item)
         ensures notes { (b : Bundle) (items : List Item) → WatchTook b items item.now (stood_place place) self.old →
             self.new.notes ≡ notes_after b items (items ++ item.now ∷ []) self.old.notes item.now }
         ensures machines { self.new.machines ≡ self.old.machines }

@@ -66,7 +66,7 @@ page_before : (ctx n m : ℕ) (p : Option Presented) → n < m → StandsAfter n
 page_before ctx n m None less is = tt
 page_before ctx n m (Some p) less is = omega (arith, is, less)
 
-question_before : (place : model.KernelPlace) (n m : ℕ) (presented : ℕ → ℕ → Option Presented) → n < m →
+question_before : (place : model.KernelStage) (n m : ℕ) (presented : ℕ → ℕ → Option Presented) → n < m →
     ((hart ctx : ℕ) → StandsAfter n (presented hart ctx)) → IsBefore m (question_due place presented)
 question_before (model.Inside hart ctx) n m presented less is =
     page_before ctx n m (presented hart ctx) less (is hart ctx)
@@ -102,7 +102,7 @@ resume_before b items notes d n hart w =
     let why = refused_for notes w.ctx w.satp (standing_told b items w.ctx) in
     if_before (domain_of w.ctx == d) (due_for asking why) n (asked_before asking why n)
 
-at_before : (b : Bundle) (items : List Item) (notes : Notes) (due : Due) (d n : ℕ) (place : model.KernelPlace) →
+at_before : (b : Bundle) (items : List Item) (notes : Notes) (due : Due) (d n : ℕ) (place : model.KernelStage) →
     IsBefore n due → IsBefore n (due_at b items notes due d place)
 at_before b items notes due d n (model.Outside hart) is =
     resume_before b items notes d n hart (words_of (kernel_hart (kernel_alone b.kernel items).kernel hart))

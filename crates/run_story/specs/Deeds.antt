@@ -146,7 +146,7 @@ hart_events p step hart None was now = []
 hart_events p step hart (Some h) was now = step_events p step hart (disk_call was.ram h) was now
 
 -- a hart that is outside made its step
-abbrev pub made_events : Presented → ℕ → model.KernelPlace → KernelPart → KernelPart → List PageEvent
+abbrev pub made_events : Presented → ℕ → model.KernelStage → KernelPart → KernelPart → List PageEvent
 made_events p step (model.Outside hart) was now = hart_events p step hart (slice_get was.harts hart) was now
 made_events p step model.Between was now = []
 made_events p step (model.Inside hart ctx) was now = []

@@ -102,7 +102,7 @@ own_due d (Resume asking why) = Nothing
 own_due d Nothing = Nothing
 
 -- By what a program of this number ends, if it does after these items.
-abbrev pub due_at : Bundle → List Item → Notes → Due → ℕ → model.KernelPlace → Due
+abbrev pub due_at : Bundle → List Item → Notes → Due → ℕ → model.KernelStage → Due
 due_at b items n due d (model.Outside hart) =
     resume_due b items n d hart (words_of (kernel_hart (kernel_alone b.kernel items).kernel hart))
 due_at b items n due d model.Between = own_due d due
@@ -120,7 +120,7 @@ page_due ctx None = Question ctx
 page_due ctx (Some p) = Page p
 
 -- it was one of the context that runs
-abbrev pub question_due : model.KernelPlace → (ℕ → ℕ → Option Presented) → Due
+abbrev pub question_due : model.KernelStage → (ℕ → ℕ → Option Presented) → Due
 question_due (model.Inside hart ctx) presented = page_due ctx (presented hart ctx)
 question_due (model.Outside hart) presented = Nothing
 question_due model.Between presented = Nothing

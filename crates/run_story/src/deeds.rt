@@ -15,7 +15,7 @@ ghost use Rattle.run_story.specs.declared.deeds.PageEvent.{PageEvent};
 ghost use Rattle.run_story.specs.declared.presented.Presented.{Presented};
 
 use crate::presented::Presented;
-use alone_views::KernelPlace;
+use alone_views::KernelStage;
 use cloak_base::{NoMemory, PageId};
 use cloak_model::Item;
 use host_calls::Hart;
@@ -428,10 +428,10 @@ impl Deeds {
         ensures same { KeepsDeeds self.old self.new }
     {
         match watch.place() {
-            KernelPlace::Outside { hart } => self.hart_ahead(watch, hart),
-            KernelPlace::Between => None,
-            KernelPlace::Inside { .. } => None,
-            KernelPlace::Left => None,
+            KernelStage::Outside { hart } => self.hart_ahead(watch, hart),
+            KernelStage::Between => None,
+            KernelStage::Inside { .. } => None,
+            KernelStage::Left => None,
         }
     }
 

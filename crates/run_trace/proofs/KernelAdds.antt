@@ -35,7 +35,7 @@ if_chosen true o P p = p
 if_chosen false o P p = tt
 
 -- the step that was open ended as the machine tells
-pub ended_as : (c : TraceChoice) (machine : KernelAlone) (s : model.KernelAlone) (place : model.KernelPlace) →
+pub ended_as : (c : TraceChoice) (machine : KernelAlone) (s : model.KernelAlone) (place : model.KernelStage) →
     s.place ≡ place → ((number : ℕ) → s.place ≡ model.Outside number → ending_in machine ≡ plain_ending number s) →
     EndedAs (open_at c place s) machine s
 ended_as c machine s (model.Outside number) at ends = if_chosen (has_step c s.steps (Some number))
@@ -127,11 +127,11 @@ adds_none {E} {gave} {e} {e'} {old} {new} {now} {given} c turns s i no_end inwar
 
 -- The step that is open.
 
-pub open_of : (c : TraceChoice) (machine : KernelAlone) (turns : List ℕ) (s : model.KernelAlone) (place : model.KernelPlace)
+pub open_of : (c : TraceChoice) (machine : KernelAlone) (turns : List ℕ) (s : model.KernelAlone) (place : model.KernelStage)
     (o : Option OpenStep) → stood_place machine.place ≡ place → StandsForKernel machine turns s → o ≡ open_at c place s →
     o ≡ open_step c s
 open_of c machine turns s place o is stands at =
-    at ∙ ap (λ (p : model.KernelPlace). open_at c p s) (sym is ∙ sym (ap (λ (t : model.KernelAlone). t.place) stands.state))
+    at ∙ ap (λ (p : model.KernelStage). open_at c p s) (sym is ∙ sym (ap (λ (t : model.KernelAlone). t.place) stands.state))
 
 -- the step of this hart, if it is chosen
 is_chosen : (c : TraceChoice) (s : model.KernelAlone) (hart step : ℕ) (b truth : Bool) → step ≡ s.steps →

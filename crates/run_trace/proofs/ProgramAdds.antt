@@ -88,7 +88,7 @@ adds_step {old} {new} {now} {given} c d turns s i o made other takes is told put
     }
 
 -- an item that was unfit made no step
-pub none_made : (u : Option ℕ) (place : model.DomainPlace) (i : Item) → false ≡ is_none u → false ≡ is_made u place i
+pub none_made : (u : Option ℕ) (place : model.DomainStage) (i : Item) → false ≡ is_none u → false ≡ is_made u place i
 none_made None place i is = absurd (let clash : false ≡ true = is in cc)
 none_made (Some step) place i is = refl
 
@@ -96,13 +96,13 @@ pub none_fit : (u : Option ℕ) → true ≡ is_none u → u ≡ None
 none_fit None is = refl
 none_fit (Some step) is = absurd (let clash : true ≡ false = is in cc)
 
-pub made_fit : (u : Option ℕ) (place : model.DomainPlace) (i : Item) → true ≡ is_none u →
+pub made_fit : (u : Option ℕ) (place : model.DomainStage) (i : Item) → true ≡ is_none u →
     is_end i || is_none (running_in place) ≡ is_made u place i
 made_fit None place i is = refl
 made_fit (Some step) place i is = absurd (let clash : true ≡ false = is in cc)
 
 -- with an item that made one none was unfit
-pub fit_by_made : (u : Option ℕ) (place : model.DomainPlace) (i : Item) → true ≡ is_made u place i → u ≡ None
+pub fit_by_made : (u : Option ℕ) (place : model.DomainStage) (i : Item) → true ≡ is_made u place i → u ≡ None
 fit_by_made None place i is = refl
 fit_by_made (Some step) place i is = absurd (let clash : true ≡ false = is in cc)
 

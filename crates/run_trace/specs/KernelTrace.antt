@@ -14,7 +14,7 @@ use Rattle.run_trace.specs.declared.choice.TraceChoice.{TraceChoice}
 use Rattle.run_trace.specs.declared.kernel_side.OpenStep.{OpenStep}
 
 -- The step of a hart outside that is open, if it is chosen: what the hart is about to do.
-abbrev pub open_at : TraceChoice → model.KernelPlace → model.KernelAlone → Option OpenStep
+abbrev pub open_at : TraceChoice → model.KernelStage → model.KernelAlone → Option OpenStep
 open_at c (model.Outside number) s =
     if has_step c s.steps (Some number)
     then Some (record { step = s.steps; hart = number; ahead = ahead_of s.kernel.ram (kernel_hart s.kernel number) })
@@ -38,7 +38,7 @@ abbrev pub ended_step : TraceChoice → model.KernelAlone → model.KernelAlone 
 ended_step c s next = made_line (open_step c s) s next
 
 -- the hart in whose step the items stand
-abbrev pub hart_there : model.KernelPlace → Option ℕ
+abbrev pub hart_there : model.KernelStage → Option ℕ
 hart_there (model.Outside number) = Some number
 hart_there (model.Inside number ctx) = Some number
 hart_there model.Between = None

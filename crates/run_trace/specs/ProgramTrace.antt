@@ -150,7 +150,7 @@ made_context (Some o) next i =
     (value_after next.part o.space o.ahead.reached)
 
 -- the step was made: it has its items, or it ended without one
-abbrev pub is_made : Option ℕ → model.DomainPlace → Item → Bool
+abbrev pub is_made : Option ℕ → model.DomainStage → Item → Bool
 is_made None place i = is_end i || is_none (running_in place)
 is_made (Some unfit) place i = false
 

@@ -16,7 +16,7 @@ ghost use Rattle.run_trace.specs.Tracing.{AddsItem, EndedAs};
 
 use crate::choice::TraceChoice;
 use crate::silent::Silence;
-use alone_views::{KernelAlone, KernelPlace, Unfit};
+use alone_views::{KernelAlone, KernelStage, Unfit};
 use cloak_model::Item;
 use host_calls::Hart;
 use io_traits::Sink;
@@ -81,10 +81,10 @@ fn open_step(kernel: &KernelAlone, choice: &TraceChoice) -> Option<OpenStep>
         result ≡ spec.open_step choice.now s }
 {
     match kernel.place() {
-        KernelPlace::Outside { hart } => open_at(kernel, choice, hart),
-        KernelPlace::Between => None,
-        KernelPlace::Inside { .. } => None,
-        KernelPlace::Left => None,
+        KernelStage::Outside { hart } => open_at(kernel, choice, hart),
+        KernelStage::Between => None,
+        KernelStage::Inside { .. } => None,
+        KernelStage::Left => None,
     }
 }
 
@@ -137,14 +137,14 @@ fn trace_marker<O: Sink>(
 }
 
 /// The hart in whose step the items stand.
-fn hart_there(place: KernelPlace) -> Option<usize>
+fn hart_there(place: KernelStage) -> Option<usize>
     ensures { result ≡ spec.hart_there (stood_place place) }
 {
     match place {
-        KernelPlace::Outside { hart } => Some(hart),
-        KernelPlace::Inside { hart, .. } => Some(hart),
-        KernelPlace::Between => None,
-        KernelPlace::Left => None,
+        KernelStage::Outside { hart } => Some(hart),
+        KernelStage::Inside { hart, .. } => Some(hart),
+        KernelStage::Between => None,
+        KernelStage::Left => None,
     }
 }
 

@@ -3,14 +3,14 @@ ghost use Rattle.std.specs.Prelude.{◌≡◌};
 ghost use Rattle.cloak_model.specs.Contexts as spec;
 
 use cloak_base::PageId;
-use cloak_model::WordPlace;
+use cloak_model::PageWord;
 
 /// The word in which an address of a page lies.
 #[inline]
-pub fn word_of_page(q: PageId, va: u32) -> WordPlace
+pub fn word_of_page(q: PageId, va: u32) -> PageWord
     ensures { result ≡ spec.word_of_page q va }
 {
-    WordPlace {
+    PageWord {
         resource: q.resource,
         page: q.page,
         at: va % 4096 / 4 * 4,
@@ -19,7 +19,7 @@ pub fn word_of_page(q: PageId, va: u32) -> WordPlace
 
 /// This word is the reserved one.
 #[inline]
-pub fn is_reserved(place: WordPlace, mark: Option<WordPlace>) -> bool
+pub fn is_reserved(place: PageWord, mark: Option<PageWord>) -> bool
     ensures { result ≡ spec.is_reserved place mark }
 {
     match mark {
