@@ -16,7 +16,7 @@ use Rattle.cloak_model.specs.declared.answer.Answer.{Answer}
 use Rattle.cloak_model.specs.declared.answer.Answer.TheVariants as told
 use Rattle.cloak_model.specs.declared.context.Phase.{Phase}
 use Rattle.cloak_model.specs.declared.context.Phase.TheVariants.{Plain, CopyIn, Waiting, CopyOut}
-use Rattle.cloak_model.specs.declared.context.WordPlace.{WordPlace}
+use Rattle.cloak_model.specs.declared.context.PageWord.{PageWord}
 use Rattle.cloak_model.specs.declared.inside.Copied.{Copied}
 use Rattle.cloak_model.specs.declared.inside.Copied.TheVariants as copied
 use Rattle.cloak_model.specs.declared.inside.Ended.{Ended}
@@ -209,16 +209,16 @@ played_within E P (Changes it more) k j h now is low kept = played_fit E P (Chan
 -- An instruction.
 
 -- how it may end: at an ecall it wrote nothing, and one more question is free
-abbrev Ends : Ran → Option WordPlace → ℕ → Type 0
+abbrev Ends : Ran → Option PageWord → ℕ → Type 0
 Ends ran.Ecall None (suc k) = Unit {0}
 Ends ran.Ecall None zero = ⊥
-Ends ran.Ecall (Some place) k = ⊥
+Ends ran.Ecall (Some word) k = ⊥
 Ends _ wrote k = Unit {0}
 
 -- how it ends once it stopped
-abbrev Stops : Ran → Option WordPlace → Type 0
+abbrev Stops : Ran → Option PageWord → Type 0
 Stops ran.Stopped None = Unit {0}
-Stops ran.Stopped (Some place) = ⊥
+Stops ran.Stopped (Some word) = ⊥
 Stops _ wrote = ⊥
 
 abbrev Instructs : Script AfterInstruction → ℕ → Type 0
@@ -407,7 +407,7 @@ abbrev AsksFew : Domain → Script DomainStepped → ℕ → Type 0
 AsksFew d s k = Within Any (StepStops d) s k
 
 -- an ending, and then a write that came before it
-abbrev then_written : ℕ → Domain → Context → Ran → Option WordPlace → Script DomainStepped
+abbrev then_written : ℕ → Domain → Context → Ran → Option PageWord → Script DomainStepped
 then_written slot d c e wrote = step.instruction_ended slot d c e >>= (λ s. Gives (step.after_write wrote s))
 
 call_asks : (slot : ℕ) (d : Domain) (c : Context) (k : ℕ) →
@@ -418,21 +418,21 @@ call_asks slot d c k =
     (hypercall_asks (calling.hypercall_of c) slot c d.control k)
     (λ made stop. ap (λ (x : Stepped). (step.within d x).domain) stop)
 
-ended_asks : (slot : ℕ) (d : Domain) (c : Context) (e : Ran) (wrote : Option WordPlace) (k : ℕ) → Ends e wrote k →
+ended_asks : (slot : ℕ) (d : Domain) (c : Context) (e : Ran) (wrote : Option PageWord) (k : ℕ) → Ends e wrote k →
     AsksFew d (then_written slot d c e wrote) k
 unfolding step.instruction_ended
 ended_asks slot d c ran.Ecall None (suc k) is =
     within_told (StepStops d) (StepStops d) (step.instruction_ended slot d c ran.Ecall) (step.after_write None) (suc k)
     (call_asks slot d c k) (λ made stop. stop)
 ended_asks slot d c ran.Ecall None zero is = absurd is
-ended_asks slot d c ran.Ecall (Some place) k is = absurd is
+ended_asks slot d c ran.Ecall (Some word) k is = absurd is
 ended_asks slot d c _ wrote k is = tt
 
-ended_stopped : (slot : ℕ) (d : Domain) (c : Context) (e : Ran) (wrote : Option WordPlace) → Stops e wrote →
+ended_stopped : (slot : ℕ) (d : Domain) (c : Context) (e : Ran) (wrote : Option PageWord) → Stops e wrote →
     IsEnd (StepStops d) (then_written slot d c e wrote)
 unfolding step.instruction_ended
 ended_stopped slot d c ran.Stopped None is = refl
-ended_stopped slot d c ran.Stopped (Some place) is = absurd is
+ended_stopped slot d c ran.Stopped (Some word) is = absurd is
 ended_stopped slot d c _ wrote is = absurd is
 
 copy_stopped : (slot : ℕ) (d : Domain) (c : Context) (e : Copied) → e ≡ copied.Stopped →
@@ -456,7 +456,7 @@ phase_asks (CopyOut done total) slot c d =
     within_told CopyStops (StepStops d) (calls.copy_out_step d.control.number d.control.resources c done total) _ 2
     (copy_out_asks d.control.number d.control.resources c done total)
     (λ copy stop. let ended = step.copy_ended slot d copy.context copy.ending in
-    ap (λ (x : Option WordPlace). (step.after_write x ended).domain) stop.1
+    ap (λ (x : Option PageWord). (step.after_write x ended).domain) stop.1
     ∙ copy_stopped slot d copy.context copy.ending stop.0)
 
 step_if_asks : (o : Option Context) (slot : ℕ) (d : Domain) → AsksFew d (step.step_if o slot d) 2

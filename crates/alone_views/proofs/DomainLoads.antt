@@ -49,12 +49,12 @@ unfolding made_by
 few_made (Over p) s once = once
 few_made _ s once = no_load (loads_of s)
 
-few_answer : (q : model.DomainPlace) (a : Answer) (s : model.DomainAlone) → FewMore s (take_answer q a s)
+few_answer : (q : model.DomainStage) (a : Answer) (s : model.DomainAlone) → FewMore s (take_answer q a s)
 unfolding take_answer
 few_answer (model.Running slot answers) a s = few_answered slot answers a _ s (once_tried slot _ s.part)
 few_answer _ a s = no_load (loads_of s)
 
-few_timer : (q : model.DomainPlace) (s : model.DomainAlone) → FewMore s (take_timer q s)
+few_timer : (q : model.DomainStage) (s : model.DomainAlone) → FewMore s (take_timer q s)
 unfolding take_timer
 few_timer (model.Running slot []) s = no_load (loads_of s)
 few_timer _ s = no_load (loads_of s)
@@ -67,7 +67,7 @@ few_resumed : (r : Resumes) (s : model.DomainAlone) → FewMore s (resumed_by r 
 unfolding resumed_by
 few_resumed r s = few_either (is_granted r.answer) s _ _ (no_load (loads_of s)) (no_load (loads_of s))
 
-few_resume : (d : ℕ) (q : model.DomainPlace) (ctx reply : ℕ) (s : model.DomainAlone) → FewMore s (take_resume d q ctx reply s)
+few_resume : (d : ℕ) (q : model.DomainStage) (ctx reply : ℕ) (s : model.DomainAlone) → FewMore s (take_resume d q ctx reply s)
 unfolding take_resume
 few_resume d (model.Other hart) ctx reply s = few_either _ s _ _ (few_resumed _ s) (no_load (loads_of s))
 few_resume d _ ctx reply s = no_load (loads_of s)
@@ -77,7 +77,7 @@ few_gone : (d : ℕ) (s : model.DomainAlone) → FewMore s (domain_gone d s)
 unfolding ended_domain
 few_gone d s = no_load (loads_of s)
 
-few_over : (d : ℕ) (ended : Bool) (q : model.DomainPlace) (s : model.DomainAlone) → FewMore s (take_ended d ended q s)
+few_over : (d : ℕ) (ended : Bool) (q : model.DomainStage) (s : model.DomainAlone) → FewMore s (take_ended d ended q s)
 unfolding take_ended
 few_over d true (model.Other hart) s = no_load (loads_of s)
 few_over d false (model.Other hart) s = few_gone d s
@@ -90,7 +90,7 @@ few_over d false (model.Running slot answers) s = no_load (loads_of s)
 few_over d true model.Done s = no_load (loads_of s)
 few_over d false model.Done s = no_load (loads_of s)
 
-few_ended : (q : model.DomainPlace) (s : model.DomainAlone) → FewMore s (domain_step_ended q s)
+few_ended : (q : model.DomainStage) (s : model.DomainAlone) → FewMore s (domain_step_ended q s)
 unfolding domain_step_ended
 few_ended (model.Running slot answers) s = few_made _ s (once_tried slot answers s.part)
 few_ended _ s = no_load (loads_of s)
@@ -102,7 +102,7 @@ few_begun schedule number s now few = few
 few_next : (schedule : List ℕ) (number : ℕ) (s now : model.DomainAlone) → FewMore s now → FewMore s (cond (is_some now.unfit) now (domain_step_begun schedule number now))
 few_next schedule number s now few = few_either (is_some now.unfit) s now _ few (few_begun schedule number s now few)
 
-few_step : (schedule : List ℕ) (number : ℕ) (q : model.DomainPlace) (s : model.DomainAlone) → FewMore s (take_domain_step schedule number q s)
+few_step : (schedule : List ℕ) (number : ℕ) (q : model.DomainStage) (s : model.DomainAlone) → FewMore s (take_domain_step schedule number q s)
 unfolding take_domain_step
 few_step schedule number model.Stopped s = no_load (loads_of s)
 few_step schedule number model.Between s = few_next schedule number s _ (few_ended model.Between s)
@@ -112,16 +112,16 @@ few_step schedule number model.Done s = few_next schedule number s _ (few_ended 
 
 few_takes : (d : ℕ) (schedule : List ℕ) (i : Item) (s : model.DomainAlone) → FewMore s (domain_takes d schedule i s)
 unfolding domain_takes
-few_takes d schedule (item.Step number) s = few_step schedule number s.place s
-few_takes d schedule (item.Close steps) s = few_ended s.place s
-few_takes d schedule (item.Timer domain) s = few_either _ s _ s (few_timer s.place s) (no_load (loads_of s))
-few_takes d schedule (item.Resume domain ctx reply) s = few_either _ s _ s (few_resume d s.place ctx reply s) (no_load (loads_of s))
-few_takes d schedule (item.Ended domain) s = few_either _ s _ s (few_over d _ s.place s) (no_load (loads_of s))
+few_takes d schedule (item.Step number) s = few_step schedule number s.stage s
+few_takes d schedule (item.Close steps) s = few_ended s.stage s
+few_takes d schedule (item.Timer domain) s = few_either _ s _ s (few_timer s.stage s) (no_load (loads_of s))
+few_takes d schedule (item.Resume domain ctx reply) s = few_either _ s _ s (few_resume d s.stage ctx reply s) (no_load (loads_of s))
+few_takes d schedule (item.Ended domain) s = few_either _ s _ s (few_over d _ s.stage s) (no_load (loads_of s))
 few_takes d schedule (item.Cipher frame bytes) s = no_load (loads_of s)
 few_takes d schedule (item.Put address width value) s = no_load (loads_of s)
 few_takes d schedule (item.Leave shown) s = no_load (loads_of s)
 few_takes d schedule item.End s = no_load (loads_of s)
-few_takes d schedule _ s = few_either _ s _ s (few_answer s.place _ s) (no_load (loads_of s))
+few_takes d schedule _ s = few_either _ s _ s (few_answer s.stage _ s) (no_load (loads_of s))
 
 pub few_taken : (d : ℕ) (schedule : List ℕ) (s : model.DomainAlone) (i : Item) → length (take_domain_item d schedule s i).part.domain.loads ≤ length s.part.domain.loads + 1
 unfolding take_domain_item

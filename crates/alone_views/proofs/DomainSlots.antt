@@ -13,7 +13,7 @@ use Rattle.cloak_model.specs.declared.inside.Ran.TheVariants as ran
 use Rattle.cloak_model.specs.World.{World}
 use Rattle.cloak_model.specs.Asking.{Told}
 use Rattle.cloak_model.specs.Contexts.{Context, Resumed, resume_at, resume_if, unless_reserved}
-use Rattle.cloak_model.specs.declared.context.WordPlace.{WordPlace}
+use Rattle.cloak_model.specs.declared.context.PageWord.{PageWord}
 use Rattle.cloak_model.specs.Fork as forks
 use Rattle.cloak_model.specs.DomainState.{Control, Domain}
 use Rattle.cloak_model.specs.Hypercalls as calling
@@ -61,10 +61,10 @@ slots_copy slot d c copied.Stopped = refl
 slots_copy slot d c _ = set_slot slot _ d.control
 
 -- a write after a step
-slots_written : (wrote : Option WordPlace) (d : Control) (s : DomainStepped) → SameSlots d s.domain.control →
+slots_written : (wrote : Option PageWord) (d : Control) (s : DomainStepped) → SameSlots d s.domain.control →
     SameSlots d (step.after_write wrote s).domain.control
 slots_written None d s same = same
-slots_written (Some place) d s same = length-map s.domain.control.contexts (unless_reserved place) ∙ same
+slots_written (Some word) d s same = length-map s.domain.control.contexts (unless_reserved word) ∙ same
 
 slots_phase : (phase : Phase) (slot : ℕ) (c : Context) (d : Domain) (w : World) →
     StepSame d (played (step.phase_step phase slot c d) w)

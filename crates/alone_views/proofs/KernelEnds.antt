@@ -9,7 +9,7 @@ use Rattle.cloak_model.specs.Opening.{started_harts, started_kernel, with_segmen
 use Rattle.cloak_model.specs.declared.image.KernelImage.{KernelImage}
 use Rattle.io_traits.specs.Told.{Counts, Puts}
 use Rattle.alone_views.specs.KernelConsole.{ConsoleCounts}
-use Rattle.alone_views.specs.KernelPlaces.{stood_place}
+use Rattle.alone_views.specs.KernelStages.{stood_stage}
 use Rattle.alone_views.specs.KernelStanding.{StandsForKernel, turns_of}
 use Rattle.alone_views.specs.declared.kernel.KernelAlone.{KernelAlone}
 
@@ -32,15 +32,15 @@ few_started harts entry n started few = rw (started, length-started_harts entry 
 
 pub opens_so : (k : KernelImage) (new : KernelAlone) → new.harts.items ≡ started_harts k.entry k.harts →
     new.ram.frames.items ≡ with_segments (zero_ram k.frames) k.segments → new.disk ≡ k.disk →
-    new.ram.reservations ≡ replicate k.harts None → turns_of new ≡ k.schedule → new.steps ≡ 0 → stood_place new.place ≡ model.Between → new.halted ≡ false →
+    new.ram.reservations ≡ replicate k.harts None → turns_of new ≡ k.schedule → new.steps ≡ 0 → stood_stage new.stage ≡ model.Between → new.halted ≡ false →
     new.unfit ≡ None → ConsoleCounts new.console [] → StandsForKernel new k.schedule (opened_kernel k)
 unfolding started_kernel
-opens_so k new harts ram disk marks schedule steps place halted unfit console = record {
+opens_so k new harts ram disk marks schedule steps stage halted unfit console = record {
   schedule = schedule;
   state = sym (λ i. record {
     kernel = record { harts = harts i; ram = ram i; disk = disk i; console = []; marks = marks i };
     steps = steps i;
-    place = place i;
+    stage = stage i;
     halted = halted i;
     unfit = unfit i;
   });

@@ -3,17 +3,17 @@ use Rattle.std.proofs.Common.{◌≡◌, ℕ, nat_lt, Bool, true, false, List, l
 use Rattle.cloak_model.specs.KernelAlone as model
 use Rattle.cloak_model.specs.KernelAlone.{kernel_unfit, fits_if, kernel_seen, with_kernel_seen, show_cipher, with_shown_bytes, store_at}
 use Rattle.cloak_model.specs.Memory.{Seen, filled, stored}
-use Rattle.alone_views.specs.KernelPlaces.{stood_place}
+use Rattle.alone_views.specs.KernelStages.{stood_stage}
 use Rattle.alone_views.specs.KernelChanges.{ChangesTo, may_store, store_or_unfit}
 use Rattle.alone_views.specs.KernelStanding.{state_with}
 use Rattle.alone_views.specs.declared.kernel.KernelAlone.{KernelAlone}
 
--- the place is known
-pub at_place : (old new : KernelAlone) (place : model.KernelPlace)
-    (next : model.KernelPlace → model.KernelAlone → model.KernelAlone) → stood_place old.place ≡ place →
-    ChangesTo old new (next place) → ChangesTo old new (λ s. next s.place s)
-at_place old new place next is becomes = record {
-  state = λ console. becomes.state console ∙ ap (λ (p : model.KernelPlace). next p (state_with old console)) (sym is);
+-- the stage is known
+pub at_stage : (old new : KernelAlone) (stage : model.KernelStage)
+    (next : model.KernelStage → model.KernelAlone → model.KernelAlone) → stood_stage old.stage ≡ stage →
+    ChangesTo old new (next stage) → ChangesTo old new (λ s. next s.stage s)
+at_stage old new stage next is becomes = record {
+  state = λ console. becomes.state console ∙ ap (λ (p : model.KernelStage). next p (state_with old console)) (sym is);
   console = becomes.console;
   schedule = becomes.schedule;
 }

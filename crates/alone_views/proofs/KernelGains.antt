@@ -8,7 +8,7 @@ use Rattle.cloak_model.specs.declared.outcome.Kernel.{Kernel}
 use Rattle.cloak_model.specs.declared.outcome.Kernel.TheVariants.{Put}
 use Rattle.kernel_report.specs.declared.console.Console.{Console}
 use Rattle.alone_views.specs.KernelConsole.{ConsoleCounts}
-use Rattle.alone_views.specs.KernelPlaces.{stood_place}
+use Rattle.alone_views.specs.KernelStages.{stood_stage}
 use Rattle.alone_views.specs.KernelChanges.{ChangesTo}
 use Rattle.alone_views.specs.KernelStanding.{Gains, StandsForKernel, state_with, turns_of}
 use Rattle.alone_views.specs.declared.kernel.KernelAlone.{KernelAlone}
@@ -98,14 +98,14 @@ gains_byte {E} gave e e' old mid new turns s number k stands steps stays same sc
 
 -- The end of a step.
 
-place_stood : (old : KernelAlone) (turns : List ℕ) (s : model.KernelAlone) (place : model.KernelPlace) →
-    StandsForKernel old turns s → stood_place old.place ≡ place → place ≡ s.place
-place_stood old turns s place stands is = sym is ∙ ap (λ (t : model.KernelAlone). t.place) (sym stands.state)
+stage_stood : (old : KernelAlone) (turns : List ℕ) (s : model.KernelAlone) (stage : model.KernelStage) →
+    StandsForKernel old turns s → stood_stage old.stage ≡ stage → stage ≡ s.stage
+stage_stood old turns s stage stands is = sym is ∙ ap (λ (t : model.KernelAlone). t.stage) (sym stands.state)
 
 pub ends_outside : {E : Type 0} (gave : E → E → List Piece → Type 0) (e e' : E) (old new : KernelAlone) (turns : List ℕ)
-    (s : model.KernelAlone) (hart : ℕ) → StandsForKernel old turns s → stood_place old.place ≡ model.Outside hart →
-    Gains gave e e' new turns s (plain_step hart s) → Gains gave e e' new turns s (kernel_step_ended s.place s)
+    (s : model.KernelAlone) (hart : ℕ) → StandsForKernel old turns s → stood_stage old.stage ≡ model.Outside hart →
+    Gains gave e e' new turns s (plain_step hart s) → Gains gave e e' new turns s (kernel_step_ended s.stage s)
 unfolding kernel_step_ended
 ends_outside {E} gave e e' old new turns s hart stands is gains =
-    subst (λ (p : model.KernelPlace). Gains gave e e' new turns s (kernel_step_ended p s))
-    (place_stood old turns s (model.Outside hart) stands is) gains
+    subst (λ (p : model.KernelStage). Gains gave e e' new turns s (kernel_step_ended p s))
+    (stage_stood old turns s (model.Outside hart) stands is) gains

@@ -19,11 +19,11 @@ hart_there harts number h there is = get_or_default harts number (started 0 0) h
 -- a hart has left, and is this; these are the reservations
 abbrev pub has_left : ℕ → Hart → List (Option ℕ) → model.KernelAlone → model.KernelAlone
 has_left number h marks s =
-    record s { kernel = with_kernel_hart number h (record s.kernel { marks = marks }); place = model.Left }
+    record s { kernel = with_kernel_hart number h (record s.kernel { marks = marks }); stage = model.Left }
 
 -- a step of a hart that runs this context, and is this, has begun
 abbrev pub is_inside : ℕ → ℕ → Hart → model.KernelAlone → model.KernelAlone
-is_inside number ctx h s = record s { kernel = with_kernel_hart number h s.kernel; place = model.Inside number ctx }
+is_inside number ctx h s = record s { kernel = with_kernel_hart number h s.kernel; stage = model.Inside number ctx }
 
 -- the hart leaves its context
 pub left_context : (s : model.KernelAlone) (number ctx : ℕ) (h h' : Hart) (marks : List (Option ℕ)) (shown : Shown) →
@@ -48,7 +48,7 @@ left_other old new number ctx shown other becomes =
 -- a step of a hart outside begins
 pub begun_outside : (s : model.KernelAlone) (number : ℕ) (h : Hart) → kernel_hart s.kernel number ≡ h →
     h.inside ≡ None →
-    kernel_step_begun number (kernel_hart s.kernel number).inside s ≡ record s { place = model.Outside number }
+    kernel_step_begun number (kernel_hart s.kernel number).inside s ≡ record s { stage = model.Outside number }
 unfolding kernel_step_begun
 begun_outside s number h is outside =
     ap (λ (ctx : Option ℕ). kernel_step_begun number ctx s) (ap (λ (x : Hart). x.inside) is ∙ outside)

@@ -16,45 +16,45 @@ use Rattle.alone_views.proofs.KernelGains.{gains_nothing, gains_then}
 
 pub takes_cipher : {E : Type 0} (gave : E → E → List Piece → Type 0) (e : E) (old new : KernelAlone) (turns : List ℕ)
     (s : model.KernelAlone) (i : Item) (f : ℕ) (bytes : List ℕ) → i ≡ item.Cipher f bytes →
-    ChangesTo old new (λ s. take_cipher s.place f bytes s) → StandsForKernel old turns s →
+    ChangesTo old new (λ s. take_cipher s.stage f bytes s) → StandsForKernel old turns s →
     Gains gave e e new turns s (kernel_takes turns i s)
 unfolding kernel_takes
 takes_cipher {E} gave e old new turns s i f bytes is becomes stands =
     subst (λ (x : Item). Gains gave e e new turns s (kernel_takes turns x s)) (sym is)
-    (gains_nothing gave e old new turns s (λ s. take_cipher s.place f bytes s) becomes stands)
+    (gains_nothing gave e old new turns s (λ s. take_cipher s.stage f bytes s) becomes stands)
 
 pub takes_put : {E : Type 0} (gave : E → E → List Piece → Type 0) (e : E) (old new : KernelAlone) (turns : List ℕ)
     (s : model.KernelAlone) (i : Item) (address width value : ℕ) → i ≡ item.Put address width value → IsItem i →
-    (IsWidth width → ChangesTo old new (λ s. take_put s.place address width value s)) →
+    (IsWidth width → ChangesTo old new (λ s. take_put s.stage address width value s)) →
     StandsForKernel old turns s → Gains gave e e new turns s (kernel_takes turns i s)
 unfolding kernel_takes
 takes_put {E} gave e old new turns s i address width value is ranges becomes stands =
     let ranges_of = subst IsItem is ranges in
     subst (λ (x : Item). Gains gave e e new turns s (kernel_takes turns x s)) (sym is)
-    (gains_nothing gave e old new turns s (λ s. take_put s.place address width value s) (becomes ranges_of.1) stands)
+    (gains_nothing gave e old new turns s (λ s. take_put s.stage address width value s) (becomes ranges_of.1) stands)
 
 pub takes_leave : {E : Type 0} (gave : E → E → List Piece → Type 0) (e : E) (old new : KernelAlone) (turns : List ℕ)
     (s : model.KernelAlone) (i : Item) (shown : Shown) → i ≡ item.Leave shown →
-    ChangesTo old new (λ s. take_leave s.place shown s) → StandsForKernel old turns s →
+    ChangesTo old new (λ s. take_leave s.stage shown s) → StandsForKernel old turns s →
     Gains gave e e new turns s (kernel_takes turns i s)
 unfolding kernel_takes
 takes_leave {E} gave e old new turns s i shown is becomes stands =
     subst (λ (x : Item). Gains gave e e new turns s (kernel_takes turns x s)) (sym is)
-    (gains_nothing gave e old new turns s (λ s. take_leave s.place shown s) becomes stands)
+    (gains_nothing gave e old new turns s (λ s. take_leave s.stage shown s) becomes stands)
 
 pub takes_step : {E : Type 0} (gave : E → E → List Piece → Type 0) (e e' : E) (mid new : KernelAlone) (turns : List ℕ)
     (s : model.KernelAlone) (i : Item) (number : ℕ) → i ≡ item.Step number →
-    Gains gave e e' mid turns s (kernel_step_ended s.place s) →
+    Gains gave e e' mid turns s (kernel_step_ended s.stage s) →
     ChangesTo mid new (take_kernel_step (turns_of mid) number) → Gains gave e e' new turns s (kernel_takes turns i s)
 unfolding kernel_takes
 takes_step {E} gave e e' mid new turns s i number is gains becomes =
     subst (λ (x : Item). Gains gave e e' new turns s (kernel_takes turns x s)) (sym is)
-    (gains_then gave e e' mid new turns s (kernel_step_ended s.place s) (take_kernel_step turns number) gains
+    (gains_then gave e e' mid new turns s (kernel_step_ended s.stage s) (take_kernel_step turns number) gains
     (subst (λ (t : List ℕ). ChangesTo mid new (take_kernel_step t number)) gains.stands.schedule becomes))
 
 pub takes_close : {E : Type 0} (gave : E → E → List Piece → Type 0) (e e' : E) (new : KernelAlone) (turns : List ℕ)
     (s : model.KernelAlone) (i : Item) (steps : ℕ) → i ≡ item.Close steps →
-    Gains gave e e' new turns s (kernel_step_ended s.place s) → Gains gave e e' new turns s (kernel_takes turns i s)
+    Gains gave e e' new turns s (kernel_step_ended s.stage s) → Gains gave e e' new turns s (kernel_takes turns i s)
 unfolding kernel_takes
 takes_close {E} gave e e' new turns s i steps is gains =
     subst (λ (x : Item). Gains gave e e' new turns s (kernel_takes turns x s)) (sym is) gains

@@ -15,19 +15,16 @@ use Rattle.step_parts.proofs.StepLater.{later_step_in_parts}
 use Rattle.cloak_model.proofs.Later.{IsLater}
 use Rattle.alone_views.specs.KernelChanges.{ChangesTo}
 use Rattle.alone_views.specs.KernelEnding.{EndsAs, ending_in, plain_ending}
-use Rattle.alone_views.specs.KernelPlaces.{stood_place}
+use Rattle.alone_views.specs.KernelStages.{stood_stage}
 use Rattle.alone_views.specs.KernelStanding.{StandsForKernel, state_with}
 use Rattle.alone_views.specs.declared.kernel.KernelAlone.{KernelAlone}
 use Rattle.alone_views.specs.declared.kernel_ram.FlatRam.{FlatRam}
 use Rattle.alone_views.specs.KernelWorld.{IsWorld, seen_by}
+use Rattle.alone_views.proofs.KernelRam.{told_as}
 
 -- what a step told, of this hart, disk and ending, and these frames and reservations
 abbrev pub told_of : Hart → List ℕ → Kernel → Seen → Told SteppedKernel
 told_of h disk k seen = record { answer = record { hart = h; disk = disk; ending = k }; world = Flat seen }
-
-told_as : {A : Type 0} (told : Told A) (a : A) (w : World) → told.answer ≡ a → told.world ≡ w →
-    told ≡ record { answer = a; world = w }
-told_as told a w e f i = record { answer = e i; world = f i }
 
 later_kernel_step : (h : Hart) (disk : List ℕ) (w : World) → IsLater w (kernel_step h disk w).world
 later_kernel_step h disk w =
@@ -48,19 +45,19 @@ pub stepped_plainly : (s : model.KernelAlone) (number : ℕ) (h h' : Hart) (disk
     kernel_step h s.kernel.disk (Flat (kernel_seen s.kernel)) ≡ told_of h' disk k seen → halts ≡ has_halted k →
     plain_step number s ≡ record s {
       kernel = after_plain_step s.kernel number (told_of h' disk k seen);
-      place = model.Between;
+      stage = model.Between;
       halted = halts;
     }
 unfolding plain_step
 stepped_plainly s number h h' disk k seen halts is made halted =
     ap (λ (told : Told SteppedKernel). let t : model.KernelAlone = record s {
       kernel = after_plain_step s.kernel number told;
-      place = model.Between;
+      stage = model.Between;
       halted = has_halted told.answer.ending;
     } in t) (ap (λ (x : Hart). kernel_step x s.kernel.disk (Flat (kernel_seen s.kernel))) is ∙ made)
     ∙ ap (λ (b : Bool). let t : model.KernelAlone = record s {
       kernel = after_plain_step s.kernel number (told_of h' disk k seen);
-      place = model.Between;
+      stage = model.Between;
       halted = b;
     } in t) (sym halted)
 
@@ -103,25 +100,25 @@ ended_plainly s number h h' disk k seen is made =
     ∙ ap (λ (t : Told SteppedKernel). t.answer.ending) made)
 
 -- the number of a hart outside
-abbrev pub outside_hart : model.KernelPlace → ℕ
+abbrev pub outside_hart : model.KernelStage → ℕ
 outside_hart (model.Outside number) = number
 outside_hart other = 0
 
-abbrev pub is_outside : model.KernelPlace → Bool
+abbrev pub is_outside : model.KernelStage → Bool
 is_outside (model.Outside number) = true
 is_outside other = false
 
 -- the step of a hart outside was made
-pub ends_as : (old new : KernelAlone) (hart : ℕ) → stood_place old.place ≡ model.Outside hart →
+pub ends_as : (old new : KernelAlone) (hart : ℕ) → stood_stage old.stage ≡ model.Outside hart →
     ((turns : List ℕ) (s : model.KernelAlone) → StandsForKernel old turns s → ending_in new ≡ plain_ending hart s) →
     EndsAs old new
 ends_as old new hart is ends = λ turns s stands number at.
     ends turns s stands
-    ∙ ap (λ (n : ℕ). plain_ending n s) (ap outside_hart (sym is ∙ (ap (λ (t : model.KernelAlone). t.place) (sym stands.state) ∙ at)))
+    ∙ ap (λ (n : ℕ). plain_ending n s) (ap outside_hart (sym is ∙ (ap (λ (t : model.KernelAlone). t.stage) (sym stands.state) ∙ at)))
 
 -- no step of a hart outside is open
-pub ends_none : (old new : KernelAlone) (place : model.KernelPlace) → stood_place old.place ≡ place →
-    is_outside place ≡ false → EndsAs old new
-ends_none old new place is not_outside = λ turns s stands number at.
+pub ends_none : (old new : KernelAlone) (stage : model.KernelStage) → stood_stage old.stage ≡ stage →
+    is_outside stage ≡ false → EndsAs old new
+ends_none old new stage is not_outside = λ turns s stands number at.
     absurd (let clash : false ≡ true = sym not_outside
-    ∙ ap is_outside (sym is ∙ (ap (λ (t : model.KernelAlone). t.place) (sym stands.state) ∙ at)) in cc)
+    ∙ ap is_outside (sym is ∙ (ap (λ (t : model.KernelAlone). t.stage) (sym stands.state) ∙ at)) in cc)

@@ -9,8 +9,8 @@ use Rattle.cloak_model.specs.Asking.{Told}
 use Rattle.cloak_model.specs.DomainStep.{DomainStepped, interrupt}
 use Rattle.hypercalls.specs.Standing.{StandsFor}
 use Rattle.alone_views.specs.declared.domain.DomainAlone.{DomainAlone}
-use Rattle.alone_views.specs.declared.domain.DomainPlace.{DomainPlace}
-use Rattle.alone_views.specs.declared.domain.DomainPlace.TheVariants as place
+use Rattle.alone_views.specs.declared.domain.DomainStage.{DomainStage}
+use Rattle.alone_views.specs.declared.domain.DomainStage.TheVariants as stage
 use Rattle.alone_views.specs.declared.side.Handing.{Handing}
 use Rattle.alone_views.specs.declared.side.Handing.TheVariants as handing
 use Rattle.alone_views.specs.declared.unfit.Unfit.{Unfit}
@@ -34,12 +34,12 @@ abbrev pub hart_at : List ℕ → ℕ → ℕ
 hart_at schedule number = hart_after schedule (number - 1)
 
 -- where the items stand, in a step of this hart if in one
-abbrev pub place_told : ℕ → DomainPlace → model.DomainPlace
-place_told hart place.Between = model.Between
-place_told hart place.Other = model.Other hart
-place_told hart (place.Running slot answer) = model.Running slot (one_answer answer)
-place_told hart place.Done = model.Done
-place_told hart place.Stopped = model.Stopped
+abbrev pub stage_told : ℕ → DomainStage → model.DomainStage
+stage_told hart stage.Between = model.Between
+stage_told hart stage.Other = model.Other hart
+stage_told hart (stage.Running slot answer) = model.Running slot (one_answer answer)
+stage_told hart stage.Done = model.Done
+stage_told hart stage.Stopped = model.Stopped
 
 -- the step in which an item was unfit
 abbrev pub step_of : Option Unfit → Option ℕ
@@ -57,7 +57,7 @@ pub record StandsWhileFit (machine : DomainAlone) (s : model.DomainAlone) : Type
   pub unfit : machine.unfit ≡ None
   pub part : StandsForPart machine s.part
   pub steps : machine.steps ≡ s.steps
-  pub place : s.place ≡ place_told (hart_at (schedule_in machine) machine.steps) machine.place
+  pub stage : s.stage ≡ stage_told (hart_at (schedule_in machine) machine.steps) machine.stage
 
 -- The machine is that of this state. Once an item was unfit, nothing but its step is kept.
 pub record StandsForState (machine : DomainAlone) (s : model.DomainAlone) : Type 0 where
@@ -95,7 +95,7 @@ pub record StaysBeside (old new : DomainAlone) : Type 0 where
   pub number : number_in new ≡ number_in old
   pub schedule : new.schedule ≡ old.schedule
   pub steps : new.steps ≡ old.steps
-  pub place : new.place ≡ old.place
+  pub stage : new.stage ≡ old.stage
   pub unfit : new.unfit ≡ old.unfit
 
 -- A step was made as is told: program and side stand for what is told of them.
@@ -120,7 +120,7 @@ IsTried machine handing.Wrong answers s Wrong = Unit {0}
 abbrev pub timer_taken : ℕ → model.DomainAlone → model.DomainAlone
 timer_taken slot s = record s {
   part = with_control (interrupt slot s.part.domain.control).control s.part;
-  place = model.Done;
+  stage = model.Done;
 }
 
 -- the next step begins, unless an item was unfit

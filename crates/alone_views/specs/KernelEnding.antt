@@ -28,4 +28,4 @@ is_end other = false
 -- The step that is open was made, if it is that of a hart outside, and it ended as is told.
 abbrev pub EndsAs : KernelAlone → KernelAlone → Type 0
 EndsAs old new = (turns : List ℕ) (s : model.KernelAlone) → StandsForKernel old turns s → (number : ℕ) →
-    s.place ≡ model.Outside number → ending_in new ≡ plain_ending number s
+    s.stage ≡ model.Outside number → ending_in new ≡ plain_ending number s

@@ -3,7 +3,7 @@ use Rattle.std.specs.Prelude.{ℕ, ◌≡◌, ◌≤◌, List, ◌++◌, length,
 use Rattle.cloak_model.specs.Exchange.{Piece, Emits, shown_each}
 use Rattle.cloak_model.specs.KernelAlone as model
 use Rattle.alone_views.specs.KernelConsole.{ConsoleCounts}
-use Rattle.alone_views.specs.KernelPlaces.{stood_place}
+use Rattle.alone_views.specs.KernelStages.{stood_stage}
 use Rattle.alone_views.specs.declared.kernel.KernelAlone.{KernelAlone}
 use Rattle.alone_views.specs.declared.unfit.Unfit.{Unfit}
 
@@ -26,7 +26,7 @@ state_with machine console = record {
     marks = machine.ram.reservations;
   };
   steps = machine.steps;
-  place = stood_place machine.place;
+  stage = stood_stage machine.stage;
   halted = machine.halted;
   unfit = machine.unfit;
 }

@@ -4,7 +4,7 @@ pub mod DomainStanding
 pub mod KernelChanges
 pub mod KernelConsole
 pub mod KernelEnding
-pub mod KernelPlaces
+pub mod KernelStages
 pub mod KernelStanding
 pub mod KernelWorld
 pub mod Side

@@ -24,7 +24,7 @@ use std::alloc::Global;
 
 /// Where the items stand.
 #[derive(Clone, Copy)]
-pub(crate) enum DomainPlace {
+pub(crate) enum DomainStage {
     /// In no step: before the first one, or after the last.
     Between,
     /// In a step whose hart runs none of the program's contexts.
@@ -46,7 +46,7 @@ pub struct DomainAlone {
     schedule: Vec<u8>,
     /// The number of the last step, 0 before the first.
     pub(crate) steps: u32,
-    pub(crate) place: DomainPlace,
+    pub(crate) stage: DomainStage,
     unfit: Option<Unfit>,
     ghost served: { number_of domain ≡ side.domain },
     ghost some_turns: { 0 < length schedule.items },
@@ -77,7 +77,7 @@ impl DomainAlone {
             side,
             schedule,
             steps: 0,
-            place: DomainPlace::Between,
+            stage: DomainStage::Between,
             unfit: None,
         })
     }
@@ -165,7 +165,7 @@ impl DomainAlone {
     /// Takes an answer, if it is for this domain.
     fn take_answer_for(&mut self, domain: u8, a: Answer)
         ensures takes { TakesAs self.old self.new
-            (λ s. if domain == number_in self.old then spec.take_answer s.place a s else s) }
+            (λ s. if domain == number_in self.old then spec.take_answer s.stage a s else s) }
         ensures keeps { KeepsSetting self.old self.new }
     {
         if domain as u32 == self.side.domain {
@@ -176,7 +176,7 @@ impl DomainAlone {
     /// Takes an interrupt, if it is for this domain.
     fn take_timer_for(&mut self, domain: u8)
         ensures takes { TakesAs self.old self.new
-            (λ s. if domain == number_in self.old then spec.take_timer s.place s else s) }
+            (λ s. if domain == number_in self.old then spec.take_timer s.stage s else s) }
         ensures keeps { KeepsSetting self.old self.new }
     {
         if domain as u32 == self.side.domain {
@@ -188,7 +188,7 @@ impl DomainAlone {
     fn take_resume_for(&mut self, domain: u8, ctx: u32, answer: u32)
         ensures takes { TakesAs self.old self.new
             (λ s. if domain == number_in self.old
-            then spec.take_resume (number_in self.old) s.place ctx answer s else s) }
+            then spec.take_resume (number_in self.old) s.stage ctx answer s else s) }
         ensures keeps { KeepsSetting self.old self.new }
     {
         if domain as u32 == self.side.domain {
@@ -200,7 +200,7 @@ impl DomainAlone {
     fn take_ended_for(&mut self, domain: u8)
         ensures takes { TakesAs self.old self.new
             (λ s. if domain == number_in self.old
-            then spec.take_ended (number_in self.old) s.part.domain.control.ended s.place s else s) }
+            then spec.take_ended (number_in self.old) s.part.domain.control.ended s.stage s else s) }
         ensures keeps { KeepsSetting self.old self.new }
     {
         if domain as u32 == self.side.domain {
@@ -218,11 +218,11 @@ impl DomainAlone {
 
     /// The next step begins.
     fn take_step(&mut self, number: u32)
-        ensures takes { TakesAs self.old self.new (λ s. spec.take_domain_step (schedule_in self.old) number s.place s) }
+        ensures takes { TakesAs self.old self.new (λ s. spec.take_domain_step (schedule_in self.old) number s.stage s) }
         ensures keeps { KeepsSetting self.old self.new }
     {
-        match self.place {
-            DomainPlace::Stopped => self.fail(),
+        match self.stage {
+            DomainStage::Stopped => self.fail(),
             _ => self.next_step(number),
         }
     }
@@ -230,7 +230,7 @@ impl DomainAlone {
     /// The step that is open has ended, and the next begins, unless an item was missing.
     fn next_step(&mut self, number: u32)
         ensures takes { TakesAs self.old self.new (λ s. then_begun (schedule_in self.old) number
-            (spec.domain_step_ended s.place s)) }
+            (spec.domain_step_ended s.stage s)) }
         ensures keeps { KeepsSetting self.old self.new }
     {
         self.end_step();
@@ -242,13 +242,13 @@ impl DomainAlone {
 
     /// The step that is open has ended. One that asked nothing is made.
     fn end_step(&mut self)
-        ensures takes { TakesAs self.old self.new (λ s. spec.domain_step_ended s.place s) }
+        ensures takes { TakesAs self.old self.new (λ s. spec.domain_step_ended s.stage s) }
         ensures keeps { KeepsSetting self.old self.new }
     {
-        match self.place {
-            DomainPlace::Running { slot, answer } => self.make_step(slot, answer),
-            DomainPlace::Stopped => {}
-            _ => self.place = DomainPlace::Between,
+        match self.stage {
+            DomainStage::Running { slot, answer } => self.make_step(slot, answer),
+            DomainStage::Stopped => {}
+            _ => self.stage = DomainStage::Between,
         }
     }
 
@@ -259,7 +259,7 @@ impl DomainAlone {
         ensures keeps { KeepsSetting self.old self.new }
     {
         match self.try_step(slot, answer, None) {
-            Handing::Over => self.place = DomainPlace::Between,
+            Handing::Over => self.stage = DomainStage::Between,
             _ => self.fail(),
         }
     }
@@ -272,8 +272,8 @@ impl DomainAlone {
         self.steps = number;
         let hart = self.hart();
         match self.slot_on(hart) {
-            None => self.place = DomainPlace::Other,
-            Some(slot) => self.place = DomainPlace::Running { slot, answer: None },
+            None => self.stage = DomainStage::Other,
+            Some(slot) => self.stage = DomainStage::Running { slot, answer: None },
         }
     }
 
@@ -336,11 +336,11 @@ impl DomainAlone {
 
     /// Takes an answer.
     fn take_answer(&mut self, a: Answer)
-        ensures takes { TakesAs self.old self.new (λ s. spec.take_answer s.place a s) }
+        ensures takes { TakesAs self.old self.new (λ s. spec.take_answer s.stage a s) }
         ensures keeps { KeepsSetting self.old self.new }
     {
-        match self.place {
-            DomainPlace::Running { slot, answer } => self.answer_step(slot, answer, a),
+        match self.stage {
+            DomainStage::Running { slot, answer } => self.answer_step(slot, answer, a),
             _ => self.fail(),
         }
     }
@@ -353,9 +353,9 @@ impl DomainAlone {
     {
         let (first, second) = answers_behind(answer, a);
         match self.try_step(slot, Some(first), second) {
-            Handing::Over => self.place = place_behind(a),
+            Handing::Over => self.stage = stage_after(a),
             Handing::Wants => {
-                self.place = DomainPlace::Running {
+                self.stage = DomainStage::Running {
                     slot,
                     answer: Some(first),
                 }
@@ -366,11 +366,11 @@ impl DomainAlone {
 
     /// Takes an interrupt, which stands before every answer.
     fn take_timer(&mut self)
-        ensures takes { TakesAs self.old self.new (λ s. spec.take_timer s.place s) }
+        ensures takes { TakesAs self.old self.new (λ s. spec.take_timer s.stage s) }
         ensures keeps { KeepsSetting self.old self.new }
     {
-        match self.place {
-            DomainPlace::Running { slot, answer } => match answer {
+        match self.stage {
+            DomainStage::Running { slot, answer } => match answer {
                 None => self.interrupt(slot),
                 Some(_) => self.fail(),
             },
@@ -383,7 +383,7 @@ impl DomainAlone {
         ensures takes { TakesAs self.old self.new (timer_taken slot) }
         ensures keeps { KeepsSetting self.old self.new }
     {
-        self.place = DomainPlace::Done;
+        self.stage = DomainStage::Done;
         if self.domain.context(slot).is_some() {
             self.domain.interrupt(slot);
         }
@@ -391,11 +391,11 @@ impl DomainAlone {
 
     /// Takes a resuming.
     fn take_resume(&mut self, ctx: u32, answer: u32)
-        ensures takes { TakesAs self.old self.new (λ s. spec.take_resume (number_in self.old) s.place ctx answer s) }
+        ensures takes { TakesAs self.old self.new (λ s. spec.take_resume (number_in self.old) s.stage ctx answer s) }
         ensures keeps { KeepsSetting self.old self.new }
     {
-        match self.place {
-            DomainPlace::Other => {
+        match self.stage {
+            DomainStage::Other => {
                 if ctx / 8 == self.side.domain {
                     self.resume(ctx % 8, answer);
                 } else {
@@ -410,15 +410,15 @@ impl DomainAlone {
     /// stopped the step of one.
     fn take_ended(&mut self)
         ensures takes { TakesAs self.old self.new
-            (λ s. spec.take_ended (number_in self.old) s.part.domain.control.ended s.place s) }
+            (λ s. spec.take_ended (number_in self.old) s.part.domain.control.ended s.stage s) }
         ensures keeps { KeepsSetting self.old self.new }
     {
-        match self.place {
-            DomainPlace::Other => {
+        match self.stage {
+            DomainStage::Other => {
                 let ended = self.domain.has_ended();
                 self.end_unless(ended);
             }
-            DomainPlace::Stopped => self.end(),
+            DomainStage::Stopped => self.end(),
             _ => self.fail(),
         }
     }
@@ -443,7 +443,7 @@ impl DomainAlone {
     {
         self.domain.end_all();
         self.side.end_pages();
-        self.place = DomainPlace::Done;
+        self.stage = DomainStage::Done;
     }
 
     /// The context of a slot runs on the hart of the step, if it is there and runs on none.
@@ -454,19 +454,19 @@ impl DomainAlone {
     {
         let hart = HartId(self.hart());
         match self.domain.resume(slot, hart, answer) {
-            Ok(()) => self.place = DomainPlace::Done,
+            Ok(()) => self.stage = DomainStage::Done,
             Err(_) => self.fail(),
         }
     }
 }
 
 /// Where the items stand after the last answer of a step.
-fn place_behind(a: Answer) -> DomainPlace
-    ensures { result ≡ (if spec.is_stopped a then DomainPlace.Stopped else DomainPlace.Done) }
+fn stage_after(a: Answer) -> DomainStage
+    ensures { result ≡ (if spec.is_stopped a then DomainStage.Stopped else DomainStage.Done) }
 {
     match a {
-        Answer::Stopped => DomainPlace::Stopped,
-        _ => DomainPlace::Done,
+        Answer::Stopped => DomainStage::Stopped,
+        _ => DomainStage::Done,
     }
 }
 

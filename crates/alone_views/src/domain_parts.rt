@@ -4,7 +4,7 @@ ghost use Rattle.cloak_model.specs.Contexts.{context_at};
 ghost use Rattle.cloak_model.specs.DomainAlone as spec;
 ghost use Rattle.cloak_model.specs.Resources.{page_at};
 
-use crate::domain::{DomainAlone, DomainPlace};
+use crate::domain::{DomainAlone, DomainStage};
 use cloak_base::PageId;
 use plain_pages::page_place;
 use thread_context::Context;
@@ -32,14 +32,14 @@ impl DomainAlone {
     /// The slot of the context whose step is open, and does not have its items.
     pub fn running(&self) -> Option<u32>
         ensures { (number : ℕ) (schedule : List ℕ) (s : spec.DomainAlone) →
-            StandsForDomain number schedule self.now s → s.unfit ≡ None → result ≡ running_in s.place }
+            StandsForDomain number schedule self.now s → s.unfit ≡ None → result ≡ running_in s.stage }
     {
-        match self.place {
-            DomainPlace::Running { slot, .. } => Some(slot),
-            DomainPlace::Between => None,
-            DomainPlace::Other => None,
-            DomainPlace::Done => None,
-            DomainPlace::Stopped => None,
+        match self.stage {
+            DomainStage::Running { slot, .. } => Some(slot),
+            DomainStage::Between => None,
+            DomainStage::Other => None,
+            DomainStage::Done => None,
+            DomainStage::Stopped => None,
         }
     }
 

@@ -9,10 +9,10 @@ ghost use Rattle.cloak_model.specs.Record.{IsItem};
 ghost use Rattle.cloak_model.specs.Report.{kernel_lines};
 ghost use Rattle.io_traits.specs.Sinks.{PutsTo};
 ghost use Rattle.io_traits.specs.Told.{Counts};
-ghost use Rattle.alone_views.specs.KernelPlaces.{IsPlaceAmong};
+ghost use Rattle.alone_views.specs.KernelStages.{IsStageAmong};
 
-use crate::kernel_place::KernelPlace;
 use crate::kernel_ram::{FlatRam, load_segments};
+use crate::kernel_stage::KernelStage;
 use crate::kernel_starting::start_harts;
 use crate::unfit::Unfit;
 use cloak_base::{Failed, NoMemory};
@@ -33,7 +33,7 @@ pub struct KernelAlone {
     pub(crate) schedule: Vec<u8>,
     /// The number of the last Step, 0 before the first.
     pub(crate) steps: u32,
-    pub(crate) place: KernelPlace,
+    pub(crate) stage: KernelStage,
     /// The last step that was made halted.
     pub(crate) halted: bool,
     /// How the last plain step ended; before the first, as one that shows nothing.
@@ -43,7 +43,7 @@ pub struct KernelAlone {
     ghost few_harts: { length harts.items ≤ 4 },
     ghost some_turns: { 0 < length schedule.items },
     ghost turns: { All (λ h. h < length harts.items) schedule.items },
-    ghost placed: { IsPlaceAmong (length harts.items) place },
+    ghost staged: { IsStageAmong (length harts.items) stage },
 }
 
 impl KernelAlone {
@@ -68,7 +68,7 @@ impl KernelAlone {
             console: Console::new(),
             schedule,
             steps: 0,
-            place: KernelPlace::Between,
+            stage: KernelStage::Between,
             halted: false,
             ending: Kernel::Stay,
             unfit: None,

@@ -2,7 +2,7 @@
 ghost use Rattle.cloak_model.specs.KernelAlone as spec;
 
 use crate::kernel::KernelAlone;
-use crate::kernel_place::KernelPlace;
+use crate::kernel_stage::KernelStage;
 
 impl KernelAlone {
     ghost use Rattle.alone_views.specs.KernelChanges.{ChangesTo};
@@ -20,13 +20,13 @@ impl KernelAlone {
 
     /// Takes a Cipher.
     pub(crate) fn take_cipher(&mut self, frame: u32, bytes: &[u8; 4096])
-        ensures { ChangesTo self.old self.new (λ s. spec.take_cipher s.place frame bytes.now s) }
+        ensures { ChangesTo self.old self.new (λ s. spec.take_cipher s.stage frame bytes.now s) }
     {
-        match self.place {
-            KernelPlace::Between => self.show_cipher(frame, bytes),
-            KernelPlace::Outside { .. } => self.show_cipher(frame, bytes),
-            KernelPlace::Inside { .. } => self.show_cipher(frame, bytes),
-            KernelPlace::Left => self.refuse(),
+        match self.stage {
+            KernelStage::Between => self.show_cipher(frame, bytes),
+            KernelStage::Outside { .. } => self.show_cipher(frame, bytes),
+            KernelStage::Inside { .. } => self.show_cipher(frame, bytes),
+            KernelStage::Left => self.refuse(),
         }
     }
 }

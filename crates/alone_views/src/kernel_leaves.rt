@@ -3,7 +3,7 @@ ghost use Rattle.std.specs.Prelude.{◌<◌, length};
 ghost use Rattle.cloak_model.specs.KernelAlone as spec;
 
 use crate::kernel::KernelAlone;
-use crate::kernel_place::KernelPlace;
+use crate::kernel_stage::KernelStage;
 use cloak_base::Shown;
 use host_calls::leave;
 
@@ -18,7 +18,7 @@ impl KernelAlone {
         if shown.ctx == ctx {
             leave(&mut self.harts[hart], shown);
             self.ram.reservations.unmark(hart as u32);
-            self.place = KernelPlace::Left;
+            self.stage = KernelStage::Left;
         } else {
             self.refuse();
         }
@@ -26,13 +26,13 @@ impl KernelAlone {
 
     /// Takes a Leave.
     pub(crate) fn take_leave(&mut self, shown: &Shown)
-        ensures { ChangesTo self.old self.new (λ s. spec.take_leave s.place shown.now s) }
+        ensures { ChangesTo self.old self.new (λ s. spec.take_leave s.stage shown.now s) }
     {
-        match self.place {
-            KernelPlace::Inside { hart, ctx } => self.leave_context(hart, ctx, shown),
-            KernelPlace::Between => self.refuse(),
-            KernelPlace::Outside { .. } => self.refuse(),
-            KernelPlace::Left => self.refuse(),
+        match self.stage {
+            KernelStage::Inside { hart, ctx } => self.leave_context(hart, ctx, shown),
+            KernelStage::Between => self.refuse(),
+            KernelStage::Outside { .. } => self.refuse(),
+            KernelStage::Left => self.refuse(),
         }
     }
 }

@@ -3,14 +3,14 @@ ghost use Rattle.std.specs.Prelude.{◌≡◌, ◌≤◌, ℕ, List, length};
 ghost use Rattle.cloak_model.specs.KernelAlone as spec;
 
 use crate::kernel::KernelAlone;
-use crate::kernel_place::KernelPlace;
+use crate::kernel_stage::KernelStage;
 use cloak_model::Kernel;
 use host_calls::Hart;
 
 impl KernelAlone {
     ghost use Rattle.alone_views.specs.KernelStanding.{StandsForKernel};
     ghost use Rattle.alone_views.specs.KernelEnding.{ending_in};
-    ghost use Rattle.alone_views.specs.KernelPlaces.{stood_place};
+    ghost use Rattle.alone_views.specs.KernelStages.{stood_stage};
 
     /// The harts, by their numbers.
     pub fn harts(&self) -> &[Hart]
@@ -38,11 +38,11 @@ impl KernelAlone {
     }
 
     /// Where the items stand.
-    pub fn place(&self) -> KernelPlace
+    pub fn stage(&self) -> KernelStage
         ensures { (turns : List ℕ) (s : spec.KernelAlone) → StandsForKernel self.now turns s →
-            stood_place result ≡ s.place }
+            stood_stage result ≡ s.stage }
     {
-        self.place
+        self.stage
     }
 
     /// The last step that was made halted.

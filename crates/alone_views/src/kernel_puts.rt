@@ -4,7 +4,7 @@ ghost use Rattle.cloak_model.specs.Effect.{IsWidth};
 ghost use Rattle.cloak_model.specs.KernelAlone as spec;
 
 use crate::kernel::KernelAlone;
-use crate::kernel_place::KernelPlace;
+use crate::kernel_stage::KernelStage;
 
 /// An access has this width.
 fn is_width(width: u32) -> bool
@@ -41,14 +41,14 @@ impl KernelAlone {
     /// Takes a Put.
     pub(crate) fn take_put(&mut self, address: u32, width: u32, value: u32)
         ensures becomes { IsWidth width →
-            ChangesTo self.old self.new (λ s. spec.take_put s.place address width value s) }
+            ChangesTo self.old self.new (λ s. spec.take_put s.stage address width value s) }
         ensures schedule { turns_of self.new ≡ turns_of self.old }
     {
-        match self.place {
-            KernelPlace::Inside { .. } => self.store(address, width, value),
-            KernelPlace::Between => self.refuse(),
-            KernelPlace::Outside { .. } => self.refuse(),
-            KernelPlace::Left => self.refuse(),
+        match self.stage {
+            KernelStage::Inside { .. } => self.store(address, width, value),
+            KernelStage::Between => self.refuse(),
+            KernelStage::Outside { .. } => self.refuse(),
+            KernelStage::Left => self.refuse(),
         }
     }
 }

@@ -1,9 +1,8 @@
 //! The frames of a machine without cloaked pages, and the reservations of its harts.
-ghost use Rattle.std.specs.Prelude.{ℕ, ◌≡◌, ◌+◌, ◌*◌, ◌%◌, ◌≤◌, ◌<◌, None, Ok, length, nat_lt, replicate, slice_set, IfOk, All, IsTrue};
+ghost use Rattle.std.specs.Prelude.{◌≡◌, ◌+◌, ◌*◌, ◌%◌, ◌≤◌, ◌<◌, None, length, nat_lt, replicate, slice_set, IfOk, All, IsTrue};
 ghost use Rattle.std.specs.List.{concat};
 ghost use Rattle.sha2.specs.Sha256.{sha256};
 ghost use Rattle.cloak_base.specs.Pages.{zero_page};
-ghost use Rattle.cloak_model.specs.declared.access.Access.{Access};
 ghost use Rattle.cloak_model.specs.Ask as ask;
 ghost use Rattle.cloak_model.specs.Asking.{Follows};
 ghost use Rattle.cloak_model.specs.Bundle.{IsSegmentIn};
@@ -13,7 +12,7 @@ ghost use Rattle.cloak_model.specs.Memory.{filled, mark_of, stored, value_at, wi
 ghost use Rattle.cloak_model.specs.Opening.{with_segments};
 
 use cloak_base::{Frame, NoMemory, RAM_START, frame_of, is_in_frames, place_of};
-use cloak_model::{Access, Segment, access_fault, set_value_in, value_in, word_in};
+use cloak_model::{Access, Segment, Walked, access_fault, set_value_in, value_in, word_in};
 use host_calls::{Ram, Reservations};
 use rv_atomic::{AtomicOp, combine};
 use sha2::{Digest, Sha256};
@@ -29,7 +28,7 @@ pub struct FlatRam {
 }
 
 impl FlatRam {
-    ghost use Rattle.alone_views.specs.KernelWorld.{IsWorld, seen_by};
+    ghost use Rattle.alone_views.specs.KernelWorld.{IsWorld, after_conditional, seen_by};
 
     /// The address lies in RAM.
     #[inline]
@@ -46,12 +45,11 @@ impl FlatRam {
         (f as usize) < self.frames.len()
     }
 
-    /// The address in RAM where an access leads, by the page tables. Err is the cause of its fault.
-    #[tactic(auto, using(cloak_model::proofs::Later::laters), unfolding(cloak_model::specs::Ask::ask_translate, cloak_model::specs::Ask::ask_in_ram))]
-    fn led(&mut self, satp: u32, access: Access) -> Result<u32, u32>
+    /// The walk that leads an access to an address in RAM, by the page tables. Err is the cause of its fault.
+    fn led(&mut self, satp: u32, access: Access) -> Result<Walked, u32>
         ensures follows { Follows IsWorld self.old self.new result (ask.ask_translate satp access) }
-        ensures inside { IfOk result (λ pa. IsTrue (is_in_frames (length self.old.frames.items) pa)) }
-        ensures offset { IfOk result (λ pa. pa % 4096 ≡ access.va % 4096) }
+        ensures inside { IfOk result (λ walked. IsTrue (is_in_frames (length self.new.frames.items) walked.pa)) }
+        ensures offset { IfOk result (λ walked. walked.pa % 4096 ≡ access.va % 4096) }
         ensures same_count { length self.new.frames.items ≡ length self.old.frames.items }
     {
         let Access {
@@ -65,7 +63,7 @@ impl FlatRam {
             Err(cause) => Err(cause),
             Ok(walked) => {
                 if self.is_inside(walked.pa) {
-                    Ok(walked.pa as u32)
+                    Ok(walked)
                 } else {
                     Err(access_fault(kind))
                 }
@@ -75,29 +73,23 @@ impl FlatRam {
 
     /// The value of the 1, 2 or 4 bytes at an address, the lowest byte first.
     #[inline]
-    #[tactic(auto, unfolding(cloak_model::specs::Ask::ask_value))]
     fn read_at(&self, pa: u32, width: u32) -> u32
         requires inside { IsTrue (is_in_frames (length self.now.frames.items) pa) }
         requires width { IsWidth width }
         requires aligned { pa % width ≡ 0 }
-        ensures value { result ≡ value_at self.now.frames.items pa width }
-        ensures follows { (satp : ℕ) (access : Access) →
-            Follows IsWorld self.now self.now result (ask.ask_value satp access pa width) }
+        ensures { result ≡ value_at self.now.frames.items pa width }
     {
         value_in(&self.frames[frame_of(pa).0 as usize], place_of(pa), width)
     }
 
     /// Stores the lowest 1, 2 or 4 bytes of a word at an address.
     #[inline]
-    #[tactic(auto, unfolding(cloak_model::specs::Ask::ask_store))]
     pub fn write_at(&mut self, pa: u32, width: u32, value: u32)
         requires inside { IsTrue (is_in_frames (length self.old.frames.items) pa) }
         requires width { IsWidth width }
         requires aligned { pa % width ≡ 0 }
         ensures frames { self.new.frames.items ≡ with_value_at pa width value self.old.frames.items }
         ensures marks { self.new.reservations ≡ (stored pa width value (seen_by self.old)).marks }
-        ensures follows { (satp : ℕ) (access : Access) →
-            Follows IsWorld self.old self.new tt (ask.ask_store satp access pa width value) }
     {
         set_value_in(
             &mut self.frames[frame_of(pa).0 as usize],
@@ -106,19 +98,6 @@ impl FlatRam {
             value,
         );
         self.reservations.word_written(pa);
-    }
-
-    /// The word at an address, which a hart reserves.
-    #[tactic(auto, unfolding(cloak_model::specs::Ask::reserved_at, cloak_model::specs::Ask::ask_value, cloak_model::specs::Ask::ask_mark))]
-    fn reserve_at(&mut self, pa: u32, hart: u32) -> u32
-        requires inside { IsTrue (is_in_frames (length self.old.frames.items) pa) }
-        requires aligned { pa % 4 ≡ 0 }
-        ensures follows { (satp : ℕ) (access : Access) →
-            Follows IsWorld self.old self.new (Ok result) (ask.reserved_at satp access hart (Ok pa)) }
-        ensures same_count { length self.new.frames.items ≡ length self.old.frames.items }
-    {
-        self.reservations.mark(hart, pa);
-        self.read_at(pa, 4)
     }
 
     /// A hart has reserved the word at this address.
@@ -136,8 +115,8 @@ impl FlatRam {
     fn store_reserved(&mut self, pa: u32, hart: u32, v: u32) -> bool
         requires inside { IsTrue (is_in_frames (length self.old.frames.items) pa) }
         requires aligned { pa % 4 ≡ 0 }
-        ensures follows { (satp : ℕ) (access : Access) →
-            Follows IsWorld self.old self.new (Ok result) (ask.conditional_at satp access hart v (Ok pa)) }
+        ensures stored { result ≡ ask.is_reserved pa (mark_of hart self.old.reservations) }
+        ensures seen { seen_by self.new ≡ after_conditional result hart pa v (seen_by self.old) }
         ensures same_count { length self.new.frames.items ≡ length self.old.frames.items }
     {
         if self.has_reserved(hart, pa) {
@@ -147,20 +126,6 @@ impl FlatRam {
         }
         self.reservations.unmark(hart);
         false
-    }
-
-    /// Stores what an operation makes of the word at an address and the operand. The word that stood there.
-    #[tactic(auto, unfolding(cloak_model::specs::Ask::combined_at, cloak_model::specs::Ask::ask_value))]
-    fn combine_at(&mut self, pa: u32, op: AtomicOp, operand: u32) -> u32
-        requires inside { IsTrue (is_in_frames (length self.old.frames.items) pa) }
-        requires aligned { pa % 4 ≡ 0 }
-        ensures follows { (satp : ℕ) (access : Access) →
-            Follows IsWorld self.old self.new (Ok result) (ask.combined_at satp access op operand (Ok pa)) }
-        ensures same_count { length self.new.frames.items ≡ length self.old.frames.items }
-    {
-        let old = self.read_at(pa, 4);
-        self.write_at(pa, 4, combine(op, old, operand));
-        old
     }
 
     /// Replaces the bytes of a frame.
@@ -203,7 +168,7 @@ impl WordMemory for FlatRam {
     }
 }
 
-#[tactic(auto, using(cloak_model::proofs::Later::laters), unfolding(cloak_model::specs::Ask::ask_load, cloak_model::specs::Ask::loaded_at, cloak_model::specs::Ask::ask_store_at, cloak_model::specs::Ask::stored_to, cloak_model::specs::Ask::ask_frame, cloak_model::specs::Ask::ask_unmark, cloak_model::specs::Ask::ask_fill, cloak_model::specs::Ask::ask_count))]
+#[tactic(auto, using(cloak_model::proofs::Later::laters), unfolding(cloak_model::specs::Ask::ask_frame, cloak_model::specs::Ask::ask_unmark, cloak_model::specs::Ask::ask_fill, cloak_model::specs::Ask::ask_count))]
 impl Ram for FlatRam {
     ghost use Rattle.std.specs.Prelude.{length};
     ghost use Rattle.alone_views.specs.KernelWorld.{IsWorld};
@@ -217,15 +182,15 @@ impl Ram for FlatRam {
     fn load(&mut self, satp: u32, access: Access, width: u32) -> Result<u32, u32> {
         match self.led(satp, access) {
             Err(cause) => Err(cause),
-            Ok(pa) => Ok(self.read_at(pa, width)),
+            Ok(walked) => Ok(self.read_at(walked.pa as u32, width)),
         }
     }
 
     fn store(&mut self, satp: u32, access: Access, width: u32, v: u32) -> Result<(), u32> {
         match self.led(satp, access) {
             Err(cause) => Err(cause),
-            Ok(pa) => {
-                self.write_at(pa, width, v);
+            Ok(walked) => {
+                self.write_at(walked.pa as u32, width, v);
                 Ok(())
             }
         }
@@ -234,7 +199,11 @@ impl Ram for FlatRam {
     fn reserve(&mut self, satp: u32, access: Access, hart: u32) -> Result<u32, u32> {
         match self.led(satp, access) {
             Err(cause) => Err(cause),
-            Ok(pa) => Ok(self.reserve_at(pa, hart)),
+            Ok(walked) => {
+                let pa = walked.pa as u32;
+                self.reservations.mark(hart, pa);
+                Ok(self.read_at(pa, 4))
+            }
         }
     }
 
@@ -247,7 +216,7 @@ impl Ram for FlatRam {
     ) -> Result<bool, u32> {
         match self.led(satp, access) {
             Err(cause) => Err(cause),
-            Ok(pa) => Ok(self.store_reserved(pa, hart, v)),
+            Ok(walked) => Ok(self.store_reserved(walked.pa as u32, hart, v)),
         }
     }
 
@@ -260,7 +229,12 @@ impl Ram for FlatRam {
     ) -> Result<u32, u32> {
         match self.led(satp, access) {
             Err(cause) => Err(cause),
-            Ok(pa) => Ok(self.combine_at(pa, op, operand)),
+            Ok(walked) => {
+                let pa = walked.pa as u32;
+                let old = self.read_at(pa, 4);
+                self.write_at(pa, 4, combine(op, old, operand));
+                Ok(old)
+            }
         }
     }
 

@@ -5,8 +5,8 @@ ghost use Rattle.cloak_model.specs.Exchange.{EmitsSome};
 ghost use Rattle.cloak_model.specs.KernelAlone as spec;
 
 use crate::kernel::KernelAlone;
-use crate::kernel_place::KernelPlace;
 use crate::kernel_showing::show;
+use crate::kernel_stage::KernelStage;
 use cloak_model::Emit;
 use host_calls::{Kernel, kernel_step, tick};
 
@@ -35,7 +35,7 @@ impl KernelAlone {
         ensures schedule { turns_of self.new ≡ turns_of self.old }
     {
         let ending = kernel_step(&mut self.harts[hart], &mut self.disk, &mut self.ram);
-        self.place = KernelPlace::Between;
+        self.stage = KernelStage::Between;
         self.halted = has_halted(ending);
         self.ending = ending;
         ending
@@ -58,16 +58,16 @@ impl KernelAlone {
     /// Ends the step that is open, if there is one: a hart outside makes its plain step.
     pub(crate) fn end_step<E: Emit>(&mut self, e: &mut E)
         ensures gains { (turns : List ℕ) (s : spec.KernelAlone) → StandsForKernel self.old turns s →
-            Gains E.gave e.old e.new self.new turns s (spec.kernel_step_ended s.place s) }
+            Gains E.gave e.old e.new self.new turns s (spec.kernel_step_ended s.stage s) }
         ensures ending { EndsAs self.old self.new }
         ensures schedule { turns_of self.new ≡ turns_of self.old }
         ensures emits_some { EmitsSome E.gave e.old e.new }
     {
-        match self.place {
-            KernelPlace::Between => {}
-            KernelPlace::Outside { hart } => self.end_plainly(hart, e),
-            KernelPlace::Inside { .. } => self.place = KernelPlace::Between,
-            KernelPlace::Left => self.place = KernelPlace::Between,
+        match self.stage {
+            KernelStage::Between => {}
+            KernelStage::Outside { hart } => self.end_plainly(hart, e),
+            KernelStage::Inside { .. } => self.stage = KernelStage::Between,
+            KernelStage::Left => self.stage = KernelStage::Between,
         }
     }
 
@@ -87,10 +87,10 @@ impl KernelAlone {
         ensures ending { ending_in self.new ≡ ending_in self.old }
     {
         match self.harts[hart].inside {
-            None => self.place = KernelPlace::Outside { hart },
+            None => self.stage = KernelStage::Outside { hart },
             Some(ctx) => {
                 tick(&mut self.harts[hart]);
-                self.place = KernelPlace::Inside { hart, ctx };
+                self.stage = KernelStage::Inside { hart, ctx };
             }
         }
     }

@@ -15,7 +15,7 @@ use Rattle.rv_atomic.specs.declared.atomic.AtomicOp.{AtomicOp}
 use Rattle.rv_atomic.specs.declared.atomic.AtomicOp.TheVariants.{Lr, Sc}
 use Rattle.cloak_model.specs.declared.answer.Answer.{Answer}
 use Rattle.cloak_model.specs.declared.answer.Answer.TheVariants as told
-use Rattle.cloak_model.specs.declared.context.WordPlace.{WordPlace}
+use Rattle.cloak_model.specs.declared.context.PageWord.{PageWord}
 use Rattle.cloak_model.specs.declared.context.Phase.{Phase}
 use Rattle.cloak_model.specs.declared.context.Phase.TheVariants.{Plain, CopyIn, Waiting, CopyOut}
 use Rattle.cloak_model.specs.declared.inside.Copied.{Copied}
@@ -334,11 +334,11 @@ copied_meets slot d c made begun e w (inr met) =
 -- A step.
 
 -- a word that was written in changes reservations alone
-written_stops : (wrote : Option WordPlace) (s : DomainStepped) → IsStoppedStep s → IsStoppedStep (after_write wrote s)
+written_stops : (wrote : Option PageWord) (s : DomainStepped) → IsStoppedStep s → IsStoppedStep (after_write wrote s)
 written_stops None s is = is
 written_stops (Some place) s is = is
 
-written_meets : (wrote : Option WordPlace) (d : Domain) (c : Context) (begun : World) (s : DomainStepped) (w : World) →
+written_meets : (wrote : Option PageWord) (d : Domain) (c : Context) (begun : World) (s : DomainStepped) (w : World) →
     Calm w ⊎ (IsStoppedStep s × MetIn d c begun w) →
     EndsCalmOrMet IsStoppedStep d c begun (answered (after_write wrote s) w)
 written_meets wrote d c begun s w (inl calm) = inl calm

@@ -1,6 +1,7 @@
 -- What each question of a program leaves: a memory that is kept and has met nothing wrong, or it is stopped, when the
 -- program's page is found in a frame that differs from what was last shown of it.
-use Rattle.std.proofs.Common.{◌≡◌, ◌∙◌, ◌⊎◌, ℕ, Bool, true, false, cond, List, [], ◌∷◌, ◌++◌, Some, None, Result, Ok, Err, refl, sym, ap, inl, inr}
+use Rattle.std.proofs.Common.{◌≡◌, ◌∙◌, ◌⊎◌, ℕ, Bool, true, false, List, [], ◌∷◌, ◌++◌, Some, None, Ok, Err, refl, sym, inl, inr}
+use Rattle.std.proofs.lemmas.Bool.{cond_both}
 use Rattle.std.proofs.lemmas.List.{length-set}
 use Rattle.cloak_base.specs.declared.causes.Violation.TheVariants as violation
 use Rattle.cloak_base.specs.declared.names.Kind.{Kind}
@@ -8,25 +9,25 @@ use Rattle.cloak_base.specs.declared.names.PageId.{PageId}
 use Rattle.cloak_model.specs.declared.access.Walked.{Walked}
 use Rattle.cloak_model.specs.declared.answer.Answer.{Answer}
 use Rattle.cloak_model.specs.declared.answer.Answer.TheVariants as told
-use Rattle.cloak_model.specs.AskPages.{replies, if_drawn, is_store, offer_events, ask_inside_address, offered_by, ask_offer, reached, reach_by_table, put_at, ask_reach, ask_write, ask_get, ask_put, ask_clear, ask_copy, ask_forget}
-use Rattle.cloak_model.specs.Asking.{Told}
-use Rattle.cloak_model.specs.Cloaking.{OfferEnd, Ready, Mismatch, Missed, offer}
+use Rattle.cloak_model.specs.AskPages.{replies, if_drawn, is_store, offer_events, ask_led_inside, offered_by, ask_offer, reached, reach_by_table, put_at, ask_reach, ask_write, ask_get, ask_put, ask_clear, ask_copy, ask_forget}
+use Rattle.cloak_model.specs.Asking.{Told, Asking}
+use Rattle.cloak_model.specs.Cloaking.{offer}
 use Rattle.cloak_model.specs.Ending.{ask_end}
 use Rattle.cloak_model.specs.Events.{Event}
 use Rattle.cloak_model.specs.Fork.{copy_each, forget_each}
 use Rattle.cloak_base.specs.Constants.{frame_of}
 use Rattle.cloak_model.specs.Memory.{Seen}
 use Rattle.cloak_model.specs.PageMoves.{copy_pages, drop_pages}
-use Rattle.cloak_model.specs.Walk.{walk}
+use Rattle.cloak_model.specs.Walk.{Walk, walk}
 use Rattle.cloak_model.specs.World.{World, MidStep, Flat, Cloaked, Alone, Handed, noted, settled, cipher_items, is_missed}
 use Rattle.cloak_model.specs.Script.{Change, Write, Copy, Forget, changed, played}
 use Rattle.script_fold.proofs.Endings.{keeps_forgets, keeps_end}
-use Rattle.script_fold.proofs.Questions.{Replies, opens_by, keeps_inside_address, keeps_get, keeps_stored, keeps_clear}
+use Rattle.script_fold.proofs.Questions.{Replies, opens_by, keeps_led_inside, keeps_get, keeps_stored, keeps_clear}
 use Rattle.domain_isolation.proofs.Steady.{is_cloaked}
 use Rattle.cause_law.specs.Presented.{Differs, FindsOther}
-use Rattle.cause_law.proofs.Compared.{offer_compares}
+use Rattle.cause_law.proofs.Compared.{IsRefused, offer_compares}
 use Rattle.cause_law.proofs.Kept.{IsKept, kept_settled, offer_offers}
-use Rattle.cause_law.proofs.Leading.{OfMemory, access_of, LeadsStill, address_leads}
+use Rattle.cause_law.proofs.Leading.{OfMemory, Walks, access_of, access_leads}
 
 -- Nothing wrong was met.
 pub record IsCalm (c : MidStep) : Type 0 where
@@ -40,9 +41,7 @@ pub record HasMet (q : PageId) (va : ℕ) (kind : Kind) (asked c : MidStep) : Ty
   pub violation : c.violation ≡ Some (violation.Page q (record { 0 = frame }))
   pub finds : FindsOther q va kind frame asked
   pub differs : Differs q frame c.memory
-  pub walked : Walked
-  pub leads : walk c.memory.ram asked.regime.satp (access_of asked.regime kind va) ≡ Ok walked
-  pub there : frame_of walked.pa ≡ frame
+  pub leads : walk c.memory.ram asked.regime.satp (access_of asked.regime kind va) ≡ Ok finds.walked
 
 abbrev pub Calm : World → Type 0
 Calm (Cloaked c) = IsCalm c
@@ -118,35 +117,39 @@ calms_put_at pa width value (Alone h) = no_alone h _
 abbrev pub CalmOrMet : PageId → ℕ → Kind → MidStep → Told Answer → Type 0
 CalmOrMet q va kind asked t = Calm t.world ⊎ ((t.answer ≡ told.Stopped) × Met q va kind asked t.world)
 
-offered_meets : (q : PageId) (va pa : ℕ) (kind : Kind) (k c : MidStep) (a : OfferEnd) →
-    ask_inside_address va kind (Cloaked k) ≡ record { answer = Ok pa; world = Cloaked c } →
-    LeadsStill k.regime kind va pa c.memory → c.memory.ledger.missed ≡ false → IsCalm c →
-    let o = offer q (frame_of pa) (is_store kind) c.memory in
-    o.answer ≡ a →
-    CalmOrMet q va kind k (offered_by q va kind (frame_of pa) a
+offered_meets : (q : PageId) (va : ℕ) (kind : Kind) (k c : MidStep) (walked : Walked) (granted : Bool) →
+    ask_led_inside va kind (Cloaked k) ≡ record { answer = Ok walked; world = Cloaked c } →
+    Walks k.regime.satp (access_of k.regime kind va) (Ok walked) c.memory → IsCalm c →
+    let g = frame_of walked.pa in
+    let o = offer q g (is_store kind) c.memory in
+    o.granted ≡ granted → o.memory.ledger.missed ≡ false →
+    CalmOrMet q va kind k (offered_by q va kind walked granted
     (Cloaked
     (record c {
       memory = o.memory;
       items = c.items ++ cipher_items o.ciphers;
-      events = c.events ++ offer_events q (frame_of pa) c.memory o.answer;
+      events = c.events ++ offer_events q g c.memory o.granted;
     })))
 unfolding offered_by replies
-offered_meets q va pa kind k c Ready is leads drawn calm answers =
-    inl (record { kept = (offer_offers q (frame_of pa) (is_store kind) c.memory calm.kept).kept; none = calm.none })
-offered_meets q va pa kind k c Missed is leads drawn calm answers =
-    inl (record { kept = (offer_offers q (frame_of pa) (is_store kind) c.memory calm.kept).kept; none = calm.none })
-offered_meets q va pa kind k c Mismatch is leads drawn calm answers =
-    let o = offer q (frame_of pa) (is_store kind) c.memory in
-    let offers = offer_offers q (frame_of pa) (is_store kind) c.memory calm.kept in
-    let compares = offer_compares q (frame_of pa) (is_store kind) c.memory calm.kept drawn answers in
+offered_meets q va kind k c walked true is leads calm answers drawn =
+    inl (record {
+      kept = (offer_offers q (frame_of walked.pa) (is_store kind) c.memory calm.kept).kept;
+      none = calm.none;
+    })
+offered_meets q va kind k c walked false is leads calm answers drawn =
+    let g = frame_of walked.pa in
+    let o = offer q g (is_store kind) c.memory in
+    let offers = offer_offers q g (is_store kind) c.memory calm.kept in
+    let refused : IsRefused o = record { granted = answers; drawn = drawn } in
+    let compares = offer_compares q g (is_store kind) c.memory calm.kept refused in
     inr (
       refl,
       record {
         kept = offers.kept;
-        frame = frame_of pa;
+        frame = g;
         violation = refl;
         finds = record {
-          pa = pa;
+          walked = walked;
           found = c;
           leads = is;
           frame = refl;
@@ -154,38 +157,44 @@ offered_meets q va pa kind k c Mismatch is leads drawn calm answers =
           drawn = compares.drawn;
           differs = compares.differs;
         };
-        differs = offers.differs answers;
-        walked = leads.walked;
-        leads = leads.leads o.memory (offers.more answers);
-        there = ap frame_of leads.at;
+        differs = compares.still;
+        leads = leads o.memory (offers.more answers);
       },
     )
 
-reached_meets : (q : PageId) (va : ℕ) (kind : Kind) (k : MidStep) (to : Result ℕ ℕ) (w : World) →
-    ask_inside_address va kind (Cloaked k) ≡ record { answer = to; world = w } →
-    ((pa : ℕ) → to ≡ Ok pa → OfMemory (LeadsStill k.regime kind va pa) w) → is_missed w ≡ false → Calm w →
+-- a question that stops if a draw was missing
+drawn_meets : (q : PageId) (va : ℕ) (kind : Kind) (k : MidStep) (ask : Asking Answer) (w : World) → Calm w →
+    (is_missed w ≡ false → CalmOrMet q va kind k (ask w)) → CalmOrMet q va kind k (if_drawn ask w)
+unfolding if_drawn
+drawn_meets q va kind k ask w calm next =
+    cond_both (is_missed w) _ _ (CalmOrMet q va kind k) (λ missed. inl ((calms_replies _ w).by calm)) next
+
+reached_meets : (q : PageId) (va : ℕ) (kind : Kind) (k : MidStep) (to : Walk) (w : World) →
+    ask_led_inside va kind (Cloaked k) ≡ record { answer = to; world = w } →
+    ((walked : Walked) → to ≡ Ok walked →
+    OfMemory (Walks k.regime.satp (access_of k.regime kind va) (Ok walked)) w) → Calm w →
     CalmOrMet q va kind k (reached q va kind to w)
 unfolding reached ask_offer
-reached_meets q va kind k (Err cause) w is leads drawn calm = inl ((calms_replies _ w).by calm)
-reached_meets q va kind k (Ok pa) (Flat seen) is leads drawn calm = absurd calm
-reached_meets q va kind k (Ok pa) (Cloaked c) is leads drawn calm =
-    offered_meets q va pa kind k c _ is (leads pa refl) drawn calm refl
-reached_meets q va kind k (Ok pa) (Alone h) is leads drawn calm = absurd calm
-
-drawn_meets : (q : PageId) (va : ℕ) (kind : Kind) (k : MidStep) (to : Result ℕ ℕ) (w : World) (missed : Bool) →
-    ask_inside_address va kind (Cloaked k) ≡ record { answer = to; world = w } →
-    ((pa : ℕ) → to ≡ Ok pa → OfMemory (LeadsStill k.regime kind va pa) w) → is_missed w ≡ missed → Calm w →
-    CalmOrMet q va kind k (cond missed (replies told.Stopped w) (reached q va kind to w))
-drawn_meets q va kind k to w true is leads drawn calm = inl ((calms_replies _ w).by calm)
-drawn_meets q va kind k to w false is leads drawn calm = reached_meets q va kind k to w is leads drawn calm
+reached_meets q va kind k (Err cause) w is leads calm = inl ((calms_replies _ w).by calm)
+reached_meets q va kind k (Ok walked) (Flat seen) is leads calm = absurd calm
+reached_meets q va kind k (Ok walked) (Cloaked c) is leads calm =
+    drawn_meets q va kind k _ _
+    (record {
+      kept = (offer_offers q (frame_of walked.pa) (is_store kind) c.memory calm.kept).kept;
+      none = calm.none;
+    })
+    (offered_meets q va kind k c walked _ is (leads walked refl) calm refl)
+reached_meets q va kind k (Ok walked) (Alone h) is leads calm = absurd calm
 
 reach_meets : (q : PageId) (va : ℕ) (kind : Kind) (k : MidStep) → IsCalm k →
     CalmOrMet q va kind k (reach_by_table q va kind (Cloaked k))
-unfolding reach_by_table if_drawn
+unfolding reach_by_table
 reach_meets q va kind k calm =
-    let to = ask_inside_address va kind (Cloaked k) in
-    drawn_meets q va kind k to.answer to.world _ refl (λ pa is. address_leads va kind k pa calm.kept is) refl
-    ((keeps_inside_address Calms calm_replies.opens va kind (Cloaked k)).by calm)
+    let to = ask_led_inside va kind (Cloaked k) in
+    let after = (keeps_led_inside Calms calm_replies.opens va kind (Cloaked k)).by calm in
+    drawn_meets q va kind k _ to.world after
+    (λ drawn. reached_meets q va kind k to.answer to.world refl
+    (λ walked is. access_leads va kind k walked calm.kept is) after)
 
 pub asked_meets : (q : PageId) (va : ℕ) (kind : Kind) (k : MidStep) → IsCalm k →
     CalmOrMet q va kind k (ask_reach q va kind (Cloaked k))

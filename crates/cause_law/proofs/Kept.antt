@@ -1,5 +1,5 @@
 -- What every step keeps: each frame has its place among what is owed, and no page is owed by two frames. And what an
--- offer leaves: if it is refused, the frame differs from what was last shown of the page.
+-- offer leaves: if it is refused, the frames that owed nothing are as they were.
 use Rattle.std.proofs.Common.{◌≡◌, ◌≢◌, ◌∙◌, ◌<◌, ◌≤◌, ◌⊎◌, ℕ, Bool, true, false, cond, List, [], ◌++◌, length, Option, Some, None, nat_lt, is_some, refl, sym, ap, subst, arith, inl, inr}
 use Rattle.std.specs.Prelude.{slice_index_or, slice_set}
 use Rattle.std.specs.List.{position_or_len}
@@ -7,13 +7,11 @@ use Rattle.std.specs.Str.{bytes_eq}
 use Rattle.std.proofs.lemmas.Bool.{false≢true, cases_lt, ltb-true, ltb-false}
 use Rattle.std.proofs.lemmas.List.{get_or-set_same, get_or-set_other, get_or_past, length-set}
 use Rattle.std.proofs.lemmas.List.Sums.{fails_before_first, passes_at_first}
-use Rattle.std.proofs.lemmas.Slice.Eq.{bytes_eq-Decides}
 use Rattle.cloak_base.proofs.Pages.{same_page_tells, same_page-self}
 use Rattle.cloak_base.specs.declared.names.PageId.{PageId}
-use Rattle.cloak_model.specs.Cloaking.{CloakedMemory, AfterSettling, AfterOffer, Ready, Mismatch, Missed, owed_in, owes, owing_frame, settle, settle_frame_if, with_owed, with_comparison, taken, compared, unless_missed, offer}
+use Rattle.cloak_model.specs.Cloaking.{CloakedMemory, AfterSettling, AfterOffer, owed_in, owes, owing_frame, settle, settle_frame_if, with_owed, with_comparison, taken, compared, unless_missed, offer}
 use Rattle.domain_isolation.proofs.InOrder.{decided, same_some}
 use Rattle.kernel_isolation.proofs.Settlings.{HasPlaces}
-use Rattle.cause_law.specs.Presented.{Differs}
 use Rattle.cause_law.proofs.Settled.{Settles, settles, owed_within}
 
 pub record IsKept (m : CloakedMemory) : Type 0 where
@@ -169,18 +167,13 @@ kept_owed q g m kept home = record {
 
 -- Offers.
 
-pub record Offers (q : PageId) (g : ℕ) (m : CloakedMemory) (o : AfterOffer) : Type 0 where
+pub record Offers (m : CloakedMemory) (o : AfterOffer) : Type 0 where
   pub kept : IsKept o.memory
-  pub differs : o.answer ≡ Mismatch → Differs q g o.memory
-  pub more : o.answer ≡ Mismatch → Extends m o.memory
+  pub more : o.granted ≡ false → Extends m o.memory
 
-ready : (q : PageId) (g : ℕ) (from m : CloakedMemory) (ciphers : List (ℕ × List ℕ)) → IsKept m →
-    Offers q g from (record { memory = m; ciphers = ciphers; answer = Ready })
-ready q g from m ciphers kept = record {
-  kept = kept;
-  differs = λ is. let clash : Ready ≡ Mismatch = is in absurd cc;
-  more = λ is. let clash : Ready ≡ Mismatch = is in absurd cc;
-}
+granted_so : (from m : CloakedMemory) (ciphers : List (ℕ × List ℕ)) → IsKept m →
+    Offers from (record { memory = m; ciphers = ciphers; granted = true })
+granted_so from m ciphers kept = record { kept = kept; more = λ refused. absurd (false≢true (sym refused)) }
 
 taken_kept : (q : PageId) (g : ℕ) (write : Bool) (m : CloakedMemory) → IsKept m → IsHome q m →
     IsKept (taken q g write m)
@@ -188,68 +181,51 @@ taken_kept q g true m kept home = kept_owed q g m kept home
 taken_kept q g false m kept home = kept
 
 compared_by : (q : PageId) (g : ℕ) (write : Bool) (c : List ℕ) (m : CloakedMemory) (same : Bool) → IsKept m →
-    IsHome q m → owed_in m g ≡ None → m.ledger.recorded q ≡ Some c →
-    bytes_eq (slice_index_or m.ram g []) c ≡ same →
+    IsHome q m →
     let m' = with_comparison (slice_index_or m.ram g []) c m in
-    Offers q g m (cond same (record { memory = taken q g write m'; ciphers = []; answer = Ready })
-    (record { memory = m'; ciphers = []; answer = Mismatch }))
-compared_by q g write c m true kept home clean recorded is =
-    ready q g m _ [] (taken_kept q g write _ (record { places = kept.places; once = kept.once }) home)
-compared_by q g write c m false kept home clean recorded is = record {
+    Offers m (cond same (record { memory = taken q g write m'; ciphers = []; granted = true })
+    (record { memory = m'; ciphers = []; granted = false }))
+compared_by q g write c m true kept home =
+    granted_so m _ [] (taken_kept q g write _ (record { places = kept.places; once = kept.once }) home)
+compared_by q g write c m false kept home = record {
   kept = record { places = kept.places; once = kept.once };
-  differs = λ refused. record {
-    shown = c;
-    recorded = recorded;
-    other = λ same.
-        absurd (false≢true (sym is ∙ (bytes_eq-Decides (slice_index_or m.ram g []) c).1 same));
-    visible = clean;
-    newest = home;
-  };
   more = λ refused. record { count = refl; clean = λ f none. none; ram = λ f none. refl };
 }
 
 compared_offers : (q : PageId) (g : ℕ) (write : Bool) (o : Option (List ℕ)) (m : CloakedMemory) → IsKept m →
-    IsHome q m → owed_in m g ≡ None → m.ledger.recorded q ≡ o → Offers q g m (compared q g write o m)
+    IsHome q m → Offers m (compared q g write o m)
 unfolding compared
-compared_offers q g write None m kept home clean recorded = ready q g m _ [] (kept_owed q g m kept home)
-compared_offers q g write (Some c) m kept home clean recorded =
-    compared_by q g write c m (bytes_eq (slice_index_or m.ram g []) c) kept home clean recorded refl
+compared_offers q g write None m kept home = granted_so m _ [] (kept_owed q g m kept home)
+compared_offers q g write (Some c) m kept home =
+    compared_by q g write c m (bytes_eq (slice_index_or m.ram g []) c) kept home
 
-unless_by : (q : PageId) (g : ℕ) (m : CloakedMemory) (s : AfterSettling) (o : AfterOffer) (missed : Bool) →
-    Extends m s.memory → IsKept s.memory → Offers q g s.memory o →
-    Offers q g m (cond missed (record { memory = s.memory; ciphers = s.ciphers; answer = Missed })
-    (record { memory = o.memory; ciphers = s.ciphers ++ o.ciphers; answer = o.answer }))
-unless_by q g m s o true more kept offers = record {
-  kept = kept;
-  differs = λ is. let clash : Missed ≡ Mismatch = is in absurd cc;
-  more = λ is. let clash : Missed ≡ Mismatch = is in absurd cc;
-}
-unless_by q g m s o false more kept offers = record {
+unless_by : (m : CloakedMemory) (s : AfterSettling) (o : AfterOffer) (missed : Bool) → Extends m s.memory →
+    IsKept s.memory → Offers s.memory o →
+    Offers m (cond missed (record { memory = s.memory; ciphers = s.ciphers; granted = false })
+    (record { memory = o.memory; ciphers = s.ciphers ++ o.ciphers; granted = o.granted }))
+unless_by m s o true more kept offers = record { kept = kept; more = λ refused. more }
+unless_by m s o false more kept offers = record {
   kept = offers.kept;
-  differs = offers.differs;
-  more = λ is. Extends-trans m s.memory o.memory more (offers.more is);
+  more = λ refused. Extends-trans m s.memory o.memory more (offers.more refused);
 }
 
-unless_offers : (q : PageId) (g : ℕ) (m : CloakedMemory) (s : AfterSettling) (next : CloakedMemory → AfterOffer) →
-    Extends m s.memory → IsKept s.memory → Offers q g s.memory (next s.memory) → Offers q g m (unless_missed s next)
+unless_offers : (m : CloakedMemory) (s : AfterSettling) (next : CloakedMemory → AfterOffer) → Extends m s.memory →
+    IsKept s.memory → Offers s.memory (next s.memory) → Offers m (unless_missed s next)
 unfolding unless_missed
-unless_offers q g m s next more kept offers = unless_by q g m s (next s.memory) s.missed more kept offers
+unless_offers m s next more kept offers = unless_by m s (next s.memory) s.missed more kept offers
 
-offer_by : (q : PageId) (g : ℕ) (m : CloakedMemory) (o : AfterOffer) (owed : Bool) → IsKept m → Offers q g m o →
-    Offers q g m (cond owed (record { memory = m; ciphers = []; answer = Ready }) o)
-offer_by q g m o true kept offers = ready q g m m [] kept
-offer_by q g m o false kept offers = offers
+offer_by : (m : CloakedMemory) (o : AfterOffer) (owed : Bool) → IsKept m → Offers m o →
+    Offers m (cond owed (record { memory = m; ciphers = []; granted = true }) o)
+offer_by m o true kept offers = granted_so m m [] kept
+offer_by m o false kept offers = offers
 
-pub offer_offers : (q : PageId) (g : ℕ) (write : Bool) (m : CloakedMemory) → IsKept m →
-    Offers q g m (offer q g write m)
+pub offer_offers : (q : PageId) (g : ℕ) (write : Bool) (m : CloakedMemory) → IsKept m → Offers m (offer q g write m)
 unfolding offer
 offer_offers q g write m kept =
-    let one = kept_settled g m kept in
-    let clean = (settles g m kept.places).clean in
     let m' : CloakedMemory = (settle g m).memory in
-    let h = housed q m' one in
+    let h = housed q m' (kept_settled g m kept) in
     let m'' : CloakedMemory = (settle_frame_if (owing_frame m' q) m').memory in
-    offer_by q g m _ (owes q (owed_in m g)) kept
-    (unless_offers q g m (settle g m) _ (extends_settled g m kept) one
-    (unless_offers q g m' (settle_frame_if (owing_frame m' q) m') _ h.more h.kept
-    (compared_offers q g write (m''.ledger.recorded q) m'' h.kept h.home (h.more.clean g clean) refl)))
+    offer_by m _ (owes q (owed_in m g)) kept
+    (unless_offers m (settle g m) _ (extends_settled g m kept) (kept_settled g m kept)
+    (unless_offers m' (settle_frame_if (owing_frame m' q) m') _ h.more h.kept
+    (compared_offers q g write (m''.ledger.recorded q) m'' h.kept h.home)))

@@ -1,5 +1,5 @@
 -- Where the kernel's page table leads a program's access: it leads there still, when other frames are settled.
-use Rattle.std.proofs.Common.{◌≡◌, ◌∙◌, ℕ, Bool, true, false, cond, List, [], ◌∷◌, ◌++◌, Option, Some, None, Ok, Err, refl, sym, ap}
+use Rattle.std.proofs.Common.{◌≡◌, ◌∙◌, ℕ, Bool, true, false, cond, List, [], ◌∷◌, ◌++◌, Option, Some, None, Ok, Err, refl, sym, ap, subst}
 use Rattle.std.proofs.lemmas.Bool.{false≢true}
 use Rattle.cloak_base.specs.declared.names.Kind.{Kind}
 use Rattle.cloak_base.specs.declared.names.Mode.TheVariants.{U}
@@ -8,7 +8,7 @@ use Rattle.cloak_model.specs.declared.access.Walked.{Walked}
 use Rattle.cloak_model.specs.declared.regime.InsideRegime.{InsideRegime}
 use Rattle.cloak_model.specs.Ask.{shown_word, ask_word, ask_walk, ask_in_ram, ask_translate, ask_led}
 use Rattle.cloak_model.proofs.WalkParts.{ask_after, ask_first}
-use Rattle.cloak_model.specs.AskPages.{ask_inside_address}
+use Rattle.cloak_model.specs.AskPages.{ask_led_inside}
 use Rattle.cloak_model.specs.Asking.{Told}
 use Rattle.cloak_model.specs.Cloaking.{CloakedMemory, owed_in, settle}
 use Rattle.cloak_model.specs.Events.{Look}
@@ -81,7 +81,7 @@ unfolding ask_word
 shows_word pa c kept = shown_by (is_in_ram c.memory.ram pa) pa c kept refl
 
 -- A walk that leads there whatever else is settled.
-abbrev Walks : ℕ → Access → Walk → CloakedMemory → Type 0
+abbrev pub Walks : ℕ → Access → Walk → CloakedMemory → Type 0
 Walks satp a w m = (m' : CloakedMemory) → Extends m m' → walk m'.ram satp a ≡ w
 
 paged : (satp : ℕ) (a : Access) (ram : List (List ℕ)) (word : Option ℕ) → has_paging satp ≡ true →
@@ -142,39 +142,31 @@ walks : (satp : ℕ) (a : Access) (c : MidStep) → IsKept c.memory →
 unfolding ask_walk
 walks satp a c kept = walks_by (has_paging satp) satp a c kept refl
 
--- An address.
+-- A program's access.
 
--- a program's access
 abbrev pub access_of : InsideRegime → Kind → ℕ → Access
 access_of v kind va = record { mode = U; sum = v.sum; mxr = v.mxr; va = va; kind = kind }
 
--- It leads to this address, whatever else is settled.
-pub record LeadsStill (v : InsideRegime) (kind : Kind) (va pa : ℕ) (m : CloakedMemory) : Type 0 where
-  pub walked : Walked
-  pub at : walked.pa ≡ pa
-  pub leads : (m' : CloakedMemory) → Extends m m' → walk m'.ram v.satp (access_of v kind va) ≡ Ok walked
+led_by : (b : Bool) (to walked : Walked) (fault : ℕ) → cond b (Ok to) (Err fault) ≡ Ok walked → to ≡ walked
+led_by true to walked fault is = cc
+led_by false to walked fault is = absurd cc
 
-inside_by : (b : Bool) (to pa fault : ℕ) → cond b (Ok to) (Err fault) ≡ Ok pa → to ≡ pa
-inside_by true to pa fault is = cc
-inside_by false to pa fault is = absurd cc
-
-inside_leads : (v : InsideRegime) (kind : Kind) (va pa : ℕ) (w : Walk) (u : World) →
-    (ask_in_ram (access_of v kind va) w u).answer ≡ Ok pa →
-    OfMemory (Walks v.satp (access_of v kind va) w) u →
-    OfMemory (LeadsStill v kind va pa) (ask_in_ram (access_of v kind va) w u).world
+in_ram_leads : (satp : ℕ) (a : Access) (walked : Walked) (w : Walk) (u : World) →
+    (ask_in_ram a w u).answer ≡ Ok walked → OfMemory (Walks satp a w) u →
+    OfMemory (Walks satp a (Ok walked)) (ask_in_ram a w u).world
 unfolding ask_in_ram
-inside_leads v kind va pa w (Flat seen) is walks = absurd walks
-inside_leads v kind va pa w (Alone h) is walks = absurd walks
-inside_leads v kind va pa (Err cause) (Cloaked c) is walks = absurd cc
-inside_leads v kind va pa (Ok walked) (Cloaked c) is walks =
-    record { walked = walked; at = inside_by _ walked.pa pa _ is; leads = walks }
+in_ram_leads satp a walked w (Flat seen) is walks = absurd walks
+in_ram_leads satp a walked w (Alone h) is walks = absurd walks
+in_ram_leads satp a walked (Err cause) (Cloaked c) is walks = absurd cc
+in_ram_leads satp a walked (Ok to) (Cloaked c) is walks =
+    subst (λ (x : Walked). Walks satp a (Ok x) c.memory) (led_by _ to walked _ is) walks
 
-pub address_leads : (va : ℕ) (kind : Kind) (c : MidStep) (pa : ℕ) → IsKept c.memory →
-    let t = ask_inside_address va kind (Cloaked c) in
-    t.answer ≡ Ok pa → OfMemory (LeadsStill c.regime kind va pa) t.world
-unfolding ask_inside_address ask_led ask_translate
-address_leads va kind c pa kept is =
+pub access_leads : (va : ℕ) (kind : Kind) (c : MidStep) (walked : Walked) → IsKept c.memory →
+    let t = ask_led_inside va kind (Cloaked c) in
+    t.answer ≡ Ok walked → OfMemory (Walks c.regime.satp (access_of c.regime kind va) (Ok walked)) t.world
+unfolding ask_led_inside ask_led ask_translate
+access_leads va kind c walked kept is =
     let a = access_of c.regime kind va in
     let c' : MidStep = record c { events = c.events ++ Look c.regime.satp a ∷ [] } in
     let t = ask_walk c.regime.satp a (Cloaked c') in
-    inside_leads c.regime kind va pa t.answer t.world is (walks c.regime.satp a c' kept)
+    in_ram_leads c.regime.satp a walked t.answer t.world is (walks c.regime.satp a c' kept)

@@ -5,7 +5,7 @@ use Rattle.std.specs.Prelude.{is_some, slice_index_or, replicate, slice_get, sli
 use Rattle.std.proofs.lemmas.Bool.{false≢true, cases_lt}
 use Rattle.std.proofs.lemmas.List.{get_or-set_same, get_or-set_other, get_or_past, get_or-replicate}
 use Rattle.cloak_base.specs.declared.causes.Violation.{Violation}
-use Rattle.cloak_model.specs.declared.context.WordPlace.{WordPlace}
+use Rattle.cloak_model.specs.declared.context.PageWord.{PageWord}
 use Rattle.cloak_model.specs.declared.context.Phase.{Phase}
 use Rattle.cloak_model.specs.declared.context.Phase.TheVariants.{Plain, CopyIn, Waiting, CopyOut}
 use Rattle.cloak_model.specs.declared.context.ResumeFault.{ResumeFault}
@@ -141,7 +141,7 @@ unfolding copy_ended
 over_copy slot d c copied.Going = refl
 over_copy slot d c _ = refl
 
-over_written : (wrote : Option WordPlace) (s : DomainStepped) →
+over_written : (wrote : Option PageWord) (s : DomainStepped) →
     (after_write wrote s).domain.control.ended ≡ s.domain.control.ended
 over_written None s = refl
 over_written (Some place) s = refl

@@ -7,7 +7,6 @@ use Rattle.std.proofs.lemmas.Bool.{false≢true}
 use Rattle.cloak_base.specs.declared.causes.Violation.{Violation}
 use Rattle.cloak_base.specs.declared.causes.Violation.TheVariants as violation
 use Rattle.cloak_base.specs.declared.names.PageId.{PageId}
-use Rattle.cloak_model.specs.declared.access.Walked.{Walked}
 use Rattle.cloak_model.specs.declared.inside.Went.{Went}
 use Rattle.cloak_model.specs.declared.inside.Went.TheVariants as went
 use Rattle.cloak_model.specs.declared.item.Item.{Item}
@@ -26,10 +25,9 @@ use Rattle.cloak_model.specs.Hart.{Hart, started}
 use Rattle.cloak_model.specs.HostCalls.{SteppedKernel}
 use Rattle.cloak_model.specs.Joint.{Moment, Turn, next_hart, hart_in, cloak_of, cloak_outside, memory_of, after_kernel_step, outside_ended, after_outside, outside_step, without_mark, domain_ended, with_domain, after_domain_step, pages_for, interrupt_ended, after_interrupt, by_interrupt, by_running, inside_step, turn_of, step_before_end}
 use Rattle.cloak_model.specs.KernelStep.{kernel_step, ticked}
-use Rattle.cloak_base.specs.Constants.{frame_of}
 use Rattle.cloak_model.specs.Parts.{Joint}
 use Rattle.cloak_model.specs.Resuming.{resume}
-use Rattle.cloak_model.specs.Touched.{touched}
+use Rattle.cloak_model.specs.StepFrames.{step_frames}
 use Rattle.cloak_model.specs.Walk.{walk}
 use Rattle.cloak_model.specs.World.{World, MidStep, Flat, Cloaked, Alone, items_of}
 use Rattle.cloak_model.specs.Script.{played}
@@ -60,9 +58,8 @@ record PageMet (m : Moment) (t : Turn) (v : Violation) : Type 0 where
   pub is : v ≡ violation.Page page (record { 0 = frame })
   pub presents : PresentsPage m page frame
   pub own : page.domain ≡ domain_of presents.step.ctx
-  pub walked : Walked
-  pub leads : table_leads (ticked (hart_of_step m)) t.joint.memory.ram presents.kind presents.va ≡ Ok walked
-  pub there : frame_of walked.pa ≡ frame
+  pub leads : table_leads (ticked (hart_of_step m)) t.joint.memory.ram presents.kind presents.va
+      ≡ Ok presents.finds.walked
   pub differs : Differs page frame t.joint.memory
 
 record Meets (m : Moment) (t : Turn) : Type 0 where
@@ -115,13 +112,11 @@ ended_met m s j number h e c went.Stopped same owner is at =
           finds = met.finds;
         };
         own = own_at s.domain s.context at.va at.page at.asked.lies ∙ owner;
-        walked = met.walked;
         leads = subst (λ (x : CloakedMemory).
-            table_leads (ticked (hart_of_step m)) x.ram at.kind at.va ≡ Ok met.walked) (sym same)
+            table_leads (ticked (hart_of_step m)) x.ram at.kind at.va ≡ Ok met.finds.walked) (sym same)
             (subst (λ (regime : InsideRegime).
-            walk c.memory.ram regime.satp (access_of regime at.kind at.va) ≡ Ok met.walked) at.asked.regime
+            walk c.memory.ram regime.satp (access_of regime at.kind at.va) ≡ Ok met.finds.walked) at.asked.regime
             met.leads);
-        there = met.there;
         differs = subst (Differs at.page met.frame) (sym same) met.differs;
       };
     }
@@ -226,7 +221,7 @@ while_kept frames (suc n) m kept =
 
 touched_kept : (h : Hart) (disk : List ℕ) (m : CloakedMemory) → IsKept m → IsKept (settle_touched h disk m).memory
 unfolding settle_touched
-touched_kept h disk m kept = while_kept (λ ram. touched h ram disk) (length m.ledger.owed) m kept
+touched_kept h disk m kept = while_kept (λ ram. step_frames h ram disk) (length m.ledger.owed) m kept
 
 -- the machine after the plain step of a hart outside
 abbrev pub told_outside : Moment → Told SteppedKernel
@@ -294,9 +289,7 @@ inside_presents m ctx inside steady kept =
             presents = met.presents;
             left = record {
               own = met.own;
-              walked = met.walked;
               leads = met.leads;
-              there = met.there;
               differs = met.differs;
             };
           });

@@ -9,7 +9,6 @@ use Rattle.cloak_base.specs.declared.names.Kind.{Kind}
 use Rattle.cloak_base.specs.declared.names.Mode.TheVariants.{U}
 use Rattle.cloak_base.specs.declared.names.PageId.{PageId}
 use Rattle.cloak_model.specs.declared.image.Bundle.{Bundle}
-use Rattle.cloak_model.specs.declared.access.Walked.{Walked}
 use Rattle.cloak_model.specs.declared.answer.Answer.{Answer}
 use Rattle.cloak_model.specs.declared.answer.Answer.TheVariants as answer
 use Rattle.cloak_model.specs.declared.item.Item.{Item}
@@ -27,7 +26,6 @@ use Rattle.cloak_model.specs.DomainState.{Domain}
 use Rattle.cloak_model.specs.Ending.{ended_domain}
 use Rattle.cloak_model.specs.Joint.{Moment, Turn, stop_of, next_hart, hart_in, cloak_outside, domain_met, step_before_end, joint_step}
 use Rattle.cloak_model.specs.KernelStep.{ticked}
-use Rattle.cloak_base.specs.Constants.{frame_of}
 use Rattle.cloak_model.specs.Parts.{Joint}
 use Rattle.cloak_model.specs.Run.{Run, run_from, joint_after}
 use Rattle.cloak_model.specs.Walk.{Walk, walk}
@@ -101,13 +99,12 @@ abbrev pub table_leads : Hart → List (List ℕ) → Kind → ℕ → Walk
 table_leads h ram kind va =
     walk ram (satp_of h.csrs) (record { mode = U; sum = sum_of h.csrs; mxr = mxr_of h.csrs; va = va; kind = kind })
 
--- A page was presented, which is of the context's program: in the memory that the step leaves, the page table still
--- leads to the frame, and this still differs from what is recorded of the page.
+-- A page was presented, which is of the context's program: in the memory that the step leaves, the page table still leads
+-- by the same walk to the frame, and this still differs from what is recorded of the page.
 pub record PageIsLeft (m : Moment) (q : PageId) (f : ℕ) (p : PresentsPage m q f) : Type 0 where
   pub own : q.domain ≡ domain_of p.step.ctx
-  pub walked : Walked
-  pub leads : table_leads (ticked (hart_of_step m)) (step_before_end m).joint.memory.ram p.kind p.va ≡ Ok walked
-  pub there : frame_of walked.pa ≡ f
+  pub leads : table_leads (ticked (hart_of_step m)) (step_before_end m).joint.memory.ram p.kind p.va
+      ≡ Ok p.finds.walked
   pub differs : Differs q f (step_before_end m).joint.memory
 
 abbrev pub IsLeft : (m : Moment) (v : Violation) → Presents m v → Type 0

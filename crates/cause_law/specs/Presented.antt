@@ -8,10 +8,11 @@ use Rattle.rv_isa.specs.Table.{instruction}
 use Rattle.rv_isa.specs.declared.instr.Instr.{Instr}
 use Rattle.rv_atomic.specs.Table.{atomic_instruction}
 use Rattle.rv_atomic.specs.declared.atomic.Atomic.{Atomic}
+use Rattle.cloak_model.specs.declared.access.Walked.{Walked}
 use Rattle.cloak_model.specs.declared.answer.Answer.TheVariants as answer
 use Rattle.cloak_model.specs.declared.context.Phase.TheVariants.{Plain, CopyIn, CopyOut}
 use Rattle.cloak_model.specs.declared.outcome.Effect.TheVariants as does
-use Rattle.cloak_model.specs.AskPages.{ask_inside_address, ask_reach, ask_get}
+use Rattle.cloak_model.specs.AskPages.{ask_led_inside, ask_reach, ask_get}
 use Rattle.cloak_model.specs.Calls.{buffer, call_length, area, byte_address, is_cloaked}
 use Rattle.cloak_model.specs.Cloaking.{CloakedMemory, owed_in, owing_frame, settle, settle_frame_if}
 use Rattle.cloak_model.specs.Contexts.{Context, context_at, domain_of, slot_of}
@@ -104,10 +105,10 @@ at_comparison q f m = let m' = (settle f m).memory in (settle_frame_if (owing_fr
 -- The kernel's page table leads an access at an address to a frame of RAM. It is not the frame that is owed page q; and as
 -- they are compared, with no draw missing, it differs from what is recorded of q.
 pub record FindsOther (q : PageId) (va : ℕ) (kind : Kind) (f : ℕ) (c : MidStep) : Type 0 where
-  pub pa : ℕ
+  pub walked : Walked
   pub found : MidStep
-  pub leads : ask_inside_address va kind (Cloaked c) ≡ record { answer = Ok pa; world = Cloaked found }
-  pub frame : frame_of pa ≡ f
+  pub leads : ask_led_inside va kind (Cloaked c) ≡ record { answer = Ok walked; world = Cloaked found }
+  pub frame : frame_of walked.pa ≡ f
   pub elsewhere : owed_in found.memory f ≢ Some q
   pub drawn : (at_comparison q f found.memory).ledger.missed ≡ false
   pub differs : Differs q f (at_comparison q f found.memory)

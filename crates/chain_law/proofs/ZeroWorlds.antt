@@ -1,6 +1,6 @@
 -- Fresh pages stay zeros by each question of a program, and by each change of its pages: a page that was reached is
 -- not fresh, and what is copied is of pages that no frame is owed.
-use Rattle.std.proofs.Common.{◌≡◌, ◌≢◌, ◌∙◌, ◌<◌, ◌≤◌, ◌+◌, inl, inr, ℕ, zero, suc, Bool, true, false, ◌&&◌, cond, List, length, Option, Some, None, Result, Ok, Err, is_some, refl, sym, ap, subst, arith, eq-eqb}
+use Rattle.std.proofs.Common.{◌≡◌, ◌≢◌, ◌∙◌, ◌<◌, ◌≤◌, ◌+◌, inl, inr, ℕ, zero, suc, Bool, true, false, ◌&&◌, cond, List, length, Option, Some, None, Ok, Err, is_some, refl, sym, ap, subst, arith, eq-eqb}
 use Rattle.std.specs.Prelude.{slice_index_or}
 use Rattle.std.proofs.lemmas.Bool.{false≢true, cases_lt, ltb-true}
 use Rattle.std.proofs.lemmas.List.{get_or_past, length-set}
@@ -9,15 +9,17 @@ use Rattle.cloak_base.specs.Pages.{zero_page, same_page, is_of, page_in}
 use Rattle.cloak_base.specs.declared.names.Kind.{Kind}
 use Rattle.cloak_base.specs.declared.names.PageId.{PageId}
 use Rattle.cloak_base.proofs.Pages.{same_page_tells, is_of_tells}
+use Rattle.cloak_model.specs.declared.access.Walked.{Walked}
 use Rattle.cloak_model.specs.declared.answer.Answer.{Answer}
 use Rattle.cloak_model.specs.declared.answer.Answer.TheVariants as told
 use Rattle.cloak_model.specs.declared.item.Item.{Item}
 use Rattle.cloak_model.specs.Asking.{Told, Asking}
-use Rattle.cloak_model.specs.AskPages.{answer_item, is_store, replies, if_drawn, ask_inside_address, offered_by, ask_offer, reached, reach_by_table, is_marked, settled_if_marked, clear_from, ask_reach, ask_write, ask_get, ask_put, ask_clear, ask_copy, ask_forget}
-use Rattle.cloak_model.specs.Cloaking.{CloakedMemory, OfferEnd, Ready, Mismatch, Missed, owed_in, settle}
+use Rattle.cloak_model.specs.AskPages.{answer_item, is_store, replies, if_drawn, ask_led_inside, offered_by, ask_offer, reached, reach_by_table, is_marked, settled_if_marked, clear_from, ask_reach, ask_write, ask_get, ask_put, ask_clear, ask_copy, ask_forget}
+use Rattle.cloak_model.specs.Cloaking.{CloakedMemory, owed_in, settle, offer}
 use Rattle.cloak_model.specs.Events.{Event}
 use Rattle.cloak_model.specs.Memory.{is_in_ram}
 use Rattle.cloak_model.specs.PageMoves.{copy_pages, drop_pages}
+use Rattle.cloak_model.specs.Walk.{Walk}
 use Rattle.cloak_model.specs.World.{World, MidStep, Handed, Flat, Cloaked, Alone, is_missed, regime_of, ram_of, owed_of, noted, stored_at, settled, written, with_plain, plain_of}
 use Rattle.cloak_model.specs.Script.{Question, Reach, Get, Put, Clear, asked}
 use Rattle.domain_isolation.proofs.InOrder.{decided}
@@ -25,7 +27,8 @@ use Rattle.domain_isolation.proofs.Steady.{is_cloaked}
 use Rattle.domain_isolation.proofs.Answers.{question_answered}
 use Rattle.kernel_isolation.proofs.Leading.{leads_inside}
 use Rattle.kernel_isolation.proofs.Settlings.{HasPlaces}
-use Rattle.script_fold.proofs.Questions.{Kept, opens_of, replies_of, keeps_inside_address, keeps_reach, keeps_get, keeps_put, keeps_clear}
+use Rattle.kernel_isolation.proofs.Shown.{either}
+use Rattle.script_fold.proofs.Questions.{Kept, opens_of, replies_of, keeps_led_inside, keeps_reach, keeps_get, keeps_put, keeps_clear}
 use Rattle.chain_law.specs.Zeros.{IsFresh, FreshAreZeros, HaveVectors}
 use Rattle.chain_law.proofs.Zeros.{FreshStay, fresh_same, fresh_then, keeps_places, IsAtHand, offer_offered, settle_fresh, settle_cleans}
 
@@ -114,13 +117,16 @@ IsTidy m = HaveVectors m × FreshAreZeros m
 abbrev pub Knows : CloakedMemory → Type 0
 Knows m = HasPlaces m × IsTidy m
 
+-- of the memory of a world
+abbrev pub InWorld : (CloakedMemory → Type 0) → World → Type 0
+InWorld P (Cloaked c) = P c.memory
+InWorld P _ = Unit {0}
+
 abbrev pub KnowsIn : World → Type 0
-KnowsIn (Cloaked c) = Knows c.memory
-KnowsIn _ = Unit {0}
+KnowsIn w = InWorld Knows w
 
 abbrev pub PlacesIn : World → Type 0
-PlacesIn (Cloaked c) = HasPlaces c.memory
-PlacesIn _ = Unit {0}
+PlacesIn w = InWorld HasPlaces w
 
 pub places_of : (w : World) → KnowsIn w → PlacesIn w
 places_of (Cloaked c) knows = knows.0
@@ -174,12 +180,6 @@ pub clear_learns : (domain : ℕ) (marked : List Bool) (w : World) → Learns w 
 clear_learns domain marked w =
     asked_learns (Clear domain marked) w (keeps_clear Stay (replies_of Stay kept) domain marked w)
 
--- A page that was reached is at hand.
-
-abbrev pub AtHandIn : PageId → World → Type 0
-AtHandIn q (Cloaked c) = IsAtHand q c.memory
-AtHandIn q _ = Unit {0}
-
 stay_places : (w v : World) → Stay w v → PlacesIn w → PlacesIn v
 stay_places (Flat a) (Flat b) stay places = tt
 stay_places (Flat a) (Cloaked b) stay places = absurd stay
@@ -195,80 +195,95 @@ both_true : (a b : Bool) → a && b ≡ true → b ≡ true
 both_true true b is = is
 both_true false b is = absurd (false≢true is)
 
-abbrev HandIfOk : PageId → Told Answer → Type 0
-HandIfOk q t = t.answer ≡ told.Ok → AtHandIn q t.world
-
-hand_written : (q : PageId) (i : Item) (w : World) → AtHandIn q w → AtHandIn q (written i w)
-hand_written q i (Cloaked c) hand = hand
-hand_written q i _ hand = tt
-
-hand_noted : (q : PageId) (events : List Event) (w : World) → AtHandIn q w → AtHandIn q (noted events w)
-hand_noted q events (Cloaked c) hand = hand
-hand_noted q events _ hand = tt
-
-hand_replies : (q : PageId) (a : Answer) (w : World) → (a ≡ told.Ok → AtHandIn q w) → HandIfOk q (replies a w)
-unfolding replies
-hand_replies q a w hand is = hand_written q _ w (hand is)
-
 stopped_ok : told.Stopped ≡ told.Ok → ⊥
 stopped_ok is = cc
 
-hand_offered : (q : PageId) (va : ℕ) (kind : Kind) (g : ℕ) (o : OfferEnd) (w : World) → (o ≡ Ready → AtHandIn q w) →
-    HandIfOk q (offered_by q va kind g o w)
-unfolding offered_by
-hand_offered q va kind g Ready w hand = hand_replies q told.Ok _ (λ is. hand_noted q _ w (hand refl))
-hand_offered q va kind g Missed w hand = hand_replies q told.Stopped w (λ is. absurd (stopped_ok is))
-hand_offered q va kind g Mismatch (Flat seen) hand = hand_replies q told.Stopped _ (λ is. absurd (stopped_ok is))
-hand_offered q va kind g Mismatch (Cloaked c) hand = hand_replies q told.Stopped _ (λ is. absurd (stopped_ok is))
-hand_offered q va kind g Mismatch (Alone h) hand = hand_replies q told.Stopped _ (λ is. absurd (stopped_ok is))
+-- What each offer leaves that grants a page, a question for the page leaves that is answered with Ok.
 
-hand_offer : (q : PageId) (va : ℕ) (kind : Kind) (g : ℕ) (w : World) → PlacesIn w → g < length (ram_of w) →
-    HandIfOk q (ask_offer q va kind g w)
-unfolding ask_offer
-hand_offer q va kind g (Cloaked c) places low is =
-    let o = offer_offered q g (is_store kind) c.memory in
-    hand_offered q va kind g _ _ (λ ready. o.ready (subst (λ (k : ℕ). g < k) (sym places) low) ready) is
-hand_offer q va kind g _ places low is = absurd (stopped_ok is)
+module _ (P : CloakedMemory → Type 0) where
+  abbrev pub IfOk : Told Answer → Type 0
+  IfOk t = t.answer ≡ told.Ok → InWorld P t.world
 
-hand_reached : (q : PageId) (va : ℕ) (kind : Kind) (to : Result ℕ ℕ) (w : World) → PlacesIn w →
-    ((pa : ℕ) → to ≡ Ok pa → is_in_ram (ram_of w) pa ≡ true) → HandIfOk q (reached q va kind to w)
-unfolding reached
-hand_reached q va kind (Err cause) w places inside = hand_replies q (told.Absent cause) w (λ is. absurd cc)
-hand_reached q va kind (Ok pa) w places inside =
-    hand_offer q va kind (frame_of pa) w places
-    (ltb-true (frame_of pa) (length (ram_of w)) (both_true _ _ (inside pa refl)))
+  ok_written : (i : Item) (w : World) → InWorld P w → InWorld P (written i w)
+  ok_written i (Cloaked c) here = here
+  ok_written i _ here = tt
 
-hand_drawn : (q : PageId) (ask : Asking Answer) (w : World) → HandIfOk q (ask w) → HandIfOk q (if_drawn ask w)
-unfolding if_drawn
-hand_drawn q ask w hand = by (is_missed w)
-  where
-    by : (missed : Bool) → HandIfOk q (cond missed (replies told.Stopped w) (ask w))
-    by true = hand_replies q told.Stopped w (λ is. absurd (stopped_ok is))
-    by false = hand
+  ok_noted : (events : List Event) (w : World) → InWorld P w → InWorld P (noted events w)
+  ok_noted events (Cloaked c) here = here
+  ok_noted events _ here = tt
 
-hand_by_table : (q : PageId) (va : ℕ) (kind : Kind) (w : World) → PlacesIn w → HandIfOk q (reach_by_table q va kind w)
-unfolding reach_by_table
-hand_by_table q va kind w places =
-    let to = ask_inside_address va kind w in
-    hand_drawn q (reached q va kind to.answer) to.world
-    (hand_reached q va kind to.answer to.world
-    (stay_places w to.world (keeps_inside_address Stay (opens_of Stay kept) va kind w) places)
-    (λ pa is. ((leads_inside va kind w).inside pa is).0))
+  ok_replies : (a : Answer) (w : World) → (a ≡ told.Ok → InWorld P w) → IfOk (replies a w)
+  unfolding replies
+  ok_replies a w here is = ok_written _ w (here is)
 
-hand_alone : (q : PageId) (w v : World) → is_cloaked w ≡ false → Stay w v → AtHandIn q v
-hand_alone q (Flat a) (Flat b) not stay = tt
-hand_alone q (Flat a) (Cloaked b) not stay = absurd stay
-hand_alone q (Flat a) (Alone b) not stay = tt
-hand_alone q (Cloaked a) v not stay = absurd (false≢true (sym not))
-hand_alone q (Alone a) (Flat b) not stay = tt
-hand_alone q (Alone a) (Cloaked b) not stay = absurd stay
-hand_alone q (Alone a) (Alone b) not stay = tt
+  ok_stopped : (w : World) → IfOk (replies told.Stopped w)
+  ok_stopped w = ok_replies told.Stopped w (λ is. absurd (stopped_ok is))
 
-pub reach_hand : (q : PageId) (va : ℕ) (kind : Kind) (w : World) → KnowsIn w → HandIfOk q (ask_reach q va kind w)
-unfolding ask_reach
-reach_hand q va kind (Flat seen) knows is = absurd (stopped_ok is)
-reach_hand q va kind (Cloaked c) knows is = hand_by_table q va kind (Cloaked c) knows.0 is
-reach_hand q va kind (Alone h) knows is = hand_alone q (Alone h) _ refl (keeps_reach Stay kept q va kind (Alone h))
+  ok_drawn : (ask : Asking Answer) (w : World) → IfOk (ask w) → IfOk (if_drawn ask w)
+  unfolding if_drawn
+  ok_drawn ask w here = either IfOk (is_missed w) (replies told.Stopped w) (ask w) (ok_stopped w) here
+
+  ok_alone : (w v : World) → is_cloaked w ≡ false → Stay w v → InWorld P v
+  ok_alone (Flat a) (Flat b) not stay = tt
+  ok_alone (Flat a) (Cloaked b) not stay = absurd stay
+  ok_alone (Flat a) (Alone b) not stay = tt
+  ok_alone (Cloaked a) v not stay = absurd (false≢true (sym not))
+  ok_alone (Alone a) (Flat b) not stay = tt
+  ok_alone (Alone a) (Cloaked b) not stay = absurd stay
+  ok_alone (Alone a) (Alone b) not stay = tt
+
+  module _ (q : PageId) (kind : Kind) (grants : (g : ℕ) (m : CloakedMemory) → g < length m.ledger.owed →
+      let o = offer q g (is_store kind) m in o.granted ≡ true → P o.memory)
+    where
+      ok_offered : (va : ℕ) (walked : Walked) (granted : Bool) (w : World) → (granted ≡ true → InWorld P w) →
+          IfOk (offered_by q va kind walked granted w)
+      unfolding offered_by
+      ok_offered va walked true w here = ok_replies told.Ok _ (λ is. ok_noted _ w (here refl))
+      ok_offered va walked false (Flat seen) here = ok_stopped (Flat seen)
+      ok_offered va walked false (Cloaked c) here = ok_stopped _
+      ok_offered va walked false (Alone h) here = ok_stopped (Alone h)
+
+      ok_offer : (va : ℕ) (walked : Walked) (w : World) → PlacesIn w → frame_of walked.pa < length (ram_of w) →
+          IfOk (ask_offer q va kind walked w)
+      unfolding ask_offer
+      ok_offer va walked (Cloaked c) places low =
+          let g : ℕ = frame_of walked.pa in
+          ok_drawn _ _
+          (ok_offered va walked _ _ (grants g c.memory (subst (λ (k : ℕ). g < k) (sym places) low)))
+      ok_offer va walked _ places low = λ is. absurd (stopped_ok is)
+
+      ok_reached : (va : ℕ) (to : Walk) (w : World) → PlacesIn w →
+          ((walked : Walked) → to ≡ Ok walked → is_in_ram (ram_of w) walked.pa ≡ true) → IfOk (reached q va kind to w)
+      unfolding reached
+      ok_reached va (Err cause) w places inside = ok_replies (told.Absent cause) w (λ is. absurd cc)
+      ok_reached va (Ok walked) w places inside =
+          ok_offer va walked w places
+          (ltb-true (frame_of walked.pa) (length (ram_of w)) (both_true _ _ (inside walked refl)))
+
+      ok_by_table : (va : ℕ) (w : World) → PlacesIn w → IfOk (reach_by_table q va kind w)
+      unfolding reach_by_table
+      ok_by_table va w places =
+          let to = ask_led_inside va kind w in
+          ok_drawn (reached q va kind to.answer) to.world
+          (ok_reached va to.answer to.world
+          (stay_places w to.world (keeps_led_inside Stay (opens_of Stay kept) va kind w) places)
+          (λ walked is. ((leads_inside va kind w).inside walked is).0))
+
+      pub reach_grants : (va : ℕ) (w : World) → PlacesIn w → IfOk (ask_reach q va kind w)
+      unfolding ask_reach
+      reach_grants va (Flat seen) places is = absurd (stopped_ok is)
+      reach_grants va (Cloaked c) places is = ok_by_table va (Cloaked c) places is
+      reach_grants va (Alone h) places is =
+          ok_alone (Alone h) _ refl (keeps_reach Stay kept q va kind (Alone h))
+
+-- A page that was reached is at hand.
+
+abbrev pub AtHandIn : PageId → World → Type 0
+AtHandIn q w = InWorld (IsAtHand q) w
+
+pub reach_hand : (q : PageId) (va : ℕ) (kind : Kind) (w : World) → KnowsIn w → IfOk (IsAtHand q) (ask_reach q va kind w)
+reach_hand q va kind w knows =
+    reach_grants (IsAtHand q) q kind (λ g m. (offer_offered q g (is_store kind) m).granted) va w (places_of w knows)
 
 -- The changes: a page that is at hand may be written.
 

@@ -8,7 +8,7 @@ use Rattle.cloak_base.specs.Pages.{same_page}
 use Rattle.cloak_base.specs.Random.{Random}
 use Rattle.cloak_base.specs.declared.names.PageId.{PageId}
 use Rattle.cloak_base.proofs.Pages.{same_page-self}
-use Rattle.cloak_model.specs.Cloaking.{CloakedMemory, AfterSettling, AfterOffer, Ready, Mismatch, Missed, owed_in, settle_owed, settle_if, settle, settle_frame_if, owing_frame, owes, with_owed, with_comparison, taken, compared, unless_missed, offer}
+use Rattle.cloak_model.specs.Cloaking.{CloakedMemory, AfterSettling, AfterOffer, owed_in, settle_owed, settle_if, settle, settle_frame_if, owing_frame, owes, with_owed, with_comparison, taken, compared, unless_missed, offer}
 use Rattle.cloak_model.specs.Ledger.{vector_of}
 use Rattle.domain_isolation.proofs.InOrder.{decided}
 use Rattle.kernel_isolation.proofs.Settlings.{HasPlaces}
@@ -171,19 +171,16 @@ owed_fresh g p m clean = record {
 abbrev pub IsAtHand : PageId → CloakedMemory → Type 0
 IsAtHand q m = m.ledger.missed ≡ false → IsFresh q m → ⊥
 
--- What an offer of a page leaves: if it is ready, the page is at hand.
+-- What an offer of a page leaves: if it is granted, the page is at hand.
 pub record OfferLeaves (q : PageId) (g : ℕ) (m : CloakedMemory) (o : AfterOffer) : Type 0 where
   pub stay : FreshStay m o.memory
-  pub ready : g < length m.ledger.owed → o.answer ≡ Ready → IsAtHand q o.memory
+  pub granted : g < length m.ledger.owed → o.granted ≡ true → IsAtHand q o.memory
 
 owed_at_hand : (g : ℕ) (q : PageId) (m : CloakedMemory) → owed_in m g ≡ Some q → IsAtHand q m
 owed_at_hand g q m owed drawn fresh = fresh.1 g owed
 
 recorded_at_hand : (q : PageId) (c : List ℕ) (m : CloakedMemory) → m.ledger.recorded q ≡ Some c → IsAtHand q m
 recorded_at_hand q c m recorded drawn fresh = let clash : None ≡ Some c = sym fresh.0 ∙ recorded in cc
-
-not_ready : Mismatch ≡ Ready → ⊥
-not_ready is = cc
 
 compared_same : (a b : List ℕ) (m : CloakedMemory) → FreshStay m (with_comparison a b m)
 compared_same a b m = record {
@@ -199,7 +196,7 @@ compared_offered : (q : PageId) (g : ℕ) (write : Bool) (o : Option (List ℕ))
 unfolding compared
 compared_offered q g write None m clean recorded = record {
   stay = owed_fresh g q m clean;
-  ready = λ low is. owed_at_hand g q (with_owed g (Some q) m) (get_or-set_same m.ledger.owed g (Some q) None low);
+  granted = λ low is. owed_at_hand g q (with_owed g (Some q) m) (get_or-set_same m.ledger.owed g (Some q) None low);
 }
 compared_offered q g write (Some c) m clean recorded =
     let there = slice_index_or m.ram g [] in
@@ -210,26 +207,23 @@ compared_offered q g write (Some c) m clean recorded =
     (fresh_same m') in
     let known : (taken q g write m').ledger.recorded q ≡ Some c =
     either (λ (x : CloakedMemory). x.ledger.recorded q ≡ Some c) write (with_owed g (Some q) m') m' recorded recorded in
-    either (OfferLeaves q g m) (bytes_eq there c) (record { memory = taken q g write m'; ciphers = []; answer = Ready })
-    (record { memory = m'; ciphers = []; answer = Mismatch })
+    either (OfferLeaves q g m) (bytes_eq there c) (record { memory = taken q g write m'; ciphers = []; granted = true })
+    (record { memory = m'; ciphers = []; granted = false })
     (record {
       stay = fresh_then m m' (taken q g write m') same took;
-      ready = λ low is. recorded_at_hand q c (taken q g write m') known;
+      granted = λ low is. recorded_at_hand q c (taken q g write m') known;
     })
-    (record { stay = same; ready = λ low is. absurd (not_ready is) })
-
-missed_ready : Missed ≡ Ready → ⊥
-missed_ready is = cc
+    (record { stay = same; granted = λ low is. absurd (false≢true is) })
 
 unless_offered : (q : PageId) (g : ℕ) (m : CloakedMemory) (s : AfterSettling) (next : CloakedMemory → AfterOffer) →
     FreshStay m s.memory → OfferLeaves q g s.memory (next s.memory) → OfferLeaves q g m (unless_missed s next)
 unfolding unless_missed
 unless_offered q g m s next stay later =
     either (OfferLeaves q g m) s.missed _ _
-    (record { stay = stay; ready = λ low is. absurd (missed_ready is) })
+    (record { stay = stay; granted = λ low is. absurd (false≢true is) })
     (record {
       stay = fresh_then m s.memory (next s.memory).memory stay later.stay;
-      ready = λ low. later.ready (subst (λ (k : ℕ). g < k) (sym stay.places) low);
+      granted = λ low. later.granted (subst (λ (k : ℕ). g < k) (sym stay.places) low);
     })
 
 pub offer_offered : (q : PageId) (g : ℕ) (write : Bool) (m : CloakedMemory) → OfferLeaves q g m (offer q g write m)
@@ -250,8 +244,9 @@ offer_offered q g write m = by (owes q (owed_in m g)) refl
         (frame_clean (owing_frame m' q) m' g (settle_cleans g m).here) refl
 
     by : (b : Bool) → owes q (owed_in m g) ≡ b →
-        OfferLeaves q g m (cond b (record { memory = m; ciphers = []; answer = Ready }) (unless_missed (settle g m) next))
-    by true is = record { stay = fresh_same m; ready = λ low ready. owed_at_hand g q m (owes_page q (owed_in m g) is) }
+        OfferLeaves q g m (cond b (record { memory = m; ciphers = []; granted = true })
+        (unless_missed (settle g m) next))
+    by true is = record { stay = fresh_same m; granted = λ low yes. owed_at_hand g q m (owes_page q (owed_in m g) is) }
     by false is =
         unless_offered q g m (settle g m) next (settle_fresh g m)
         (unless_offered q g m' s' _ (settle_frame_fresh (owing_frame m' q) m') last)

@@ -1,4 +1,3 @@
 pub mod Asked
-pub mod ProgramFacts
 pub mod Complete
 pub mod BundleFirst

@@ -1,18 +1,16 @@
--- What the program returns as it ends.
-use Rattle.std.specs.Prelude.{◌≡◌, ◌⊎◌, map, string_bytes, Option, Some, None, Result, Ok, Err}
+-- What the program answers to words.
+use Rattle.std.specs.Prelude.{◌≡◌, map, string_bytes, Option, Some, None, Result, Ok, Err}
 use Rattle.cloak_base.specs.declared.causes.NoMemory.{NoMemory}
-use Rattle.io_traits.specs.Told.{Rose, SameFiles}
 use Rattle.command_words.specs.declared.usage_fault.UsageFault.TheVariants.{WrongWords}
 use Rattle.command_words.specs.declared.request.Request.{Request}
 use Rattle.command_words.specs.Command as spec
 use Rattle.command_words.specs.Request.{asked_of}
 use Rattle.command_parts.specs.declared.refusal.Refusal.TheVariants as refusal
 use Rattle.command_parts.specs.declared.status.Status.{Status}
-use Rattle.command_parts.specs.declared.status.Status.TheVariants as status
 use Rattle.cloak_commands.specs.declared.words.ProgramWords.{ProgramWords}
 use Rattle.cloak_commands.specs.declared.words.ProgramWords.TheVariants as words
 use Rattle.cloak_commands.specs.Answering.{Answers, KeepsOthers}
-use Rattle.command_parts.specs.Outside.{Outside, NothingRose}
+use Rattle.command_parts.specs.Outside.{Outside}
 use Rattle.command_parts.specs.Refusing.{Refuses}
 
 -- the status comes by its cause, and no file is changed that the words do not name to be written
@@ -49,19 +47,3 @@ AnswersWords (words.Taken texts) before after answer =
     AnswersAsked (spec.words_of (map string_bytes texts.items)) before after answer
 AnswersWords words.NotText before after answer = AnswersAsked (spec.Faulty WrongWords) before after answer
 AnswersWords words.NoMemory before after answer = WantsMemory before after answer
-
--- a call that writes out what is gathered failed
-abbrev pub FlushFailed : {S O : Type 0} → Outside S O → Outside S O → Type 0
-FlushFailed before after =
-    Rose before.files.writing after.files.writing ⊎ Rose before.output.faults after.output.faults
-
--- What was done by the words, and what was answered; then what is gathered was written out, and the answer is given,
--- or, if that failed, the write fault.
-pub record Exits {S O : Type 0} (given_words : ProgramWords) (before after : Outside S O) (given : Status) : Type 0 where
-  pub done : Outside S O
-  pub answer : Status
-  pub answers : AnswersWords given_words before done answer
-  pub held : SameFiles done.files.held after.files.held
-  pub taken : after.output.taken ≡ done.output.taken
-  pub reading : after.files.reading ≡ done.files.reading
-  pub outcome : ((given ≡ answer) × NothingRose done after) ⊎ ((given ≡ status.WriteFault) × FlushFailed done after)

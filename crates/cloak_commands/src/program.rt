@@ -1,15 +1,16 @@
 //! All that the program does, over any files and any output.
 ghost use Rattle.std.specs.Prelude.{◌≡◌, ◌≢◌, ◌<◌, ◌-◌, ◌^◌, IfOk, OnErr};
 ghost use Rattle.command_words.specs.Request.{asked_of};
+ghost use Rattle.command_parts.specs.Exiting.{Exits};
 ghost use Rattle.command_parts.specs.Outside.{outside};
 ghost use Rattle.status_sentence.specs.Sentence as spec;
 ghost use Rattle.status_sentence.specs.Showing.{sentence_text};
-ghost use Rattle.cloak_commands.specs.Program.{AnswersWords, Exits, TakesMemory, asked_by, asked_in};
+ghost use Rattle.cloak_commands.specs.Program.{AnswersWords, TakesMemory, asked_by, asked_in};
 
 use crate::command::cloak;
 use crate::words::ProgramWords;
 use cloak_base::NoMemory;
-use command_parts::{Refusal, Status, refuse};
+use command_parts::{Refusal, Status, refuse, write_out};
 use command_words::{Request, UsageFault, read_words};
 use io_traits::{Shelf, Sink};
 use status_sentence::Sentence;
@@ -47,18 +48,13 @@ pub fn run_program<S: Shelf, O: Sink>(
     requires reading { S.reading_faults shelf.old < 2 ^ 64 - 1 }
     requires writing { S.writing_faults shelf.old < 2 ^ 64 - 1 }
     requires output { O.faults out.old < 2 ^ 64 - 1 }
-    ensures exits { Exits words.now
+    ensures exits { Exits (AnswersWords words.now)
         (outside S.Shelf O.Sink shelf.old out.old) (outside S.Shelf O.Sink shelf.new out.new) result }
     ensures files { result ≢ Status.WriteFault → S.is_settled shelf.new }
     ensures shown { result ≢ Status.WriteFault → O.is_settled out.new }
 {
     let status = obey(alloc, words, shelf, out);
-    let are_unwritten = shelf.flush().is_err();
-    let is_unshown = out.flush().is_err();
-    if are_unwritten || is_unshown {
-        return Status::WriteFault;
-    }
-    status
+    write_out(status, shelf, out)
 }
 
 /// What the words ask for. They are read again, and memory can lack only if there was none to take them, or if they name

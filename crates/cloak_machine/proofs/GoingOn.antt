@@ -62,15 +62,6 @@ pub all_outside : (joint : Joint) (j : model.Joint) → StandsForJoint joint j �
 all_outside joint j stands settled none k =
     settled k ∙ (sym (owed_by_right joint.memory.pager stands.memory.wiped j.memory stands.memory.pager k) ∙ none k)
 
-pub outside_settled : (joint : Joint) → AllOutside joint → AreOwedOrOutside joint.memory.pager
-outside_settled joint outside k = outside k ∙ by_right (right_at joint.memory.pager k) (outside k)
-  where
-    by_right : (h : FrameRight) → page_of h ≡ None → None ≡ owed_under h
-    by_right (Outside r) none = refl
-    by_right (Clean r) none = absurd (cc)
-    by_right (Changed r) none = absurd (cc)
-    by_right Spent none = refl
-
 -- nothing is shown as a run begins in which no program is placed
 pub nothing_shown : (b : Bundle) (from : Beginning) (o : RunEdge) → opening_from b from ≡ Ok o → map placing b.programs ≡ [] →
     o.items ≡ []

@@ -27,7 +27,7 @@ use Rattle.cloak_model.specs.DomainStep.{DomainStepped}
 use Rattle.script_fold.proofs.OneLoad.{LoadsOnce, no_load, loads_step}
 use Rattle.cloak_model.specs.DomainStep.{DomainStepped}
 use Rattle.script_fold.proofs.OneLoad.{LoadsOnce, no_load, loads_step}
-use Rattle.cloak_model.specs.declared.context.WordPlace.{WordPlace}
+use Rattle.cloak_model.specs.declared.context.PageWord.{PageWord}
 use Rattle.cloak_model.specs.Hart.{Hart}
 use Rattle.cloak_model.specs.HostCalls.{SteppedKernel}
 use Rattle.cloak_base.specs.declared.causes.Violation.{Violation}

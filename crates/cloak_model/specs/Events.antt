@@ -1,10 +1,9 @@
 -- What a step does to frames and to translations that are known: its events, in the order in which they come about.
-use Rattle.std.specs.Prelude.{ℕ, Bool, List, [], ◌∷◌, Option, Ok, Err}
+use Rattle.std.specs.Prelude.{ℕ, Bool, Option}
 use Rattle.cloak_base.specs.declared.names.PageId.{PageId}
 use Rattle.cloak_base.specs.declared.names.SpaceId.{SpaceId}
 use Rattle.cloak_model.specs.declared.access.Access.{Access}
 use Rattle.cloak_model.specs.declared.access.Walked.{Walked}
-use Rattle.cloak_model.specs.Walk.{Walk, walk}
 
 pub data Event : Type 0 where
   -- it is asked where an access leads under a satp
@@ -23,12 +22,3 @@ pub data Event : Type 0 where
   Drop : ℕ → ℕ → Event
   -- the regions of a space changed, or it ended
   Space : SpaceId → Event
-
--- a walk that led to an address makes that known
-abbrev pub births_by : ℕ → Access → Option PageId → Walk → List Event
-births_by satp a cloaked (Err cause) = []
-births_by satp a cloaked (Ok walked) = Born satp a walked cloaked ∷ []
-
--- over the frames as the walk saw them
-abbrev pub births : List (List ℕ) → ℕ → Access → Option PageId → List Event
-births ram satp a cloaked = births_by satp a cloaked (walk ram satp a)

@@ -1,5 +1,5 @@
 -- What freezing and thawing make of the pager, over plain variables.
-use Rattle.std.proofs.Common.{◌≡◌, ◌≢◌, ◌<◌, ℕ, List, [], Option, None, length, slice_set, ap, ◌∙◌, subst, refl}
+use Rattle.std.proofs.Common.{◌≡◌, ◌≢◌, ◌<◌, ℕ, List, Option, None, length, slice_set, ap, ◌∙◌, subst, refl}
 use Rattle.std.proofs.Common.{inl, inr, true}
 use Rattle.std.proofs.lemmas.Bool.{cases_lt}
 use Rattle.std.proofs.lemmas.List.{get_or-set_same, get_or_past}
@@ -29,11 +29,6 @@ pub right_turned : (p p' : PagerState) (f : ℕ) (h : FrameRight) (bytes : List 
     Turns p p' (slice_set p.frames f bytes) (slice_set p.rights f h) metas → right_at p' f ≡ h
 right_turned p p' f h bytes metas w inside t =
     rw t.rights_are (get_or-set_same p.rights f h Spent (rw w.count inside))
-
--- its bytes, and those of a frame that was filled or in which a page was placed
-pub bytes_turned : (p p' : PagerState) (f : ℕ) (bytes : List ℕ) (rights : List FrameRight) (metas : PageId → Option Meta) →
-    f < length p.frames → Turns p p' (slice_set p.frames f bytes) rights metas → bytes_in p' f ≡ bytes
-bytes_turned p p' f bytes rights metas inside t = rw t.frames_are (get_or-set_same p.frames f bytes [] inside)
 
 -- Freezing.
 

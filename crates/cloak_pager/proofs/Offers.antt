@@ -12,8 +12,7 @@ use Rattle.cloak_base.specs.declared.names.PageId.{PageId}
 use Rattle.cloak_base.specs.Random.{Random}
 use Rattle.cloak_base.specs.Pages.{zero_page}
 use Rattle.cloak_model.specs.Chain.{cbc}
-use Rattle.cloak_model.specs.Cloaking.{CloakedMemory, AfterSettling, AfterOffer, OfferEnd, Ready as Accepted}
-use Rattle.cloak_model.specs.Cloaking.{Mismatch as Refused, settle, settle_frame_if, offer, owes, owing_frame, compared}
+use Rattle.cloak_model.specs.Cloaking.{CloakedMemory, AfterSettling, AfterOffer, settle, settle_frame_if, offer, owes, owing_frame, compared}
 use Rattle.cloak_model.specs.Cloaking.{unless_missed, taken, is_clash, with_comparison, owed_in, with_owed}
 use Rattle.frame_store.specs.Rights.{Holding}
 use Rattle.page_states.specs.Opening.{IsPlain}
@@ -189,12 +188,12 @@ stands_clean p p' w m g q bytes s whole inside outside nowhere here t =
 -- What an offer results in.
 
 pub offer_at_once : (q : PageId) (g : ℕ) (write : Bool) (m : CloakedMemory) → owed_in m g ≡ Some q →
-    offer q g write m ≡ record { memory = m; ciphers = []; answer = Accepted }
+    offer q g write m ≡ record { memory = m; ciphers = []; granted = true }
 unfolding offer
 offer_at_once q g write m e =
     let owing : owes q (owed_in m g) ≡ true = rw e (same_page-self q) in
     ap (λ (b : Bool).
-    if b then record { memory = m; ciphers = []; answer = Accepted } else unless_missed (settle g m)
+    if b then record { memory = m; ciphers = []; granted = true } else unless_missed (settle g m)
     (λ m'. unless_missed (settle_frame_if (owing_frame m' q) m')
     (λ m''. compared q g write (m''.ledger.recorded q) m''))) owing
 
@@ -208,7 +207,7 @@ offer_settled q g write m none nobody =
     let owing : owes q (owed_in m g) ≡ false = rw none refl in
     let first : offer q g write m ≡ unless_missed (settle g m) later =
     ap (λ (b : Bool).
-    if b then record { memory = m; ciphers = []; answer = Accepted } else unless_missed (settle g m) later) owing in
+    if b then record { memory = m; ciphers = []; granted = true } else unless_missed (settle g m) later) owing in
     let second : unless_missed (settle g m) later ≡ later m =
     ap (λ (x : AfterSettling). unless_missed x later) (settle_none g m none) in
     let third : later m ≡ compared q g write (m.ledger.recorded q) m =
@@ -217,37 +216,37 @@ offer_settled q g write m none nobody =
     first ∙ (second ∙ third)
 
 pub compared_fresh : (q : PageId) (g : ℕ) (write : Bool) (m : CloakedMemory) (o : Option (List ℕ)) → o ≡ None →
-    compared q g write o m ≡ record { memory = with_owed g (Some q) m; ciphers = []; answer = Accepted }
+    compared q g write o m ≡ record { memory = with_owed g (Some q) m; ciphers = []; granted = true }
 unfolding compared
 compared_fresh q g write m o e = ap (λ (x : Option (List ℕ)). compared q g write x m) e
 
 pub compared_equal : (q : PageId) (g : ℕ) (write : Bool) (m : CloakedMemory) (o : Option (List ℕ)) (c : List ℕ) →
     o ≡ Some c → bytes_eq (get_or m.ram g []) c ≡ true →
     compared q g write o m
-    ≡ record { memory = taken q g write (with_comparison (get_or m.ram g []) c m); ciphers = []; answer = Accepted }
+    ≡ record { memory = taken q g write (with_comparison (get_or m.ram g []) c m); ciphers = []; granted = true }
 unfolding compared
 compared_equal q g write m o c e equal =
     let m' : CloakedMemory = with_comparison (get_or m.ram g []) c m in
     ap (λ (x : Option (List ℕ)). compared q g write x m) e
     ∙ ap (λ (b : Bool).
-    if b then record { memory = taken q g write m'; ciphers = []; answer = Accepted } else record {
+    if b then record { memory = taken q g write m'; ciphers = []; granted = true } else record {
       memory = m';
       ciphers = [];
-      answer = Refused;
+      granted = false;
     }) equal
 
 pub compared_other : (q : PageId) (g : ℕ) (write : Bool) (m : CloakedMemory) (o : Option (List ℕ)) (c : List ℕ) →
     o ≡ Some c → bytes_eq (get_or m.ram g []) c ≡ false →
-    compared q g write o m ≡ record { memory = with_comparison (get_or m.ram g []) c m; ciphers = []; answer = Refused }
+    compared q g write o m ≡ record { memory = with_comparison (get_or m.ram g []) c m; ciphers = []; granted = false }
 unfolding compared
 compared_other q g write m o c e differ =
     let m' : CloakedMemory = with_comparison (get_or m.ram g []) c m in
     ap (λ (x : Option (List ℕ)). compared q g write x m) e
     ∙ ap (λ (b : Bool).
-    if b then record { memory = taken q g write m'; ciphers = []; answer = Accepted } else record {
+    if b then record { memory = taken q g write m'; ciphers = []; granted = true } else record {
       memory = m';
       ciphers = [];
-      answer = Refused;
+      granted = false;
     }) differ
 
 -- equal digests of different bytes set the mark
@@ -336,14 +335,9 @@ pub taken_stream : (q : PageId) (g : ℕ) (write : Bool) (m : CloakedMemory) →
 taken_stream q g true m = refl
 taken_stream q g false m = refl
 
-pub taken_clashed : (q : PageId) (g : ℕ) (write : Bool) (m : CloakedMemory) →
-    (taken q g write m).ledger.clashed ≡ m.ledger.clashed
-taken_clashed q g true m = refl
-taken_clashed q g false m = refl
-
 -- what is told of an offer, by what it came to
-abbrev pub after_offering : AfterOffer → (PageId → Bool) → ToldCall (List (ℕ × List ℕ) × OfferEnd)
-after_offering o w = record { answer = (o.ciphers, o.answer); wiped = w; memory = o.memory }
+abbrev pub after_offering : AfterOffer → (PageId → Bool) → ToldCall (List (ℕ × List ℕ) × Bool)
+after_offering o w = record { answer = (o.ciphers, o.granted); wiped = w; memory = o.memory }
 
 abbrev pub FollowsOffer : PagerState → Offered → Random → (PageId → Bool) → AfterOffer → Type 0
 FollowsOffer p' result left w o = FollowsCallFrom p' left (answer_of result) (after_offering o w)
@@ -356,7 +350,7 @@ pub accepted_follows : (p' : PagerState) (w : PageId → Bool) (m : CloakedMemor
 accepted_follows p' w m g q write c none free recorded sees stands =
     let there : List ℕ = get_or m.ram g [] in
     let comes : offer q g write m
-    ≡ record { memory = taken q g write (with_comparison there c m); ciphers = []; answer = Accepted } =
+    ≡ record { memory = taken q g write (with_comparison there c m); ciphers = []; granted = true } =
     offer_settled q g write m none (none_owing m q free)
     ∙ compared_equal q g write m (m.ledger.recorded q) c recorded (bytes_equal there c sees) in
     let M : AfterOffer → Type 0 = λ o. FollowsOffer p' Ready m.ledger.stream w o in
@@ -375,7 +369,7 @@ refused_follows p w m g q write c none free recorded differs stands =
     let there : List ℕ = get_or m.ram g [] in
     let other : bytes_eq there c ≡ false =
     false_from_ne_true (bytes_eq there c) (λ e. differs (equal_bytes there c e)) in
-    let comes : offer q g write m ≡ record { memory = with_comparison there c m; ciphers = []; answer = Refused } =
+    let comes : offer q g write m ≡ record { memory = with_comparison there c m; ciphers = []; granted = false } =
     offer_settled q g write m none (none_owing m q free)
     ∙ compared_other q g write m (m.ledger.recorded q) c recorded other in
     let M : AfterOffer → Type 0 = λ o. FollowsOffer p Mismatch m.ledger.stream w o in
@@ -386,7 +380,7 @@ pub fresh_follows : (p' : PagerState) (w : PageId → Bool) (m : CloakedMemory) 
     owed_in m g ≡ None → IsUnowed m q → m.ledger.recorded q ≡ None → StandsForMemory p' w (with_owed g (Some q) m) →
     FollowsOffer p' Ready m.ledger.stream w (offer q g write m)
 fresh_follows p' w m g q write none free recorded stands =
-    let comes : offer q g write m ≡ record { memory = with_owed g (Some q) m; ciphers = []; answer = Accepted } =
+    let comes : offer q g write m ≡ record { memory = with_owed g (Some q) m; ciphers = []; granted = true } =
     offer_settled q g write m none (none_owing m q free) ∙ compared_fresh q g write m (m.ledger.recorded q) recorded in
     let M : AfterOffer → Type 0 = λ o. FollowsOffer p' Ready m.ledger.stream w o in
     subst M (sym comes) (record { answer = refl; stands = stands; drawn = refl })
@@ -409,7 +403,7 @@ equal_unclashed m g q write c none free recorded digest unclashed =
     by_value true e = e
     by_value false e =
         let there : List ℕ = get_or m.ram g [] in
-        let comes : offer q g write m ≡ record { memory = with_comparison there c m; ciphers = []; answer = Refused } =
+        let comes : offer q g write m ≡ record { memory = with_comparison there c m; ciphers = []; granted = false } =
         offer_settled q g write m none (none_owing m q free)
         ∙ compared_other q g write m (m.ledger.recorded q) c recorded e in
         let mark : (m.ledger.clashed || is_clash there c) ≡ false =

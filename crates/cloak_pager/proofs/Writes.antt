@@ -174,9 +174,6 @@ owing_seen {p} {q} {f} seen o e =
     let there : right_at p f ≡ seen = (seen_right p f seen o.has.whole o.has.inside e).at in
     (o.right, sym there ∙ o.has.at, (named_as o.has).0)
 
-pub right_there : {p : PagerState} {q : PageId} {f : ℕ} (n : ℕ) → Owing p q f → n ≡ length p.rights → f < n
-right_there n o is = rw (is, o.has.whole.count) o.has.inside
-
 -- the frame of the changed right that is seen there
 pub frame_is : {p : PagerState} {q : PageId} {f : ℕ} (seen : FrameRight) (r : Holding) → Owing p q f →
     seen ≡ get_or p.rights f seen → seen ≡ Changed r → r.frame.0 ≡ f
@@ -184,10 +181,6 @@ frame_is seen r o e is =
     let s = owing_seen seen o e in
     let one : r ≡ s.0 = (let s' = s.1 in cc) in
     ap (λ (x : Holding). x.frame.0) one ∙ s.2
-
-pub frame_there : {p : PagerState} {q : PageId} {f : ℕ} (seen : FrameRight) (r : Holding) → Owing p q f →
-    seen ≡ get_or p.rights f seen → seen ≡ Changed r → r.frame.0 < length p.frames
-frame_there seen r o e is = rw (frame_is seen r o e is) o.has.inside
 
 pub put_plain : (p now : PagerState) (q : PageId) (f : ℕ) (seen : FrameRight) (r : Holding) (old bytes' : List ℕ)
     (change : List ℕ → List ℕ) →

@@ -7,7 +7,7 @@ use Rattle.cloak_base.specs.Pages.{zero_page, with_page, is_of, page_in}
 use Rattle.cloak_base.specs.Random.{Random}
 use Rattle.cloak_model.specs.Ledger.{Keys, key_of}
 use Rattle.cloak_model.specs.Memory.{value_in, with_value_in}
-use Rattle.cloak_model.specs.Cloaking.{CloakedMemory, OfferEnd, Ready as Accepted, Mismatch as Refused}
+use Rattle.cloak_model.specs.Cloaking.{CloakedMemory}
 use Rattle.cloak_model.specs.Cloaking.{settle, offer, owed_in, with_shown_frame}
 use Rattle.cloak_model.specs.PageMoves.{place, with_newest, copy_pages, drop_pages}
 use Rattle.cloak_model.specs.StoredFiles.{PageContent, IsSealed, IsSealedIfShown, meta_of}
@@ -78,15 +78,15 @@ shown_by Wiped f p = ((f, bytes_in p f) ∷ [], true)
 
 -- Offering.
 
--- what the kernel is shown on the way, and the answer
-abbrev pub after_offer : PageId → ℕ → Bool → AskingCall (List (ℕ × List ℕ) × OfferEnd)
+-- what the kernel is shown on the way, and whether the page was granted
+abbrev pub after_offer : PageId → ℕ → Bool → AskingCall (List (ℕ × List ℕ) × Bool)
 after_offer q g write wiped m =
-    let o = offer q g write m in record { answer = (o.ciphers, o.answer); wiped = wiped; memory = o.memory }
+    let o = offer q g write m in record { answer = (o.ciphers, o.granted); wiped = wiped; memory = o.memory }
 
 -- what an offer tells of these: the frames were settled before
-abbrev pub answer_of : Offered → List (ℕ × List ℕ) × OfferEnd
-answer_of Ready = ([], Accepted)
-answer_of Mismatch = ([], Refused)
+abbrev pub answer_of : Offered → List (ℕ × List ℕ) × Bool
+answer_of Ready = ([], true)
+answer_of Mismatch = ([], false)
 
 -- Placing and restoring.
 

@@ -1,5 +1,5 @@
 -- The questions of a cloaked program, over plain variables.
-use Rattle.std.proofs.Common.{◌≡◌, ◌+◌, arith, ℕ, Bool, true, false, cond, List, length, ◌++◌, Option, Some, ◌*◌, ◌%◌, ◌^◌, Result, Ok}
+use Rattle.std.proofs.Common.{◌≡◌, ◌+◌, arith, ℕ, Bool, true, false, cond, List, length, ◌++◌, Option, Some, ◌*◌, ◌%◌, ◌^◌, Ok}
 use Rattle.std.proofs.Common.{Err, refl, ap, sym, ◌∙◌, subst}
 use Rattle.cloak_model.specs.declared.answer.Answer.{Answer}
 use Rattle.cloak_model.specs.declared.answer.Answer.TheVariants.{Stopped, Absent, Word, Ok as Granted}
@@ -13,17 +13,19 @@ use Rattle.cloak_model.proofs.PagesLater.{later_drawn, later_offered}
 use Rattle.cloak_model.specs.World.{World, MidStep, Flat, Cloaked, Alone, cipher_items, is_clashed, stored_at}
 use Rattle.cloak_model.specs.World.{regime_of, is_missed, written}
 use Rattle.cloak_model.specs.Asking.{Asking, FollowsFrom, then_ask}
-use Rattle.cloak_model.specs.AskPages.{answer_item, replies, if_drawn, inside_access, ask_inside_address, get_at, got, put_at, stored_inside}
+use Rattle.cloak_model.specs.AskPages.{answer_item, replies, if_drawn, inside_access, ask_led_inside, get_at, got, put_at, stored_inside}
 use Rattle.cloak_model.specs.AskPages.{offer_events, offered_by, ask_offer, reached, is_store, ask_read, ask_write}
 use Rattle.cloak_base.specs.declared.names.PageId.{PageId}
 use Rattle.cloak_base.specs.declared.causes.Violation.{Violation}
 use Rattle.cloak_base.specs.declared.causes.Violation.TheVariants as violation
-use Rattle.cloak_model.specs.Cloaking.{OfferEnd, offer}
+use Rattle.cloak_model.specs.Cloaking.{offer}
 use Rattle.cloak_model.specs.Exchange.{Piece, Emits, item_pieces}
 use Rattle.cloaked_side.specs.Holding.{Holds}
-use Rattle.cloaked_side.specs.Offering.{Offers, OffersPage, offer_of}
-use Rattle.cloaked_side.specs.declared.memory.EndedOffer.{EndedOffer as Ended}
-use Rattle.cloaked_side.specs.declared.memory.EndedOffer.TheVariants as ended
+use Rattle.cloaked_side.specs.Leading.{IsLedSo, Leads}
+use Rattle.cloaked_side.specs.Offering.{Offers, OffersPage}
+use Rattle.cloaked_side.specs.declared.leading.Led.{Led}
+use Rattle.cloak_model.specs.declared.access.Walked.{Walked}
+use Rattle.cloak_model.specs.Walk.{Walk}
 use Rattle.cloaked_side.proofs.Emitting.{emits_items}
 use Rattle.cloaked_side.proofs.Sided.{Repaged, still_turned, sees_still}
 use Rattle.cloaked_side.proofs.Tracking.{respaced, tracks_on}
@@ -95,41 +97,38 @@ undrawn_clash gave first now ask w sees missed e =
     subst (λ (b : Bool). is_clashed (cond b (replies Stopped w) (ask w)).world ≡ false)
     (sym (missed_of gave first now w sees) ∙ missed) e
 
--- A question that begins with an address: a draw was missing in its walk.
+-- A question that begins with an access: a draw was missing in its walk.
 pub asked_drawn : {E : Type 0} (gave : E → E → List Piece → Type 0) (first now new : Side E) (a : Answer) (va : ℕ)
-    (kind : Kind) (next : Result ℕ ℕ → Asking Answer) (r : Result ℕ ℕ) (w : World) →
-    ((to : Result ℕ ℕ) (v : World) → IsLater v (next to v).world) →
-    is_clashed (then_ask (ask_inside_address va kind) (λ to. if_drawn (next to)) w).world ≡ false →
-    (is_clashed (ask_inside_address va kind w).world ≡ false →
-    FollowsFrom (Sees gave first) now r (ask_inside_address va kind w)) →
-    now.memory.now.missed ≡ true →
-    ((v : World) → Sees gave first now v → FollowsFrom (Sees gave first) new a (replies Stopped v)) →
-    FollowsFrom (Sees gave first) new a (then_ask (ask_inside_address va kind) (λ to. if_drawn (next to)) w)
-asked_drawn gave first now new a va kind next r w later unclashed address missed stopped =
-    let told = ask_inside_address va kind w in
-    let u = (later_drawn (next told.answer) told.world (later told.answer)).mark unclashed in
-    then_told gave first now new r a (ask_inside_address va kind) (λ to. if_drawn (next to)) w (address u)
-    (λ stands. drawn_told gave first now new a (next r) told.world stands missed (stopped told.world stands))
+    (kind : Kind) (next : Walk → Asking Answer) (w : World) → ((to : Walk) (v : World) → IsLater v (next to v).world) →
+    is_clashed (then_ask (ask_led_inside va kind) (λ to. if_drawn (next to)) w).world ≡ false →
+    (is_clashed (ask_led_inside va kind w).world ≡ false → Sees gave first now (ask_led_inside va kind w).world) →
+    now.memory.now.missed ≡ true → FollowsAlways gave now new a (replies Stopped) →
+    FollowsFrom (Sees gave first) new a (then_ask (ask_led_inside va kind) (λ to. if_drawn (next to)) w)
+asked_drawn gave first now new a va kind next w later unclashed stand missed stopped =
+    let told = ask_led_inside va kind w in
+    let sees = stand ((later_drawn (next told.answer) told.world (later told.answer)).mark unclashed) in
+    drawn_told gave first now new a (next told.answer) told.world sees missed (stopped first told.world sees)
 
--- None was.
-pub asked_undrawn : {E : Type 0} (gave : E → E → List Piece → Type 0) (first now new : Side E) (a : Answer) (va : ℕ)
-    (kind : Kind) (next : Result ℕ ℕ → Asking Answer) (r : Result ℕ ℕ) (w : World) →
-    ((to : Result ℕ ℕ) (v : World) → IsLater v (next to v).world) →
-    is_clashed (then_ask (ask_inside_address va kind) (λ to. if_drawn (next to)) w).world ≡ false →
-    (is_clashed (ask_inside_address va kind w).world ≡ false →
-    FollowsFrom (Sees gave first) now r (ask_inside_address va kind w)) →
+-- None was, and the access was led.
+pub asked_undrawn : {E : Type 0} (gave : E → E → List Piece → Type 0) (first now new : Side E) (a : Answer)
+    (regime : Regime) (va : ℕ) (kind : Kind) (cloaked : Option PageId) (led : Led) (next : Walk → Asking Answer)
+    (w : World) → ((to : Walk) (v : World) → IsLater v (next to v).world) →
+    is_clashed (then_ask (ask_led_inside va kind) (λ to. if_drawn (next to)) w).world ≡ false →
+    (is_clashed (ask_led_inside va kind w).world ≡ false →
+    Leads gave first now regime va kind cloaked (Ok led) (ask_led_inside va kind w)) →
     now.memory.now.missed ≡ false →
-    (let v = (ask_inside_address va kind w).world in is_clashed v ≡ false → Sees gave first now v → is_clashed (next r v).world ≡ false →
-    FollowsFrom (Sees gave first) new a (next r v)) →
-    FollowsFrom (Sees gave first) new a (then_ask (ask_inside_address va kind) (λ to. if_drawn (next to)) w)
-asked_undrawn gave first now new a va kind next r w later unclashed address missed goes_on =
-    let told = ask_inside_address va kind w in
-    let u = (later_drawn (next told.answer) told.world (later told.answer)).mark unclashed in
-    let f = address u in
-    let clash = subst (λ x. is_clashed (if_drawn (next x) told.world).world ≡ false) (sym f.answer) unclashed in
-    then_told gave first now new r a (ask_inside_address va kind) (λ to. if_drawn (next to)) w f
-    (λ stands. undrawn_told gave first now new a (next r) told.world stands missed
-    (goes_on u stands (undrawn_clash gave first now (next r) told.world stands missed clash)))
+    ((walked : Walked) → let v = (ask_led_inside va kind w).world in Sees gave first now v →
+    IsLedSo now.memory.now v regime va kind cloaked walked led → is_clashed (next (Ok walked) v).world ≡ false →
+    FollowsFrom (Sees gave first) new a (next (Ok walked) v)) →
+    FollowsFrom (Sees gave first) new a (then_ask (ask_led_inside va kind) (λ to. if_drawn (next to)) w)
+asked_undrawn gave first now new a regime va kind cloaked led next w later unclashed leads missed goes_on =
+    let told = ask_led_inside va kind w in
+    let so = leads ((later_drawn (next told.answer) told.world (later told.answer)).mark unclashed) in
+    let sees = so.1.stands in
+    subst (λ (to : Walk). is_clashed (if_drawn (next to) told.world).world ≡ false →
+    FollowsFrom (Sees gave first) new a (if_drawn (next to) told.world)) so.1.answer
+    (λ clash. undrawn_told gave first now new a (next (Ok so.0)) told.world sees missed
+    (goes_on so.0 sees so.2 (undrawn_clash gave first now (next (Ok so.0)) told.world sees missed clash))) unclashed
 
 -- It led to no address.
 
@@ -138,28 +137,31 @@ unfolding if_drawn
 drawn_same ask ask' w is = ap (λ (t : Told Answer). cond (is_missed w) (replies Stopped w) t) is
 
 pub asked_fault : {E : Type 0} (gave : E → E → List Piece → Type 0) (first now new : Side E) (a : Answer) (va : ℕ)
-    (kind : Kind) (next : Result ℕ ℕ → Asking Answer) (cause : ℕ) (w : World) →
-    ((to : Result ℕ ℕ) (v : World) → IsLater v (next to v).world) →
+    (kind : Kind) (next : Walk → Asking Answer) (cause : ℕ) (w : World) →
+    ((to : Walk) (v : World) → IsLater v (next to v).world) →
     ((v : World) → replies (Absent cause) v ≡ next (Err cause) v) →
-    is_clashed (then_ask (ask_inside_address va kind) (λ to. if_drawn (next to)) w).world ≡ false →
-    (is_clashed (ask_inside_address va kind w).world ≡ false →
-    FollowsFrom (Sees gave first) now (Err cause) (ask_inside_address va kind w)) →
+    is_clashed (then_ask (ask_led_inside va kind) (λ to. if_drawn (next to)) w).world ≡ false →
+    (is_clashed (ask_led_inside va kind w).world ≡ false →
+    FollowsFrom (Sees gave first) now (Err cause) (ask_led_inside va kind w)) →
     FollowsAlways gave now new a (if_drawn (replies (Absent cause))) →
-    FollowsFrom (Sees gave first) new a (then_ask (ask_inside_address va kind) (λ to. if_drawn (next to)) w)
-asked_fault gave first now new a va kind next cause w later is unclashed address told =
-    let v = (ask_inside_address va kind w).world in
-    let u = (later_drawn (next (ask_inside_address va kind w).answer) v (later (ask_inside_address va kind w).answer)).mark unclashed in
-    then_told gave first now new (Err cause) a (ask_inside_address va kind) (λ to. if_drawn (next to)) w (address u)
+    FollowsFrom (Sees gave first) new a (then_ask (ask_led_inside va kind) (λ to. if_drawn (next to)) w)
+asked_fault gave first now new a va kind next cause w later is unclashed leads told =
+    let v = (ask_led_inside va kind w).world in
+    let u = (later_drawn (next (ask_led_inside va kind w).answer) v (later (ask_led_inside va kind w).answer)).mark unclashed in
+    then_told gave first now new (Err cause) a (ask_led_inside va kind) (λ to. if_drawn (next to)) w (leads u)
     (λ stands. subst (λ (t : Told Answer). FollowsFrom (Sees gave first) new a t)
     (drawn_same (replies (Absent cause)) (next (Err cause)) v (is v)) (told first v stands))
 
-pub got_err : {E : Type 0} (gave : E → E → List Piece → Type 0) (first new : Side E) (va width cause : ℕ) (a : Answer)
-    (to : Result ℕ ℕ) (w : World) → to ≡ Err cause →
-    FollowsFrom (Sees gave first) new a (replies (Absent cause) w) →
-    FollowsFrom (Sees gave first) new a (got va width to w)
+-- no draw was missing, and its fault was answered
+pub fault_told : {E : Type 0} (gave : E → E → List Piece → Type 0) (now new : Side E) (a : Answer) (cause : ℕ) →
+    now.memory.now.missed ≡ false → FollowsAlways gave now new a (replies (Absent cause)) →
+    FollowsAlways gave now new a (if_drawn (replies (Absent cause)))
+fault_told gave now new a cause missed told first w sees =
+    undrawn_told gave first now new a (replies (Absent cause)) w sees missed (told first w sees)
+
+pub got_fault : (va width cause : ℕ) (w : World) → replies (Absent cause) w ≡ got va width (Err cause) w
 unfolding got
-got_err gave first new va width cause a to w is told =
-    subst (λ t. FollowsFrom (Sees gave first) new a (got va width t w)) (sym is) told
+got_fault va width cause w = refl
 
 -- the value at a settled address was read, and told
 pub get_told : {E : Type 0} (gave : E → E → List Piece → Type 0) (first mid new : Side E) (pa width value low : ℕ)
@@ -173,13 +175,15 @@ get_told gave first mid new pa width value low a w read cut told =
     subst (λ (n : ℕ). FollowsFrom (Sees gave first) new a (replies (Word n) (shown_value pa width w).world)) same
     (told (shown_value pa width w).world read.stands)
 
-pub get_at_led : {E : Type 0} (gave : E → E → List Piece → Type 0) (first new : Side E) (va width pa : ℕ)
-    (a : Answer) (w : World) →
+pub get_at_led : {E : Type 0} (gave : E → E → List Piece → Type 0) (first new : Side E) (va width pa : ℕ) (walked : Walked)
+    (a : Answer) (w : World) → pa ≡ walked.pa →
     FollowsFrom (Sees gave first) new a
-    (if_drawn (get_at pa width) (opened (regime_of w).satp (inside_access w va Load) pa w)) →
-    FollowsFrom (Sees gave first) new a (got va width (Ok pa) w)
+    (if_drawn (get_at pa width) (opened (regime_of w).satp (inside_access w va Load) walked w)) →
+    FollowsFrom (Sees gave first) new a (got va width (Ok walked) w)
 unfolding got
-get_at_led gave first new va width pa a w told = told
+get_at_led gave first new va width pa walked a w at told =
+    subst (λ (n : ℕ). FollowsFrom (Sees gave first) new a
+    (if_drawn (get_at n width) (opened (regime_of w).satp (inside_access w va Load) walked w))) at told
 
 -- A value was stored, that was written, and it was granted.
 pub put_told : {E : Type 0} (gave : E → E → List Piece → Type 0) (first mid after new : Side E) (pa width value : ℕ)
@@ -193,21 +197,20 @@ unfolding put_at
 put_told gave first mid after new pa width value a w stored written_so granted =
     granted _ (written_so (stored_at pa width value w) stored)
 
-pub stored_err : {E : Type 0} (gave : E → E → List Piece → Type 0) (first new : Side E) (va width value cause : ℕ)
-    (a : Answer) (to : Result ℕ ℕ) (w : World) → to ≡ Err cause →
-    FollowsFrom (Sees gave first) new a (replies (Absent cause) w) →
-    FollowsFrom (Sees gave first) new a (stored_inside va width value to w)
+pub stored_fault : (va width value cause : ℕ) (w : World) →
+    replies (Absent cause) w ≡ stored_inside va width value (Err cause) w
 unfolding stored_inside
-stored_err gave first new va width value cause a to w is told =
-    subst (λ t. FollowsFrom (Sees gave first) new a (stored_inside va width value t w)) (sym is) told
+stored_fault va width value cause w = refl
 
 pub put_at_led : {E : Type 0} (gave : E → E → List Piece → Type 0) (first new : Side E) (va width value pa : ℕ)
-    (a : Answer) (w : World) →
+    (walked : Walked) (a : Answer) (w : World) → pa ≡ walked.pa →
     FollowsFrom (Sees gave first) new a
-    (if_drawn (put_at pa width value) (opened (regime_of w).satp (inside_access w va Store) pa w)) →
-    FollowsFrom (Sees gave first) new a (stored_inside va width value (Ok pa) w)
+    (if_drawn (put_at pa width value) (opened (regime_of w).satp (inside_access w va Store) walked w)) →
+    FollowsFrom (Sees gave first) new a (stored_inside va width value (Ok walked) w)
 unfolding stored_inside
-put_at_led gave first new va width value pa a w told = told
+put_at_led gave first new va width value pa walked a w at told =
+    subst (λ (n : ℕ). FollowsFrom (Sees gave first) new a
+    (if_drawn (put_at n width value) (opened (regime_of w).satp (inside_access w va Store) walked w))) at told
 
 -- A page was offered.
 
@@ -215,34 +218,36 @@ put_at_led gave first new va width value pa a w told = told
 abbrev pub offered_cloak : PageId → ℕ → Bool → MidStep → MidStep
 offered_cloak q g write c =
     let o = offer q g write c.memory in
-    record c { memory = o.memory; items = c.items ++ cipher_items o.ciphers; events = c.events ++ offer_events q g c.memory o.answer }
+    record c { memory = o.memory; items = c.items ++ cipher_items o.ciphers; events = c.events ++ offer_events q g c.memory o.granted }
 
-sees_offered : {E : Type 0} (gave : E → E → List Piece → Type 0) (first old mid : Side E) (given : Ended)
+sees_offered : {E : Type 0} (gave : E → E → List Piece → Type 0) (first old mid : Side E) (granted : Bool)
     (q : PageId) (g : ℕ) (write : Bool) (c : MidStep) → SeesCloak gave first old c →
-    Offers gave old.emitter.now mid.emitter.now mid.memory.now given (offer q g write c.memory) →
-    OffersPage gave old.emitter.now mid.emitter.now old.memory.now mid.memory.now q g write given →
+    Offers gave old.emitter.now mid.emitter.now mid.memory.now granted (offer q g write c.memory) →
+    OffersPage gave old.emitter.now mid.emitter.now old.memory.now mid.memory.now q g write granted →
     mid.violation ≡ old.violation → mid.domain ≡ old.domain → mid.regime ≡ old.regime →
     SeesCloak gave first mid (offered_cloak q g write c)
-sees_offered gave first old mid given q g write c sees o page violation domain regime = record {
+sees_offered gave first old mid granted q g write c sees o page violation domain regime = record {
   holds = o.holds;
   emits = emits_items c.items (cipher_items (offer q g write c.memory).ciphers) sees.emits o.emits;
   violation = violation ∙ sees.violation;
   domain = domain ∙ sees.domain;
   regime = subst (λ (r : Regime). IsRegimeFor c.regime r) (sym regime) sees.regime;
-  tracks = tracks_on first.memory.now old.memory.now mid.memory.now (space_in mid.regime) c.events (offer_events q g c.memory (offer q g write c.memory).answer)
-      (respaced first.memory.now old.memory.now (space_in old.regime) (space_in mid.regime) c.events (ap space_in regime) sees.tracks)
-      (subst (λ x. TracksBy old.memory.now mid.memory.now (after_events (space_in mid.regime) (offer_events q g c.memory x))) o.answer
+  tracks = tracks_on first.memory.now old.memory.now mid.memory.now (space_in mid.regime) c.events (offer_events q g c.memory (offer q g write c.memory).granted)
+      (respaced first.memory.now old.memory.now (space_in old.regime) (space_in mid.regime) c.events
+      (ap space_in regime) sees.tracks)
+      (subst (λ x. TracksBy old.memory.now mid.memory.now
+      (after_events (space_in mid.regime) (offer_events q g c.memory x))) o.answer
       (page.tracks c.memory sees.holds (space_in mid.regime)));
   spends = spends_looks
-      (let looks = looks_then c.events (offer_events q g c.memory (offer q g write c.memory).answer) in omega (arith, looks))
+      (let looks = looks_then c.events (offer_events q g c.memory (offer q g write c.memory).granted) in omega (arith, looks))
       (spends_more (0 + 0) 0 (reads_due (asked_by (space_in old.regime) c) + length (offer q g write c.memory).ciphers)
       (reads_due (asked_by (space_in mid.regime) (offered_cloak q g write c))) (spent_in first.memory.now) (spent_in mid.memory.now)
-      (let both = due_then (space_in mid.regime) c.events (offer_events q g c.memory (offer q g write c.memory).answer) c.items
+      (let both = due_then (space_in mid.regime) c.events (offer_events q g c.memory (offer q g write c.memory).granted) c.items
       (cipher_items (offer q g write c.memory).ciphers) in
       let shown = ciphers_due (offer q g write c.memory).ciphers in omega (arith, both, shown))
       (spends_then 0 0 (reads_due (asked_by (space_in old.regime) c)) (length (offer q g write c.memory).ciphers) (spent_in first.memory.now)
       (spent_in old.memory.now) (spent_in mid.memory.now) sees.spends (page.spends c.memory sees.holds)));
-  maps = maps_on first.memory.now old.memory.now mid.memory.now (space_in mid.regime) c.events (offer_events q g c.memory (offer q g write c.memory).answer)
+  maps = maps_on first.memory.now old.memory.now mid.memory.now (space_in mid.regime) c.events (offer_events q g c.memory (offer q g write c.memory).granted)
       (maps_of first.memory.now old.memory.now (space_in old.regime) (space_in mid.regime) c.events (ap space_in regime) sees.maps)
       (maps_still old.memory.now mid.memory.now (space_in mid.regime) _ page.maps);
 }
@@ -265,63 +270,48 @@ with_violation gave first mid after v c sees memory emitter domain regime violat
       (maps_of first.memory.now mid.memory.now (space_in mid.regime) (space_in after.regime) c.events (ap space_in regime) sees.maps);
 }
 
--- What follows of an offer, by how it ended.
-pub asked_offer : {E : Type 0} (gave : E → E → List Piece → Type 0) (first old mid new : Side E) (given : Ended)
-    (q : PageId) (va : ℕ) (kind : Kind) (g : ℕ) (write : Bool) (a : Answer) (w : World) → write ≡ is_store kind →
-    Sees gave first old w → is_clashed (ask_offer q va kind g w).world ≡ false →
-    OffersPage gave old.emitter.now mid.emitter.now old.memory.now mid.memory.now q g write given →
+-- What follows of an offer.
+pub asked_offer : {E : Type 0} (gave : E → E → List Piece → Type 0) (first old mid new : Side E) (granted : Bool)
+    (q : PageId) (va : ℕ) (kind : Kind) (walked : Walked) (a : Answer) (w : World) →
+    Sees gave first old w → is_clashed (reached q va kind (Ok walked) w).world ≡ false →
+    OffersPage gave old.emitter.now mid.emitter.now old.memory.now mid.memory.now q (frame_of walked.pa) (is_store kind) granted →
     mid.violation ≡ old.violation → mid.domain ≡ old.domain → mid.regime ≡ old.regime →
     ((c c' : MidStep) → w ≡ Cloaked c → SeesCloak gave first old c → SeesCloak gave first mid c' →
-    c'.memory ≡ (offer q g (is_store kind) c.memory).memory → c'.regime ≡ c.regime →
-    FollowsFrom (Sees gave first) new a (offered_by q va kind g (offer_of given) (Cloaked c'))) →
-    FollowsFrom (Sees gave first) new a (ask_offer q va kind g w)
-unfolding ask_offer
-asked_offer gave first old mid new given q va kind g write a (Flat ram) kind_is sees clash offers violation domain regime told = absurd sees
-asked_offer gave first old mid new given q va kind g write a (Alone handed) kind_is sees clash offers violation domain regime told = absurd sees
-asked_offer {E} gave first old mid new given q va kind g write a (Cloaked c) kind_is sees clash offers violation domain regime told =
+    c'.memory ≡ (offer q (frame_of walked.pa) (is_store kind) c.memory).memory →
+    FollowsFrom (Sees gave first) new a (if_drawn (offered_by q va kind walked granted) (Cloaked c'))) →
+    FollowsFrom (Sees gave first) new a (reached q va kind (Ok walked) w)
+unfolding ask_offer reached
+asked_offer gave first old mid new granted q va kind walked a (Flat ram) sees clash page violation domain regime told = absurd sees
+asked_offer gave first old mid new granted q va kind walked a (Alone handed) sees clash page violation domain regime told = absurd sees
+asked_offer {E} gave first old mid new granted q va kind walked a (Cloaked c) sees clash page violation domain regime told =
+    let g = frame_of walked.pa in
     let store = is_store kind in
     let o = offer q g store c.memory in
     let c' = offered_cloak q g store c in
-    let unclashed = (later_offered q va kind g o.answer (Cloaked c')).mark clash in
-    let page = subst (λ (b : Bool). OffersPage gave old.emitter.now mid.emitter.now old.memory.now mid.memory.now q g b given) kind_is offers in
+    let unclashed = (later_drawn (offered_by q va kind walked o.granted) (Cloaked c') (later_offered q va kind walked o.granted)).mark clash in
     let done = page.offers c.memory sees.holds unclashed in
-    subst (λ (x : OfferEnd). FollowsFrom (Sees gave first) new a (offered_by q va kind g x (Cloaked c'))) done.answer
-    (told c c' refl sees (sees_offered gave first old mid given q g store c sees done page violation domain regime) refl refl)
+    subst (λ (b : Bool). FollowsFrom (Sees gave first) new a (if_drawn (offered_by q va kind walked b) (Cloaked c'))) done.answer
+    (told c c' refl sees (sees_offered gave first old mid granted q g store c sees done page violation domain regime) refl)
 
--- It is granted, once its translation is known.
-pub granted_told : {E : Type 0} (gave : E → E → List Piece → Type 0) (first after new : Side E) (q : PageId) (va : ℕ) (kind : Kind)
-    (g : ℕ) (a : Answer) (c : MidStep) → Sees gave first after (known (regime_of (Cloaked c)).satp (inside_access (Cloaked c) va kind) (Some q) (Cloaked c)) →
-    ((v : World) → Sees gave first after v → FollowsFrom (Sees gave first) new a (replies Granted v)) →
-    FollowsFrom (Sees gave first) new a (offered_by q va kind g (offer_of ended.Ready) (Cloaked c))
+-- It is granted, once its translation is known: no draw was missing.
+pub granted_told : {E : Type 0} (gave : E → E → List Piece → Type 0) (first mid after new : Side E) (q : PageId) (va : ℕ) (kind : Kind)
+    (walked : Walked) (a : Answer) (c : MidStep) → SeesCloak gave first mid c → mid.memory.now.missed ≡ false →
+    Sees gave first after (known (regime_of (Cloaked c)).satp (inside_access (Cloaked c) va kind) (Some q) walked (Cloaked c)) →
+    FollowsAlways gave after new a (replies Granted) →
+    FollowsFrom (Sees gave first) new a (if_drawn (offered_by q va kind walked true) (Cloaked c))
 unfolding offered_by
-granted_told gave first after new q va kind g a c sees told = told _ sees
+granted_told gave first mid after new q va kind walked a c seen drawn sees told =
+    undrawn_told gave first mid new a (offered_by q va kind walked true) (Cloaked c) seen drawn (told first _ sees)
 
--- The page was found in another frame, and that is a violation.
-pub mismatched_told : {E : Type 0} (gave : E → E → List Piece → Type 0) (first after new : Side E) (q : PageId) (va : ℕ) (kind : Kind)
-    (g : ℕ) (a : Answer) (c : MidStep) → SeesCloak gave first after (record c { violation = Some (violation.Page q (record { 0 = g })) }) →
-    ((v : World) → Sees gave first after v → FollowsFrom (Sees gave first) new a (replies Stopped v)) →
-    FollowsFrom (Sees gave first) new a (offered_by q va kind g (offer_of ended.Mismatch) (Cloaked c))
+-- The frame shows something else, and that is a violation, if no draw was missing.
+pub refused_told : {E : Type 0} (gave : E → E → List Piece → Type 0) (first mid after new : Side E) (q : PageId) (va : ℕ) (kind : Kind)
+    (walked : Walked) (a : Answer) (c : MidStep) → SeesCloak gave first mid c → mid.memory.now.missed ≡ false →
+    SeesCloak gave first after (record c { violation = Some (violation.Page q (record { 0 = frame_of walked.pa })) }) →
+    FollowsAlways gave after new a (replies Stopped) →
+    FollowsFrom (Sees gave first) new a (if_drawn (offered_by q va kind walked false) (Cloaked c))
 unfolding offered_by
-mismatched_told gave first after new q va kind g a c sees told = told _ sees
-
--- A draw was missing.
-pub missed_told : {E : Type 0} (gave : E → E → List Piece → Type 0) (first mid new : Side E) (q : PageId) (va : ℕ) (kind : Kind)
-    (g : ℕ) (a : Answer) (c : MidStep) → SeesCloak gave first mid c →
-    ((v : World) → Sees gave first mid v → FollowsFrom (Sees gave first) new a (replies Stopped v)) →
-    FollowsFrom (Sees gave first) new a (offered_by q va kind g (offer_of ended.Missed) (Cloaked c))
-unfolding offered_by
-missed_told gave first mid new q va kind g a c sees told = told (Cloaked c) sees
-
--- A page is reached where its access was led.
-pub reached_told : {E : Type 0} (gave : E → E → List Piece → Type 0) (first new : Side E) (q : PageId) (va : ℕ) (kind : Kind)
-    (pa g : ℕ) (a : Answer) (w : World) → g ≡ frame_of pa → is_clashed (reached q va kind (Ok pa) w).world ≡ false →
-    (is_clashed (ask_offer q va kind g w).world ≡ false → FollowsFrom (Sees gave first) new a (ask_offer q va kind g w)) →
-    FollowsFrom (Sees gave first) new a (reached q va kind (Ok pa) w)
-unfolding reached
-reached_told gave first new q va kind pa g a w at clash told =
-    let there : ask_offer q va kind g w ≡ ask_offer q va kind (frame_of pa) w = ap (λ n. ask_offer q va kind n w) at in
-    subst (λ t. FollowsFrom (Sees gave first) new a t) there
-    (told (ap (λ (t : Told Answer). is_clashed t.world) there ∙ clash))
+refused_told gave first mid after new q va kind walked a c seen drawn sees told =
+    undrawn_told gave first mid new a (offered_by q va kind walked false) (Cloaked c) seen drawn (told first _ sees)
 
 pub reached_fault : (q : PageId) (va : ℕ) (kind : Kind) (cause : ℕ) (w : World) → replies (Absent cause) w ≡ reached q va kind (Err cause) w
 unfolding reached

@@ -2,12 +2,14 @@
 use Rattle.std.proofs.Common.{◌≡◌, false, true, ℕ, Bool, List, Option, Result, Ok, Err, refl, ap, sym, subst}
 use Rattle.std.proofs.lemmas.Bool.{false≢true}
 use Rattle.cloak_model.specs.declared.access.Access.{Access}
+use Rattle.cloak_model.specs.declared.access.Walked.{Walked}
 use Rattle.cloak_model.specs.Ask.{ask_led, opened, ask_value, shown_value, stored_value, ask_mark, ask_unmark, ask_marked}
 use Rattle.cloak_model.specs.Ask.{reserved_at, ask_reserve, is_reserved, stored_if, conditional_at, ask_store_conditional}
 use Rattle.cloak_model.specs.Ask.{combined_at, ask_combine}
 use Rattle.cloak_model.specs.Asking.{FollowsFrom}
 use Rattle.cloak_model.specs.Exchange.{Piece}
 use Rattle.cloak_model.specs.Memory.{mark_of}
+use Rattle.cloak_model.specs.Walk.{Walk}
 use Rattle.cloak_model.specs.World.{World, is_clashed}
 use Rattle.cloak_model.proofs.Later.{IsLater, IsLater-refl, IsLater-trans, IsLater-stored_at, later_value, later_mark, later_unmark}
 use Rattle.rv_atomic.specs.Combine.{combined}
@@ -20,21 +22,23 @@ use Rattle.cloaked_side.proofs.Marking.{asked_mark}
 
 -- The word to which an access leads.
 
-pub led_word_told : {E : Type 0} (gave : E → E → List Piece → Type 0) (first mid new : Side E) (satp : ℕ) (a : Access) (pa word : ℕ)
-    (w : World) → FollowsFrom (Sees gave first) mid (Ok pa) (ask_led satp a w) →
-    FollowsFrom (λ side v. Sees gave first side v) new word (shown_value pa 4 (opened satp a pa (ask_led satp a w).world)) →
+pub led_word_told : {E : Type 0} (gave : E → E → List Piece → Type 0) (first mid new : Side E) (satp : ℕ) (a : Access) (walked : Walked) (pa word : ℕ)
+    (w : World) → FollowsFrom (Sees gave first) mid (Ok walked) (ask_led satp a w) → pa ≡ walked.pa →
+    FollowsFrom (λ side v. Sees gave first side v) new word (shown_value pa 4 (opened satp a walked (ask_led satp a w).world)) →
     FollowsFrom (Sees gave first) new (Ok (record { pa = pa; word = word })) (ask_led_word satp a w)
 unfolding ask_value
-led_word_told gave first mid new satp a pa word w led told =
-    let found : ℕ → LedWord = λ n. record { pa = pa; word = n } in
-    subst (λ (to : Result ℕ ℕ). FollowsFrom (Sees gave first) new (Ok (found word)) (word_there satp a to (ask_led satp a w).world))
-    led.answer (record { answer = ap (λ (n : ℕ). Ok (found n)) told.answer; stands = told.stands })
+led_word_told gave first mid new satp a walked pa word w led at told =
+    let v = opened satp a walked (ask_led satp a w).world in
+    let found : ℕ → ℕ → LedWord = λ n x. record { pa = n; word = x } in
+    let read = subst (λ (n : ℕ). FollowsFrom (λ side u. Sees gave first side u) new word (shown_value n 4 v)) at told in
+    subst (λ (to : Walk). FollowsFrom (Sees gave first) new (Ok (found pa word)) (word_there satp a to (ask_led satp a w).world))
+    led.answer (record { answer = λ i. Ok (found (at i) (read.answer i)); stands = read.stands })
 
 pub led_word_fault : {E : Type 0} (gave : E → E → List Piece → Type 0) (first new : Side E) (satp : ℕ) (a : Access) (cause : ℕ)
     (w : World) → FollowsFrom (Sees gave first) new (Err cause) (ask_led satp a w) →
     FollowsFrom (Sees gave first) new (Err cause) (ask_led_word satp a w)
 led_word_fault gave first new satp a cause w led =
-    subst (λ (to : Result ℕ ℕ). FollowsFrom (Sees gave first) new (Err cause) (word_there satp a to (ask_led satp a w).world))
+    subst (λ (to : Walk). FollowsFrom (Sees gave first) new (Err cause) (word_there satp a to (ask_led satp a w).world))
     led.answer (record { answer = refl; stands = led.stands })
 
 not_fault : (led : LedWord) (cause : ℕ) → Ok led ≡ Err cause → ⊥
@@ -51,10 +55,10 @@ same_cause a b x one two = cc
 
 -- LR.
 
-later_reserved_at : (satp : ℕ) (a : Access) (hart : ℕ) (to : Result ℕ ℕ) (w : World) → IsLater w (reserved_at satp a hart to w).world
+later_reserved_at : (satp : ℕ) (a : Access) (hart : ℕ) (to : Walk) (w : World) → IsLater w (reserved_at satp a hart to w).world
 unfolding reserved_at
 later_reserved_at satp a hart (Err cause) w = IsLater-refl w
-later_reserved_at satp a hart (Ok pa) w = IsLater-trans _ _ _ (later_value satp a pa 4 w) (later_mark hart pa _)
+later_reserved_at satp a hart (Ok walked) w = IsLater-trans _ _ _ (later_value satp a walked 4 w) (later_mark hart walked.pa _)
 
 pub reserve_unclashed : (satp : ℕ) (a : Access) (hart : ℕ) (w : World) → is_clashed (ask_reserve satp a hart w).world ≡ false →
     is_clashed (ask_led satp a w).world ≡ false
@@ -63,14 +67,14 @@ reserve_unclashed satp a hart w unclashed =
     let told = ask_led satp a w in (later_reserved_at satp a hart told.answer told.world).mark unclashed
 
 reserved_by : {E : Type 0} (gave : E → E → List Piece → Type 0) (first mid new : Side E) (satp : ℕ) (a : Access) (hart : ℕ) (led : LedWord)
-    (to : Result ℕ ℕ) (w : World) → FollowsFrom (Sees gave first) mid (Ok led) (word_there satp a to w) →
+    (to : Walk) (w : World) → FollowsFrom (Sees gave first) mid (Ok led) (word_there satp a to w) →
     FollowsFrom (Sees gave first) new (tt {0}) (ask_mark hart led.pa (word_there satp a to w).world) →
     FollowsFrom (Sees gave first) new (Ok led.word) (reserved_at satp a hart to w)
 unfolding reserved_at
 reserved_by gave first mid new satp a hart led (Err cause) w told marked = absurd (not_fault led cause told.answer)
-reserved_by gave first mid new satp a hart led (Ok pa) w told marked =
-    let asked = ask_value satp a pa 4 w in
-    let is : led ≡ record { pa = pa; word = asked.answer } = same_led led (record { pa = pa; word = asked.answer }) _ told.answer refl in
+reserved_by gave first mid new satp a hart led (Ok walked) w told marked =
+    let asked = ask_value satp a walked 4 w in
+    let is : led ≡ record { pa = walked.pa; word = asked.answer } = same_led led (record { pa = walked.pa; word = asked.answer }) _ told.answer refl in
     record {
       answer = ap (λ (x : LedWord). Ok x.word) is;
       stands = subst (λ (x : LedWord). Sees gave first new (ask_mark hart x.pa asked.world).world) is marked.stands;
@@ -86,12 +90,12 @@ reserved_told gave first mid new satp a hart led w told marked =
     reserved_by gave first mid new satp a hart led to.answer to.world told (marked (ask_led_word satp a w).world told.stands)
 
 reserve_fault_by : {E : Type 0} (gave : E → E → List Piece → Type 0) (first new : Side E) (satp : ℕ) (a : Access) (hart cause : ℕ)
-    (to : Result ℕ ℕ) (w : World) → FollowsFrom (Sees gave first) new (Err cause) (word_there satp a to w) →
+    (to : Walk) (w : World) → FollowsFrom (Sees gave first) new (Err cause) (word_there satp a to w) →
     FollowsFrom (Sees gave first) new (Err cause) (reserved_at satp a hart to w)
 unfolding reserved_at
 reserve_fault_by gave first new satp a hart cause (Err other) w told =
     record { answer = ap (λ (n : ℕ). Err n) (same_cause cause other _ told.answer refl); stands = told.stands }
-reserve_fault_by gave first new satp a hart cause (Ok pa) w told = absurd (not_led _ cause told.answer)
+reserve_fault_by gave first new satp a hart cause (Ok walked) w told = absurd (not_led _ cause told.answer)
 
 pub reserve_fault : {E : Type 0} (gave : E → E → List Piece → Type 0) (first new : Side E) (satp : ℕ) (a : Access) (hart cause : ℕ)
     (w : World) → FollowsFrom (Sees gave first) new (Err cause) (ask_led_word satp a w) →
@@ -107,12 +111,12 @@ unfolding stored_if
 later_stored_if true hart pa value w = IsLater-trans _ _ _ (IsLater-stored_at pa 4 value w) (later_unmark hart _)
 later_stored_if false hart pa value w = later_unmark hart w
 
-later_conditional_at : (satp : ℕ) (a : Access) (hart value : ℕ) (to : Result ℕ ℕ) (w : World) →
+later_conditional_at : (satp : ℕ) (a : Access) (hart value : ℕ) (to : Walk) (w : World) →
     IsLater w (conditional_at satp a hart value to w).world
 unfolding conditional_at ask_marked
 later_conditional_at satp a hart value (Err cause) w = IsLater-refl w
-later_conditional_at satp a hart value (Ok pa) w =
-    IsLater-trans _ _ _ (later_value satp a pa 4 w) (later_stored_if _ hart pa value _)
+later_conditional_at satp a hart value (Ok walked) w =
+    IsLater-trans _ _ _ (later_value satp a walked 4 w) (later_stored_if _ hart walked.pa value _)
 
 pub conditional_unclashed : (satp : ℕ) (a : Access) (hart value : ℕ) (w : World) →
     is_clashed (ask_store_conditional satp a hart value w).world ≡ false → is_clashed (ask_led satp a w).world ≡ false
@@ -139,16 +143,16 @@ stored_if_told gave first mid new true hart pa value w is stored told =
     record { answer = refl; stands = (told (stored_value pa 4 value w).world stored.stands).stands }
 
 conditional_by : {E : Type 0} (gave : E → E → List Piece → Type 0) (first mid new : Side E) (satp : ℕ) (a : Access) (hart value : ℕ)
-    (led : LedWord) (done : Bool) (mark : Option ℕ) (to : Result ℕ ℕ) (w : World) →
+    (led : LedWord) (done : Bool) (mark : Option ℕ) (to : Walk) (w : World) →
     FollowsFrom (Sees gave first) mid (Ok led) (word_there satp a to w) →
     mark ≡ (ask_marked hart (word_there satp a to w).world).answer →
     FollowsFrom (Sees gave first) new done (stored_if (is_reserved led.pa mark) hart led.pa value (word_there satp a to w).world) →
     FollowsFrom (Sees gave first) new (Ok done) (conditional_at satp a hart value to w)
 unfolding conditional_at ask_marked
 conditional_by gave first mid new satp a hart value led done mark (Err cause) w told is stored = absurd (not_fault led cause told.answer)
-conditional_by gave first mid new satp a hart value led done mark (Ok pa) w told is stored =
-    let asked = ask_value satp a pa 4 w in
-    let same : led ≡ record { pa = pa; word = asked.answer } = same_led led (record { pa = pa; word = asked.answer }) _ told.answer refl in
+conditional_by gave first mid new satp a hart value led done mark (Ok walked) w told is stored =
+    let asked = ask_value satp a walked 4 w in
+    let same : led ≡ record { pa = walked.pa; word = asked.answer } = same_led led (record { pa = walked.pa; word = asked.answer }) _ told.answer refl in
     let there = subst (λ (x : LedWord × Option ℕ). FollowsFrom (Sees gave first) new done
     (stored_if (is_reserved x.0.pa x.1) hart x.0.pa value asked.world)) (λ i. (same i, is i)) stored in
     record { answer = ap (λ (b : Bool). Ok b) there.answer; stands = there.stands }
@@ -168,12 +172,12 @@ conditional_told gave first mid new satp a hart value led done reserved mark w t
     (subst (λ (b : Bool). FollowsFrom (Sees gave first) new done (stored_if b hart led.pa value there)) is (stored there told.stands))
 
 conditional_fault_by : {E : Type 0} (gave : E → E → List Piece → Type 0) (first new : Side E) (satp : ℕ) (a : Access) (hart value cause : ℕ)
-    (to : Result ℕ ℕ) (w : World) → FollowsFrom (Sees gave first) new (Err cause) (word_there satp a to w) →
+    (to : Walk) (w : World) → FollowsFrom (Sees gave first) new (Err cause) (word_there satp a to w) →
     FollowsFrom (Sees gave first) new (Err cause) (conditional_at satp a hart value to w)
 unfolding conditional_at
 conditional_fault_by gave first new satp a hart value cause (Err other) w told =
     record { answer = ap (λ (n : ℕ). Err n) (same_cause cause other _ told.answer refl); stands = told.stands }
-conditional_fault_by gave first new satp a hart value cause (Ok pa) w told = absurd (not_led _ cause told.answer)
+conditional_fault_by gave first new satp a hart value cause (Ok walked) w told = absurd (not_led _ cause told.answer)
 
 pub conditional_fault : {E : Type 0} (gave : E → E → List Piece → Type 0) (first new : Side E) (satp : ℕ) (a : Access) (hart value cause : ℕ)
     (w : World) → FollowsFrom (Sees gave first) new (Err cause) (ask_led_word satp a w) →
@@ -184,11 +188,11 @@ conditional_fault gave first new satp a hart value cause w told =
 
 -- The operations.
 
-later_combined_at : (satp : ℕ) (a : Access) (op : AtomicOp) (operand : ℕ) (to : Result ℕ ℕ) (w : World) →
+later_combined_at : (satp : ℕ) (a : Access) (op : AtomicOp) (operand : ℕ) (to : Walk) (w : World) →
     IsLater w (combined_at satp a op operand to w).world
 unfolding combined_at
 later_combined_at satp a op operand (Err cause) w = IsLater-refl w
-later_combined_at satp a op operand (Ok pa) w = IsLater-trans _ _ _ (later_value satp a pa 4 w) (IsLater-stored_at pa 4 _ _)
+later_combined_at satp a op operand (Ok walked) w = IsLater-trans _ _ _ (later_value satp a walked 4 w) (IsLater-stored_at walked.pa 4 _ _)
 
 pub combine_unclashed : (satp : ℕ) (a : Access) (op : AtomicOp) (operand : ℕ) (w : World) →
     is_clashed (ask_combine satp a op operand w).world ≡ false → is_clashed (ask_led satp a w).world ≡ false
@@ -197,16 +201,16 @@ combine_unclashed satp a op operand w unclashed =
     let told = ask_led satp a w in (later_combined_at satp a op operand told.answer told.world).mark unclashed
 
 combined_by : {E : Type 0} (gave : E → E → List Piece → Type 0) (first mid new : Side E) (satp : ℕ) (a : Access) (op : AtomicOp)
-    (operand : ℕ) (led : LedWord) (to : Result ℕ ℕ) (w : World) →
+    (operand : ℕ) (led : LedWord) (to : Walk) (w : World) →
     FollowsFrom (Sees gave first) mid (Ok led) (word_there satp a to w) →
     FollowsFrom (λ side v. Sees gave first side v) new (tt {0})
     (stored_value led.pa 4 (combined op led.word operand) (word_there satp a to w).world) →
     FollowsFrom (Sees gave first) new (Ok led.word) (combined_at satp a op operand to w)
 unfolding combined_at
 combined_by gave first mid new satp a op operand led (Err cause) w told stored = absurd (not_fault led cause told.answer)
-combined_by gave first mid new satp a op operand led (Ok pa) w told stored =
-    let asked = ask_value satp a pa 4 w in
-    let is : led ≡ record { pa = pa; word = asked.answer } = same_led led (record { pa = pa; word = asked.answer }) _ told.answer refl in
+combined_by gave first mid new satp a op operand led (Ok walked) w told stored =
+    let asked = ask_value satp a walked 4 w in
+    let is : led ≡ record { pa = walked.pa; word = asked.answer } = same_led led (record { pa = walked.pa; word = asked.answer }) _ told.answer refl in
     record {
       answer = ap (λ (x : LedWord). Ok x.word) is;
       stands = subst (λ (x : LedWord). Sees gave first new (stored_value x.pa 4 (combined op x.word operand) asked.world).world)
@@ -227,12 +231,12 @@ combined_told gave first mid new satp a op operand value led w told is stored =
     (stored there told.stands))
 
 combine_fault_by : {E : Type 0} (gave : E → E → List Piece → Type 0) (first new : Side E) (satp : ℕ) (a : Access) (op : AtomicOp)
-    (operand cause : ℕ) (to : Result ℕ ℕ) (w : World) → FollowsFrom (Sees gave first) new (Err cause) (word_there satp a to w) →
+    (operand cause : ℕ) (to : Walk) (w : World) → FollowsFrom (Sees gave first) new (Err cause) (word_there satp a to w) →
     FollowsFrom (Sees gave first) new (Err cause) (combined_at satp a op operand to w)
 unfolding combined_at
 combine_fault_by gave first new satp a op operand cause (Err other) w told =
     record { answer = ap (λ (n : ℕ). Err n) (same_cause cause other _ told.answer refl); stands = told.stands }
-combine_fault_by gave first new satp a op operand cause (Ok pa) w told = absurd (not_led _ cause told.answer)
+combine_fault_by gave first new satp a op operand cause (Ok walked) w told = absurd (not_led _ cause told.answer)
 
 pub combine_fault : {E : Type 0} (gave : E → E → List Piece → Type 0) (first new : Side E) (satp : ℕ) (a : Access) (op : AtomicOp)
     (operand cause : ℕ) (w : World) → FollowsFrom (Sees gave first) new (Err cause) (ask_led_word satp a w) →

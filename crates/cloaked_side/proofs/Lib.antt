@@ -16,5 +16,4 @@ pub mod Losing
 pub mod Tracking
 pub mod Spending
 pub mod Tabled
-pub mod Offered
 pub mod Ended

@@ -52,12 +52,12 @@ unknown_still old new regime page kind loses unknown = by (is_known regime page 
     by true known = absurd (false≢true (sym unknown ∙ loses regime page kind known))
     by false known = refl
 
-pub walking_of : {E : Type 0} (gave : E → E → List Piece → Type 0) (old new : Side E) → Keeps (StaysWalking gave) old new
+walking_of : {E : Type 0} (gave : E → E → List Piece → Type 0) (old new : Side E) → Keeps (StaysWalking gave) old new
     → StaysWalking gave old new
 walking_of gave old new keeps = keeps old (record { within = within_self gave old; loses = λ regime page kind known. known })
 
-pub walk_leaves : {E : Type 0} (gave : E → E → List Piece → Type 0) (old new : Side E) (regime : Regime) (va : ℕ) (kind : Kind)
-    → Keeps (StaysWalking gave) old new → is_known regime (va / 4096) kind old.memory.now.shadows ≡ false
+pub walk_leaves : {E : Type 0} (gave : E → E → List Piece → Type 0) (old new : Side E) (regime : Regime) (va : ℕ)
+    (kind : Kind) → Keeps (StaysWalking gave) old new → is_known regime (va / 4096) kind old.memory.now.shadows ≡ false
     → WalkLeaves gave old new regime va kind
 walk_leaves gave old new regime va kind keeps unknown = let walking = walking_of gave old new keeps in record {
   keeps = λ first stays. within_then gave first old new stays walking.within;

@@ -10,7 +10,7 @@ use Rattle.std.proofs.lemmas.List.Quantifiers.{position-Some}
 use Rattle.std.proofs.lemmas.List.Sums.{fails_before_first}
 use Rattle.cloak_base.specs.declared.names.PageId.{PageId}
 use Rattle.cloak_base.proofs.Pages.{same_page-decides, same_page-self}
-use Rattle.cloak_model.specs.Cloaking.{CloakedMemory, AfterSettling, AfterOffer, OfferEnd, Ready, Missed, settle}
+use Rattle.cloak_model.specs.Cloaking.{CloakedMemory, AfterSettling, AfterOffer, settle}
 use Rattle.cloak_model.specs.Cloaking.{settle_frame_if, offer, owes, owing_frame, compared, unless_missed, owed_in}
 use Rattle.cloak_pager.specs.Turns.{StaysBut}
 use Rattle.cloak_pager.proofs.Pages.{same_or_not}
@@ -32,9 +32,8 @@ use Rattle.cloaked_side.specs.Tracking.{spent_in}
 use Rattle.shadow_fold.specs.Reads.{Spends}
 use Rattle.cloaked_side.proofs.Spending.{spends_more}
 use Rattle.cloaked_side.proofs.Emitting.{emits_none}
-use Rattle.cloaked_side.specs.Offering.{behind_ciphers, offer_left, Rooms, Offers, offer_of}
+use Rattle.cloaked_side.specs.Offering.{behind_ciphers, offer_left, Rooms, Offers}
 use Rattle.cloaked_side.specs.declared.memory.Memory.{Memory}
-use Rattle.cloaked_side.specs.declared.memory.EndedOffer.{EndedOffer as Ended}
 use Rattle.cloaked_side.proofs.Settling.{TellsDraws, counts, draws_by, missed_by, marks_by}
 
 -- a frame that holds a page is owed it or owed nothing
@@ -107,7 +106,7 @@ offer_later : (q : PageId) (g : ℕ) (write : Bool) (m : CloakedMemory) → owes
     offer q g write m ≡ unless_missed (settle g m) (later q g write)
 unfolding offer
 offer_later q g write m e =
-    ap (λ b. cond b (record { memory = m; ciphers = []; answer = Ready })
+    ap (λ b. cond b (record { memory = m; ciphers = []; granted = true })
     (unless_missed (settle g m) (later q g write))) e
 
 -- an offer when nobody holds the page and the frame is outside
@@ -119,29 +118,28 @@ offer_bare p w m g q write s outside nowhere =
     (none_owing m q (unowed_nowhere p w m s q nowhere)))
 
 pub unless_miss : (s : AfterSettling) (next : CloakedMemory → AfterOffer) → s.missed ≡ true →
-    unless_missed s next ≡ record { memory = s.memory; ciphers = s.ciphers; answer = Missed }
+    unless_missed s next ≡ record { memory = s.memory; ciphers = s.ciphers; granted = false }
 unfolding unless_missed
 unless_miss s next missed = ap (λ b. let o = next s.memory in
-    cond b (record { memory = s.memory; ciphers = s.ciphers; answer = Missed })
-    (record { memory = o.memory; ciphers = s.ciphers ++ o.ciphers; answer = o.answer })) missed
+    cond b (record { memory = s.memory; ciphers = s.ciphers; granted = false })
+    (record { memory = o.memory; ciphers = s.ciphers ++ o.ciphers; granted = o.granted })) missed
 
 pub unless_no_miss : (s : AfterSettling) (next : CloakedMemory → AfterOffer) → s.missed ≡ false →
     unless_missed s next ≡ behind_ciphers s.ciphers (next s.memory)
 unfolding unless_missed
 unless_no_miss s next missed = ap (λ b. let o = next s.memory in
-    cond b (record { memory = s.memory; ciphers = s.ciphers; answer = Missed })
-    (record { memory = o.memory; ciphers = s.ciphers ++ o.ciphers; answer = o.answer })) missed
+    cond b (record { memory = s.memory; ciphers = s.ciphers; granted = false })
+    (record { memory = o.memory; ciphers = s.ciphers ++ o.ciphers; granted = o.granted })) missed
 
 behind_nothing : (ciphers : List (ℕ × List ℕ)) (q : PageId) (g : ℕ) (write : Bool) (m : CloakedMemory) →
-    record { memory = m; ciphers = ciphers; answer = Missed } ≡ behind_ciphers ciphers (offer_left false q g write m)
-behind_nothing ciphers q g write m = λ i. record { memory = m; ciphers = sym (append-nil ciphers) i; answer = Missed }
+    record { memory = m; ciphers = ciphers; granted = false } ≡ behind_ciphers ciphers (offer_left false q g write m)
+behind_nothing ciphers q g write m = λ i. record { memory = m; ciphers = sym (append-nil ciphers) i; granted = false }
 
 behind_both : (cs ds : List (ℕ × List ℕ)) (o : AfterOffer) → behind_ciphers cs (behind_ciphers ds o) ≡ behind_ciphers (cs ++ ds) o
 behind_both cs ds o = λ i. record {
   memory = o.memory;
   ciphers = sym (append_assoc cs ds o.ciphers) i;
-  answer =
-      o.answer;
+  granted = o.granted;
 }
 
 -- The frame's draw was missing.
@@ -280,18 +278,18 @@ counted_nothing m s c missed none = (
 )
 
 unless_same : (m : CloakedMemory) (s : AfterSettling) (next : CloakedMemory → AfterOffer) → TellsDraws m s →
-    ((m' : CloakedMemory) → (next m').ciphers ≡ [] → (next m').answer ≢ Missed → Same m' (next m')) →
-    (unless_missed s next).ciphers ≡ [] → (unless_missed s next).answer ≢ Missed → Same m (unless_missed s next)
-unless_same m s next c same none drawn = by_value s.missed refl
+    ((m' : CloakedMemory) → (next m').ciphers ≡ [] → Same m' (next m')) →
+    (unless_missed s next).ciphers ≡ [] → Same m (unless_missed s next)
+unless_same m s next c same none = by_value s.missed refl
   where
     by_value : (b : Bool) → s.missed ≡ b → Same m (unless_missed s next)
-    by_value true e = absurd (drawn (ap (λ (o : AfterOffer). o.answer) (unless_miss s next e)))
+    by_value true e = absurd (c.shows e (sym (ap (λ (o : AfterOffer). o.ciphers) (unless_miss s next e)) ∙ none))
     by_value false e =
         let is = unless_no_miss s next e in
         let parts = nothing_left s.ciphers (next s.memory).ciphers
         (sym (ap (λ (o : AfterOffer). o.ciphers) is) ∙ none) in
         let first = counted_nothing m s c e parts.0 in
-        let second = same s.memory parts.1 (λ e'. drawn (ap (λ (o : AfterOffer). o.answer) is ∙ e')) in
+        let second = same s.memory parts.1 in
         record {
           draws = ap (λ (o : AfterOffer). o.memory.ledger.draws) is ∙ second.draws ∙ first.0;
           missed = ap (λ (o : AfterOffer). o.memory.ledger.missed) is ∙ second.missed ∙ first.1;
@@ -299,41 +297,25 @@ unless_same m s next c same none drawn = by_value s.missed refl
         }
 
 counts_frame_if : (f : Option ℕ) (m : CloakedMemory) → TellsDraws m (settle_frame_if f m)
-counts_frame_if None m = record { draws = refl; missed = refl; marks = refl }
+counts_frame_if None m = record { draws = refl; missed = refl; marks = refl; shows = λ missed none. cc }
 counts_frame_if (Some f) m = counts f m
 
-pub offer_same : (q : PageId) (g : ℕ) (write : Bool) (m : CloakedMemory) → (offer q g write m).ciphers ≡ [] →
-    (offer q g write m).answer ≢ Missed →
-    ((offer q g write m).memory.ledger.draws ≡ m.ledger.draws) ×
-    ((offer q g write m).memory.ledger.missed ≡ m.ledger.missed) × ((offer q g write m).memory.marks ≡ m.marks)
-offer_same q g write m none drawn = let s = same in (s.draws, s.missed, s.marks)
+offer_same : (q : PageId) (g : ℕ) (write : Bool) (m : CloakedMemory) → (offer q g write m).ciphers ≡ [] → Same m (offer q g write m)
+offer_same q g write m none = by_owes (owes q (owed_in m g)) refl
   where
+    same_by : (o : AfterOffer) → offer q g write m ≡ o → (o.ciphers ≡ [] → Same m o) → Same m (offer q g write m)
+    same_by o is same = subst (λ (x : AfterOffer). Same m x) (sym is) (same (sym (ap (λ (x : AfterOffer). x.ciphers) is) ∙ none))
+
     by_owes : (b : Bool) → owes q (owed_in m g) ≡ b → Same m (offer q g write m)
     by_owes false e =
-        let is = offer_later q g write m e in
-        let s = unless_same m (settle g m) (later q g write) (counts g m)
-        (λ m' none' drawn'. unless_same m' (settle_frame_if (owing_frame m' q) m')
+        same_by (unless_missed (settle g m) (later q g write)) (offer_later q g write m e)
+        (unless_same m (settle g m) (later q g write) (counts g m)
+        (λ m'. unless_same m' (settle_frame_if (owing_frame m' q) m')
         (λ m''. compared q g write (m''.ledger.recorded q) m'') (counts_frame_if (owing_frame m' q) m')
-        (λ m'' n d. compared_same q g write (m''.ledger.recorded q) m'') none' drawn')
-        (ap (λ (o : AfterOffer). o.ciphers) (sym is) ∙ none)
-        (λ e'. drawn (ap (λ (o : AfterOffer). o.answer) is ∙ e')) in
-        record {
-          draws = ap (λ (o : AfterOffer). o.memory.ledger.draws) is ∙ s.draws;
-          missed =
-              ap (λ (o : AfterOffer). o.memory.ledger.missed) is ∙ s.missed;
-          marks = ap (λ (o : AfterOffer). o.memory.marks) is ∙ s.marks;
-        }
+        (λ m'' n. compared_same q g write (m''.ledger.recorded q) m'')))
     by_owes true e =
-        let is = offer_at_once q g write m (owing_is q (owed_in m g) e) in
-        record {
-          draws = ap (λ (o : AfterOffer). o.memory.ledger.draws) is;
-          missed =
-              ap (λ (o : AfterOffer). o.memory.ledger.missed) is;
-          marks = ap (λ (o : AfterOffer). o.memory.marks) is;
-        }
-
-    same : Same m (offer q g write m)
-    same = by_owes (owes q (owed_in m g)) refl
+        same_by _ (offer_at_once q g write m (owing_is q (owed_in m g) e))
+        (λ n. record { draws = refl; missed = refl; marks = refl })
 
 -- a frame that holds the page has room for it
 abbrev pub rooms_self : {E : Type 0} (gave : E → E → List Piece → Type 0) (e : E) (memory : Memory) (q : PageId) (g : ℕ) (m : CloakedMemory) →
@@ -352,48 +334,47 @@ rooms_spend gave e e' old new room q g m r spends write =
     spends_more 0 0 (length r.ciphers) (length (offer q g write m).ciphers) (spent_in old) (spent_in new) (omega (arith, shown)) spends
 
 -- What an offer of the pager results in, once there is room, as an offer of the memory around it.
-pub offers_so : {E : Type 0} (gave : E → E → List Piece → Type 0) (e e' : E) (old new : Memory) (given : Ended)
-    (answer : OfferEnd) (q : PageId) (g : ℕ) (write : Bool) (m : CloakedMemory) →
-    (r : Rooms gave e e' old true q g m) → (answer ≢ Missed) → offer_of given ≡ answer →
-    FollowsCallUnclashed old.pager new.pager ([], answer) (after_offer q g write) →
+pub offers_so : {E : Type 0} (gave : E → E → List Piece → Type 0) (e e' : E) (old new : Memory) (granted : Bool)
+    (q : PageId) (g : ℕ) (write : Bool) (m : CloakedMemory) → (r : Rooms gave e e' old true q g m) →
+    FollowsCallUnclashed old.pager new.pager ([], granted) (after_offer q g write) →
     new.stream ≡ old.stream → new.draws ≡ old.draws → new.missed ≡ old.missed → new.reservations ≡ old.reservations →
-    (answer ≡ (offer q g write r.memory).answer →
+    (granted ≡ (offer q g write r.memory).granted →
     Agrees (present (held_in new.pager) (offer q g write r.memory).memory) new.shadows) →
     new.shadows.frames ≡ old.shadows.frames → length new.pager.frames ≡ length old.pager.frames →
-    (offer q g write m).memory.ledger.clashed ≡ false → Offers gave e e' new given (offer q g write m)
-offers_so {E} gave e e' old new given answer q g write m r not_missed is moves stream draws missed marks agrees room count clash =
+    (offer q g write m).memory.ledger.clashed ≡ false → Offers gave e e' new granted (offer q g write m)
+offers_so {E} gave e e' old new granted q g write m r moves stream draws missed marks agrees room count clash =
     let x : CloakedMemory = r.memory in
     let o : AfterOffer = offer q g write x in
     let whole : offer q g write m ≡ behind_ciphers r.ciphers o = r.offers write in
     let v = moves r.holds.wiped x r.holds.pager
     (sym (ap (λ (y : AfterOffer). y.memory.ledger.clashed) whole) ∙ clash) in
-    let none : o.ciphers ≡ [] = sym (ap (λ (y : List (ℕ × List ℕ) × OfferEnd). y.0) v.answer) in
-    let ends : answer ≡ o.answer = ap (λ (y : List (ℕ × List ℕ) × OfferEnd). y.1) v.answer in
-    let same = offer_same q g write x none (λ e''. not_missed (ends ∙ e'')) in
-    subst (λ (y : AfterOffer). Offers gave e e' new given y) (sym whole) (record {
-      answer = is ∙ ends;
+    let none : o.ciphers ≡ [] = sym (ap (λ (y : List (ℕ × List ℕ) × Bool). y.0) v.answer) in
+    let ends : granted ≡ o.granted = ap (λ (y : List (ℕ × List ℕ) × Bool). y.1) v.answer in
+    let same = offer_same q g write x none in
+    subst (λ (y : AfterOffer). Offers gave e e' new granted y) (sym whole) (record {
+      answer = ends;
       holds = record {
         wiped = r.holds.wiped;
         pager = v.stands;
         whole = λ n. r.holds.whole (sym missed ∙ n);
         stream = v.drawn ∙ r.holds.stream ∙ sym stream;
-        draws = draws ∙ r.holds.draws ∙ sym same.0;
-        missed = missed ∙ r.holds.missed ∙ sym same.1;
+        draws = draws ∙ r.holds.draws ∙ sym same.draws;
+        missed = missed ∙ r.holds.missed ∙ sym same.missed;
         agrees = agrees ends;
         room = room ∙ r.holds.room ∙ sym count;
-        marks = marks ∙ r.holds.marks ∙ sym same.2;
+        marks = marks ∙ r.holds.marks ∙ sym same.marks;
       };
       emits = subst (λ (cs : List (ℕ × List ℕ)). Emits gave e e' (item_pieces (cipher_items cs)))
           (sym (ap (λ cs. r.ciphers ++ cs) none ∙ append-nil r.ciphers)) r.emits;
     })
 
 -- no draw was left in making room
-pub offers_missed : {E : Type 0} (gave : E → E → List Piece → Type 0) (e e' : E) (new : Memory) (given : Ended)
+pub offers_missed : {E : Type 0} (gave : E → E → List Piece → Type 0) (e e' : E) (new : Memory)
     (q : PageId) (g : ℕ) (write : Bool) (m : CloakedMemory) → Rooms gave e e' new false q g m →
-    offer_of given ≡ Missed → Offers gave e e' new given (offer q g write m)
-offers_missed {E} gave e e' new given q g write m r is =
-    subst (λ (y : AfterOffer). Offers gave e e' new given y) (sym (r.offers write)) (record {
-      answer = is;
+    Offers gave e e' new false (offer q g write m)
+offers_missed {E} gave e e' new q g write m r =
+    subst (λ (y : AfterOffer). Offers gave e e' new false y) (sym (r.offers write)) (record {
+      answer = refl;
       holds = r.holds;
       emits = subst (λ (cs : List (ℕ × List ℕ)). Emits gave e e' (item_pieces (cipher_items cs)))
           (sym (append-nil r.ciphers)) r.emits;

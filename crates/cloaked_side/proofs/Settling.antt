@@ -35,21 +35,22 @@ abbrev pub marks_by : List (ℕ × List ℕ) → List (Option ℕ) → List (Opt
 marks_by [] marks = marks
 marks_by (c ∷ ciphers) marks = map (unless_written (λ mark. frame_of mark == c.0)) marks
 
--- what a settling shows tells what became of the three
+-- What a settling shows tells what became of the three. One whose draw was missing shows something.
 pub record TellsDraws (m : CloakedMemory) (s : AfterSettling) : Type 0 where
   pub draws : s.memory.ledger.draws ≡ draws_by s.ciphers s.missed m.ledger.draws
   pub missed : s.memory.ledger.missed ≡ missed_by s.missed m.ledger.missed
   pub marks : s.memory.marks ≡ marks_by s.ciphers m.marks
+  pub shows : s.missed ≡ true → s.ciphers ≡ [] → ⊥
 
 counts_owed : (f : ℕ) (q : PageId) (draw : Option (List ℕ × Random)) (m : CloakedMemory) →
     TellsDraws m (settle_owed f q draw m)
 unfolding settle_owed
-counts_owed f q None m = record { draws = refl; missed = refl; marks = refl }
-counts_owed f q (Some draw) m = record { draws = refl; missed = refl; marks = refl }
+counts_owed f q None m = record { draws = refl; missed = refl; marks = refl; shows = λ missed none. cc }
+counts_owed f q (Some draw) m = record { draws = refl; missed = refl; marks = refl; shows = λ missed none. cc }
 
 counts_if : (f : ℕ) (owed : Option PageId) (m : CloakedMemory) → TellsDraws m (settle_if f owed m)
 unfolding settle_if
-counts_if f None m = record { draws = refl; missed = refl; marks = refl }
+counts_if f None m = record { draws = refl; missed = refl; marks = refl; shows = λ missed none. cc }
 counts_if f (Some q) m = counts_owed f q _ m
 
 pub counts : (f : ℕ) (m : CloakedMemory) → TellsDraws m (settle f m)

@@ -28,8 +28,11 @@ use Rattle.shadow_law.specs.Agreeing.{present}
 use Rattle.shadow_law.proofs.Tables.{write_agrees}
 use Rattle.cloaked_side.specs.Holding.{Holds, Settles, SameSize, HoldsNoMore, domains_in, frames_of}
 use Rattle.cloaked_side.specs.Leading.{ReachLeaves}
-use Rattle.cloaked_side.specs.Seeing.{CanRead, CanWrite, IsRegimeFor, Sees, SeesCloak, SeesCounted, SeesWalking, Stays, StaysWithin, WritesOnly, asked_by, paid, space_in, touched_since}
+use Rattle.cloaked_side.specs.Seeing.{CanRead, CanWrite, IsOwnPage, IsRegimeFor, Sees, SeesCloak, SeesCounted}
+use Rattle.cloaked_side.specs.Seeing.{SeesWalking, Stays, StaysWithin, WritesOnly}
+use Rattle.cloaked_side.specs.Seeing.{asked_by, paid, space_in, touched_since}
 use Rattle.cloak_base.specs.declared.names.Meta.{Meta}
+use Rattle.protect_meta.specs.Pages.{IsIn}
 use Rattle.protect_meta.specs.Table.{domains_of}
 use Rattle.cloak_pager.specs.State.{PagerState, held_in}
 use Rattle.cloaked_side.proofs.Emitting.{emits_none, emits_items, some_then}
@@ -38,7 +41,6 @@ use Rattle.cloaked_side.proofs.Holders.{no_more_self, no_more_then, no_more_righ
 use Rattle.cloaked_side.proofs.Translating.{agrees_read, agrees_rights, ending_frames}
 use Rattle.cloaked_side.specs.Offering.{OfferLeaves}
 use Rattle.cloaked_side.specs.Tracking.{Tracks, TracksBy, MapsBy, MapsStill, spent_in}
-use Rattle.cloaked_side.specs.declared.memory.EndedOffer.{EndedOffer as Ended}
 use Rattle.shadow_fold.specs.Reads.{Spends, SpendsFor, looks_in, reads_due}
 use Rattle.cloaked_side.proofs.Spending.{paid_is, looks_then, spends_looks, spends_more, spends_on, spends_then, spends_read, spends_still, spends_ended, due_events, due_items, due_event, ciphers_due, maps_ending, maps_further, maps_of, maps_on, maps_same, maps_still, since_then}
 use Rattle.cloaked_side.proofs.Tracking.{no_events, read_held, respaced, same_tracks, tracks_on, tracks_read, tracks_same, tracks_touch}
@@ -235,8 +237,8 @@ within_more gave first old new s memory emitter some size domain regime counting
 
 -- the emitter was given something, and the memory is the same
 pub writes_only : {E : Type 0} (gave : E → E → List Piece → Type 0) (old new : Side E) → new.memory ≡ old.memory →
-    new.emitter.ghost_name ≡ old.emitter.ghost_name → EmitsSome gave old.emitter.now new.emitter.now → new.domain ≡ old.domain →
-    new.regime ≡ old.regime → WritesOnly gave old new
+    new.emitter.ghost_name ≡ old.emitter.ghost_name → EmitsSome gave old.emitter.now new.emitter.now →
+    new.domain ≡ old.domain → new.regime ≡ old.regime → WritesOnly gave old new
 writes_only gave old new memory emitter some domain regime = record {
   keeps = λ first stays. within_more gave first old new stays (ap (λ m. m.ghost_name) memory) emitter some
       (record { frames = ap (λ m. frames_of m.now) memory; domains = ap (λ m. domains_in m.now) memory }) domain regime
@@ -603,9 +605,19 @@ written_size old new f bytes written = record {
   domains = written.domains_stay;
 }
 
+-- a page after calls that offer nothing
+pub own_page_on : {E : Type 0} (gave : E → E → List Piece → Type 0) (old new : Side E) (q : PageId) →
+    Keeps (StaysWithin gave) old new → IsOwnPage old q → IsOwnPage new q
+own_page_on gave old new q keeps own = let kept = (keeps old (within_self gave old)).stays in record {
+  page = subst (λ (n : ℕ). IsIn n q) (sym kept.size.domains) own.page;
+  own = own.own ∙ sym kept.domain;
+}
+
 -- a page was reached after calls that offer nothing
-pub reach_on : {E : Type 0} (gave : E → E → List Piece → Type 0) (old mid new : ProgramSide E) (q : PageId) (kind : Kind) (given : Answer) →
-    Keeps (StaysWithin gave) old.side mid.side → ReachLeaves gave mid new q kind given → ReachLeaves gave old new q kind given
+pub reach_on : {E : Type 0} (gave : E → E → List Piece → Type 0) (old mid new : ProgramSide E) (q : PageId)
+    (kind : Kind) (given : Answer) →
+    Keeps (StaysWithin gave) old.side mid.side → ReachLeaves gave mid new q kind given →
+    ReachLeaves gave old new q kind given
 reach_on gave old mid new q kind given keeps leaves = record {
   keeps = λ first stays. leaves.keeps first (stays_on gave first old.side mid.side keeps stays);
   others = λ k p n e. (keeps old.side (within_self gave old.side)).no_more.held k p (leaves.others k p n e);
@@ -614,12 +626,14 @@ reach_on gave old mid new q kind given keeps leaves = record {
 }
 
 -- a page of the domain that is served was offered, and calls after it offered nothing
-pub reach_offered : {E : Type 0} (gave : E → E → List Piece → Type 0) (old new : ProgramSide E) (memory : Memory) (e : E)
-    (v : Option Violation) (q : PageId) (kind : Kind) (g : ℕ) (write : Bool) (how : Ended) (given : Answer) → q.domain ≡ old.side.domain →
-    OfferLeaves gave old.side.emitter.now e old.side.memory.now memory q g write how →
+pub reach_offered : {E : Type 0} (gave : E → E → List Piece → Type 0) (old new : ProgramSide E) (memory : Memory)
+    (e : E) (v : Option Violation) (q : PageId) (kind : Kind) (g : ℕ) (write granted : Bool) (given : Answer) →
+    q.domain ≡ old.side.domain →
+    OfferLeaves gave old.side.emitter.now e old.side.memory.now memory q g write granted →
     Keeps (StaysWithin gave) (record (after_call old.side memory e) { violation = v }) new.side →
-    (given ≡ answer.Ok → CanRead new q) → (given ≡ answer.Ok → kind ≡ Store → CanWrite new q) → ReachLeaves gave old new q kind given
-reach_offered {E} gave old new memory e v q kind g write how given own leaves keeps readable writable = record {
+    (given ≡ answer.Ok → CanRead new q) → (given ≡ answer.Ok → kind ≡ Store → CanWrite new q) →
+    ReachLeaves gave old new q kind given
+reach_offered {E} gave old new memory e v q kind g write granted given own leaves keeps readable writable = record {
   keeps = λ first stays. stays_on gave first mid new.side keeps (stays_then gave first old.side mid stays (record {
     same_memory = refl;
     same_emitter = refl;
@@ -639,7 +653,8 @@ reach_offered {E} gave old new memory e v q kind g write how given own leaves ke
     mid = record (after_call old.side memory e) { violation = v }
 
 -- such calls alone, by which no page was reached
-pub reach_refused : {E : Type 0} (gave : E → E → List Piece → Type 0) (old new : ProgramSide E) (q : PageId) (kind : Kind) (given : Answer) →
+pub reach_refused : {E : Type 0} (gave : E → E → List Piece → Type 0) (old new : ProgramSide E) (q : PageId)
+    (kind : Kind) (given : Answer) →
     Keeps (StaysWithin gave) old.side new.side → given ≢ answer.Ok → ReachLeaves gave old new q kind given
 reach_refused gave old new q kind given keeps refused = record {
   keeps = λ first stays. stays_on gave first old.side new.side keeps stays;

@@ -11,7 +11,7 @@ use Rattle.cloak_base.specs.declared.names.PageId.{PageId}
 use Rattle.cloak_base.specs.declared.names.SpaceId.{SpaceId}
 use Rattle.cloak_model.specs.declared.access.Access.{Access}
 use Rattle.cloak_model.specs.AskPages.{offer_events}
-use Rattle.cloak_model.specs.Cloaking.{CloakedMemory, OfferEnd, Ready, Mismatch, Missed, settle}
+use Rattle.cloak_model.specs.Cloaking.{CloakedMemory, settle}
 use Rattle.cloak_model.specs.Events.{Event, Look, Touch, Offer, Born, Read, Write, Drop}
 use Rattle.cloak_base.specs.declared.names.Kind.{Kind}
 use Rattle.cloak_model.specs.declared.access.Walked.{Walked}
@@ -217,27 +217,27 @@ room_drawn c c' t t' held held' q g m drawn tracks s keeps =
 
 -- The events of an offer.
 
--- what an offer does to the fold, by how it ends
-abbrev pub offer_effect : PageId → ℕ → CloakedMemory → OfferEnd → Fold → Fold
-offer_effect q g m Ready s = offered q (frame g) true s
-offer_effect q g m Mismatch s = offered q (frame g) false s
-offer_effect q g m Missed s = if (settle g m).missed then touched (frame g) s else offered q (frame g) false s
+-- what an offer does to the fold, by whether it was granted
+abbrev pub offer_effect : PageId → ℕ → CloakedMemory → Bool → Fold → Fold
+offer_effect q g m true s = offered q (frame g) true s
+offer_effect q g m false s = if (settle g m).missed then touched (frame g) s else offered q (frame g) false s
 
-pub effect_is : (space : Option SpaceId) (q : PageId) (g : ℕ) (m : CloakedMemory) (a : OfferEnd) (s : Fold) → offer_effect q g m a s ≡ after_events space (offer_events q g m a) s
+effect_is : (space : Option SpaceId) (q : PageId) (g : ℕ) (m : CloakedMemory) (granted : Bool) (s : Fold)
+    → offer_effect q g m granted s ≡ after_events space (offer_events q g m granted) s
 unfolding after_events after_event
-effect_is space q g m Ready s = refl
-effect_is space q g m Mismatch s = refl
-effect_is space q g m Missed s = by (settle g m).missed
+effect_is space q g m true s = refl
+effect_is space q g m false s = by (settle g m).missed
   where
     by : (b : Bool) → cond b (touched (frame g) s) (offered q (frame g) false s) ≡ after_events space ((if b then Touch g else Offer q g false) ∷ []) s
     by true = refl
     by false = refl
 
-pub tracks_offer : (space : Option SpaceId) (c c' : Bool) (t t' : Table) (held held' : ℕ → Option PageId) (q : PageId) (g : ℕ) (m : CloakedMemory) (a : OfferEnd)
-    → ((s : Fold) → KeepsFold c t held s → KeepsFold c' t' held' (offer_effect q g m a s))
-    → (s : Fold) → KeepsFold c t held s → KeepsFold c' t' held' (after_events space (offer_events q g m a) s)
-tracks_offer space c c' t t' held held' q g m a tracks s keeps =
-    subst (λ (u : Fold). KeepsFold c' t' held' u) (effect_is space q g m a s) (tracks s keeps)
+pub tracks_offer : (space : Option SpaceId) (c c' : Bool) (t t' : Table) (held held' : ℕ → Option PageId) (q : PageId)
+    (g : ℕ) (m : CloakedMemory) (granted : Bool)
+    → ((s : Fold) → KeepsFold c t held s → KeepsFold c' t' held' (offer_effect q g m granted s))
+    → (s : Fold) → KeepsFold c t held s → KeepsFold c' t' held' (after_events space (offer_events q g m granted) s)
+tracks_offer space c c' t t' held held' q g m granted tracks s keeps =
+    subst (λ (u : Fold). KeepsFold c' t' held' u) (effect_is space q g m granted s) (tracks s keeps)
 
 -- a page is offered in the frame that holds it
 pub effect_again : (c : Bool) (t : Table) (held held' : ℕ → Option PageId) (q : PageId) (g : ℕ) (grant : Bool) → held g ≡ Some q → ((k : ℕ) → held' k ≡ held k)
@@ -252,10 +252,10 @@ pub effect_new : (c c' : Bool) (t t' : Table) (held held' : ℕ → Option PageI
 effect_new c c' t t' held held' q g grant n tracks s keeps =
     subst (λ (u : Fold). KeepsFold c' t' held' u) (sym (offered_new q g grant s (λ is. n (keeps.pages g ∙ is)))) (tracks s keeps)
 
--- making room ended an offer
-pub effect_missed : (c c' : Bool) (t t' : Table) (held held' : ℕ → Option PageId) (q : PageId) (g : ℕ) (m : CloakedMemory) → held g ≢ Some q
-    → ((s : Fold) → KeepsFold c t held s → KeepsFold c' t' held' (room_made q g m s)) → (s : Fold) → KeepsFold c t held s → KeepsFold c' t' held' (offer_effect q g m Missed s)
-effect_missed c c' t t' held held' q g m n tracks s keeps = by (settle g m).missed (tracks s keeps)
+-- room was made for it, or a draw was missing then, and it was not granted
+pub effect_refused : (c c' : Bool) (t t' : Table) (held held' : ℕ → Option PageId) (q : PageId) (g : ℕ) (m : CloakedMemory) → held g ≢ Some q
+    → ((s : Fold) → KeepsFold c t held s → KeepsFold c' t' held' (room_made q g m s)) → (s : Fold) → KeepsFold c t held s → KeepsFold c' t' held' (offer_effect q g m false s)
+effect_refused c c' t t' held held' q g m n tracks s keeps = by (settle g m).missed (tracks s keeps)
   where
     by : (b : Bool) → KeepsFold c' t' held' (cond b (touched (frame g) s) (touched_where (same_page q) (touched (frame g) s)))
         → KeepsFold c' t' held' (cond b (touched (frame g) s) (offered q (frame g) false s))

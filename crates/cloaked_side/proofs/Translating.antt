@@ -1,10 +1,10 @@
 -- The known translations go on agreeing through the calls on a pager.
-use Rattle.std.proofs.Common.{◌≡◌, ◌≢◌, ◌∙◌, inl, inr, ℕ, Bool, List, slice_index_or, Option, Some, None, refl, sym, ap, subst}
+use Rattle.std.proofs.Common.{◌≡◌, ◌≢◌, ◌∙◌, false, inl, inr, ℕ, Bool, List, slice_index_or, Option, Some, None, refl, sym, ap, subst}
 use Rattle.std.proofs.lemmas.Option.{none-some}
 use Rattle.cloak_base.specs.Random.{Random}
 use Rattle.cloak_base.specs.declared.names.Frame.{Frame}
 use Rattle.cloak_base.specs.declared.names.PageId.{PageId}
-use Rattle.cloak_model.specs.Cloaking.{CloakedMemory, AfterSettling, Ready, Mismatch, settle, offer}
+use Rattle.cloak_model.specs.Cloaking.{CloakedMemory, AfterSettling, settle, offer}
 use Rattle.cloak_pager.specs.State.{PagerState, page_of, owed_under, right_at, held_in}
 use Rattle.cloak_pager.specs.Relation.{StandsForMemory}
 use Rattle.cloak_pager.specs.Turns.{StaysBut, IsReadOnce, touched_by}
@@ -122,17 +122,14 @@ offered_new old new w m q g write t stands stays alone =
 -- it did not, and is outside:
 pub offered_vain : (old new : PagerState) (w : PageId → Bool) (m : CloakedMemory) (q : PageId) (g : ℕ) (write : Bool) (t : Table)
     → StandsForMemory old w m → new ≡ old → ((x : ℕ) → held_in old x ≡ Some q → x ≡ g) → held_in old g ≡ None
-    → Mismatch ≡ (offer q g write m).answer
+    → false ≡ (offer q g write m).granted
     → Agrees (present (held_in old) m) t → Agrees (present (held_in new) (offer q g write m).memory) t
 offered_vain old new w m q g write t stands same alone outside ends agrees =
     subst (λ (p : PagerState). Agrees (present (held_in p) (offer q g write m).memory) t) (sym same)
-    (refuse_agrees (held_in old) m q g write t (pager_owes old w m stands) nowhere outside (λ is. unlike (ends ∙ is)) agrees)
+    (refuse_agrees (held_in old) m q g write t (pager_owes old w m stands) nowhere outside (sym ends) agrees)
   where
     nowhere : (x : ℕ) → held_in old x ≢ Some q
     nowhere x is = none-some q (sym outside ∙ subst (λ (n : ℕ). held_in old n ≡ Some q) (alone x is) is)
-
-    unlike : Mismatch ≡ Ready → ⊥
-    unlike is = cc
 
 -- entries of a space ended: the memory stands for what it stood for
 pub ended_holds : (old new : Memory) (ends : Entry → Bool) → new ≡ record old { shadows = ending ends old.shadows }

@@ -11,17 +11,17 @@ use Rattle.cloak_base.specs.declared.names.SpaceId.{SpaceId}
 use Rattle.cloak_model.specs.Ask.{ask_led, known}
 use Rattle.cloak_model.specs.declared.answer.Answer.{Answer}
 use Rattle.cloak_model.specs.declared.answer.Answer.TheVariants as answer
-use Rattle.cloak_model.specs.AskPages.{ask_inside_address, reach_by_table}
-use Rattle.cloak_model.specs.Asking.{Asking, FollowsFrom, Keeps}
+use Rattle.cloak_model.specs.AskPages.{ask_led_inside, reach_by_table}
+use Rattle.cloak_model.specs.Asking.{Asking, Told, FollowsFrom, Keeps}
 use Rattle.cloak_model.specs.Events.{Look, Born}
 use Rattle.cloak_model.specs.Exchange.{Piece}
 use Rattle.cloak_base.specs.Constants.{frame_of, is_in_frames}
 use Rattle.cloak_model.specs.Memory.{is_in_ram}
 use Rattle.cloak_pager.specs.State.{held_in}
-use Rattle.shadow_fold.specs.Fold.{entry_in, regime_in, is_own_table}
+use Rattle.shadow_fold.specs.Fold.{entry_in, entry_of, regime_in, is_own_table}
 use Rattle.shadow_fold.specs.Table.{is_known}
 use Rattle.cloaked_side.specs.declared.memory.Memory.{Memory}
-use Rattle.cloak_model.specs.Walk.{walk, access_fault}
+use Rattle.cloak_model.specs.Walk.{Walk, walk, access_fault}
 use Rattle.cloak_model.specs.World.{World, Flat, Cloaked, Alone, is_clashed, noted}
 use Rattle.shadow_fold.specs.Agreement.{EntryAgrees, satp_in, access_in}
 use Rattle.shadow_fold.specs.Entries.{IsWithin, is_table}
@@ -43,37 +43,29 @@ abbrev pub IsRegimeIn : Option SpaceId → Regime → Type 0
 IsRegimeIn space regime = (va : ℕ) (kind : Kind) → regime_in space (satp_in regime) (access_in regime va kind) ≡ regime
 
 -- where an access of a regime leads
-abbrev pub asked_led : Regime → ℕ → Kind → Asking (Result ℕ ℕ)
+abbrev pub asked_led : Regime → ℕ → Kind → Asking Walk
 asked_led regime va kind = ask_led (satp_in regime) (access_in regime va kind)
 
--- If accesses are counted, an access that was led without a walk has its translation known, and its target holds this.
-abbrev pub IsLive : Memory → Regime → ℕ → Kind → Option PageId → Led → Type 0
-IsLive memory regime va kind cloaked led = led.walked ≡ None → memory.counting ≡ true →
-    (is_known regime (va / 4096) kind memory.shadows ≡ true) × (held_in memory.pager (frame_of led.pa) ≡ cloaked)
+-- If accesses are counted, an access whose walk is not handed on has its translation known, and its target holds this.
+abbrev pub IsLive : Memory → Regime → ℕ → Kind → Option PageId → Walked → Led → Type 0
+IsLive memory regime va kind cloaked walked led = led.walked ≡ None → memory.counting ≡ true →
+    (is_known regime (va / 4096) kind memory.shadows ≡ true) × (held_in memory.pager (frame_of walked.pa) ≡ cloaked)
 
 -- if the look of an access missed, no translation of it is known
 abbrev pub IsUnknownIfMissed : Memory → Regime → ℕ → Kind → Bool → Type 0
 IsUnknownIfMissed memory regime va kind missed = missed ≡ true → is_known regime (va / 4096) kind memory.shadows ≡ false
 
--- the address to which an access was led, or its fault
-abbrev pub place_in : Result Led ℕ → Result ℕ ℕ
-place_in (Ok led) = Ok led.pa
-place_in (Err cause) = Err cause
-
--- the walk of an access leads so, in the RAM that this world has
+-- this is the walk of an access, in the RAM that this world has, and leads there
 abbrev pub IsWalkOf : World → Regime → ℕ → Kind → Walked → Type 0
 IsWalkOf (Flat ram) regime va kind walked = ⊥
 IsWalkOf (Alone handed) regime va kind walked = ⊥
 IsWalkOf (Cloaked c) regime va kind walked =
     (walk c.memory.ram (satp_in regime) (access_in regime va kind) ≡ Ok walked) × (is_in_ram c.memory.ram walked.pa ≡ true)
 
--- the walk that led an access, if there was one, leads there
-abbrev pub IsLedBy : World → Regime → ℕ → Kind → Led → Type 0
-IsLedBy w regime va kind led = IfSome led.walked (λ walked. IsWalkOf w regime va kind walked × (walked.pa ≡ led.pa))
-
--- the tables of the walk that led an access, if there was one, are outside
-abbrev pub AreLedOutside : (ℕ → Option PageId) → Led → Type 0
-AreLedOutside held led = IfSome led.walked (AreOutside held)
+-- an access was led to the address of this walk, which is the one that is handed on, if one is
+pub record IsLedBy (walked : Walked) (led : Led) : Type 0 where
+  pub place : led.pa ≡ walked.pa
+  pub handed : IfSome led.walked (λ on. on ≡ walked)
 
 -- the entry agrees with what this world's memory is, if frames hold these pages
 abbrev pub IsEntryOf : World → (ℕ → Option PageId) → Entry → Type 0
@@ -81,7 +73,7 @@ IsEntryOf (Flat ram) held e = ⊥
 IsEntryOf (Alone handed) held e = ⊥
 IsEntryOf (Cloaked c) held e = EntryAgrees (present held c.memory) e × IsWithin (length c.memory.ram) e
 
--- the entry of a walk through these tables that led an access to this frame
+-- the entry of an access that was led to this frame through these tables
 abbrev pub entry_to : Regime → ℕ → Kind → Frame → Option Frame → Option Frame → Option PageId → Entry
 entry_to regime va kind frame pt1 pt0 cloaked = record {
   regime = regime;
@@ -92,11 +84,6 @@ entry_to regime va kind frame pt1 pt0 cloaked = record {
   pt0 = pt0;
   cloaked = cloaked;
 }
-
--- the entry of a walk that led an access to this address
-abbrev pub entry_at : Regime → ℕ → Kind → ℕ → Walked → Option PageId → Entry
-entry_at regime va kind pa walked cloaked =
-    entry_to regime va kind (record { 0 = frame_of pa }) walked.pt1 walked.pt0 cloaked
 
 -- a side stands for what follows when a walk makes this entry, whose frame is none of its own tables
 abbrev pub Learns : {E : Type 0} → (E → E → List Piece → Type 0) → Side E → Side E → Entry → Type 0
@@ -119,32 +106,38 @@ pub record WalkLeaves {E : Type 0} (gave : E → E → List Piece → Type 0) (o
   pub same_count : frames_of new.memory.now ≡ frames_of old.memory.now
   pub unknown : is_known regime (va / 4096) kind new.memory.now.shadows ≡ false
 
--- Where an access was led, and what is true of the memory then: by the walk that there was, through tables that are
--- outside, or by a translation that is known.
-pub record IsLedSo (memory : Memory) (w : World) (regime : Regime) (va : ℕ) (kind : Kind) (cloaked : Option PageId) (led : Led) :
-    Type 0 where
-  pub by : IsLedBy w regime va kind led
-  pub outside : AreLedOutside (held_in memory.pager) led
-  pub live : IsLive memory regime va kind cloaked led
+-- An access was led by this walk, through tables that are outside. If the walk is not handed on, its translation is
+-- known.
+pub record IsLedSo (memory : Memory) (w : World) (regime : Regime) (va : ℕ) (kind : Kind) (cloaked : Option PageId)
+    (walked : Walked) (led : Led) : Type 0 where
+  pub by : IsLedBy walked led
+  pub walk : IsWalkOf w regime va kind walked
+  pub outside : AreOutside (held_in memory.pager) walked
+  pub live : IsLive memory regime va kind cloaked walked led
 
--- The walk that led an access to a cloaked page, if there was one, makes an entry that agrees, unless the page's frame
--- is one of its own tables.
-abbrev pub IsReachedBy : World → (ℕ → Option PageId) → Regime → ℕ → Kind → PageId → Led → Type 0
-IsReachedBy w held regime va kind q led = IfSome led.walked (λ walked. let e = entry_at regime va kind led.pa walked (Some q) in
-    is_table e.frame e ≡ false → IsEntryOf w held e)
+-- The question where an access leads was answered so: by a walk, by which it was led so, or by its fault.
+abbrev pub Leads : {E : Type 0} → (E → E → List Piece → Type 0) → Side E → Side E → Regime → ℕ → Kind → Option PageId →
+    Result Led ℕ → Told Walk → Type 0
+Leads gave first new regime va kind cloaked (Ok led) told =
+    (walked : Walked) × FollowsFrom (Sees gave first) new (Ok walked) told
+    × IsLedSo new.memory.now told.world regime va kind cloaked walked led
+Leads gave first new regime va kind cloaked (Err cause) told = FollowsFrom (Sees gave first) new (Err cause) told
 
--- An access to a cloaked page was led so, and its frame holds the page now.
-pub record IsReachedSo (memory : Memory) (w : World) (regime : Regime) (va : ℕ) (kind : Kind) (q : PageId) (led : Led) :
-    Type 0 where
-  pub by : IsLedBy w regime va kind led
-  pub reached : IsReachedBy w (held_in memory.pager) regime va kind q led
-  pub live : IsLive memory regime va kind (Some q) led
+-- An access to a cloaked page was led so, and its frame holds the page now: the entry of the walk agrees, unless the
+-- page's frame is one of its own tables.
+pub record IsReachedSo (memory : Memory) (w : World) (regime : Regime) (va : ℕ) (kind : Kind) (q : PageId)
+    (walked : Walked) (led : Led) : Type 0 where
+  pub by : IsLedBy walked led
+  pub entry : let e = entry_of regime (va / 4096) kind walked (Some q) in
+      is_table e.frame e ≡ false → IsEntryOf w (held_in memory.pager) e
+  pub live : IsLive memory regime va kind (Some q) walked led
 
 -- a side stands for what follows when the translation that led to a cloaked page is known
-abbrev pub LearnsPage : {E : Type 0} → (E → E → List Piece → Type 0) → Side E → Side E → PageId → ℕ → Kind → Led → Type 0
-LearnsPage {E} gave old new q va kind led = (first : Side E) (w : World) → Sees gave first old w →
-    IsReachedSo old.memory.now w old.regime va kind q led →
-    Sees gave first new (known (satp_in old.regime) (access_in old.regime va kind) (Some q) w)
+abbrev pub LearnsPage : {E : Type 0} → (E → E → List Piece → Type 0) → Side E → Side E → PageId → ℕ → Kind → Led →
+    Type 0
+LearnsPage {E} gave old new q va kind led = (first : Side E) (w : World) (walked : Walked) → Sees gave first old w →
+    IsReachedSo old.memory.now w old.regime va kind q walked led →
+    Sees gave first new (known (satp_in old.regime) (access_in old.regime va kind) (Some q) walked w)
 
 -- What learning a translation, or none, leaves of a side, whatever it stands for.
 pub record LearnsOnly {E : Type 0} (gave : E → E → List Piece → Type 0) (old new : Side E) : Type 0 where
@@ -183,8 +176,7 @@ IsRightFound found.Missed = Unit {0}
 abbrev pub IsFoundSo : {E : Type 0} → (E → E → List Piece → Type 0) → Side E → Side E → World → Regime → ℕ → Kind →
     Option PageId → Option (Result Led ℕ) → Type 0
 IsFoundSo gave first now w regime va kind cloaked (Some to) =
-    FollowsFrom (Sees gave first) now (place_in to) (asked_led regime va kind w)
-    × IfOk to (IsLedSo now.memory.now (asked_led regime va kind w).world regime va kind cloaked)
+    Leads gave first now regime va kind cloaked to (asked_led regime va kind w)
 IsFoundSo gave first now w regime va kind cloaked None =
     SeesWalking gave first now (noted (Look (satp_in regime) (access_in regime va kind) ∷ []) w)
 
@@ -193,7 +185,7 @@ abbrev pub Reaches : {E : Type 0} → (E → E → List Piece → Type 0) → Si
     Option (Result Led ℕ) → Type 0
 Reaches {E} gave old new given q va kind to =
     (first : Side E) (w : World) (s : SpaceId) → space_in old.regime ≡ Some s →
-    ask_inside_address va kind w ≡ asked_led old.regime va kind w →
+    ask_led_inside va kind w ≡ asked_led old.regime va kind w →
     (is_clashed (asked_led old.regime va kind w).world ≡ false →
     IsFoundSo gave first old w old.regime va kind (Some q) to) →
     is_clashed (reach_by_table q va kind w).world ≡ false →

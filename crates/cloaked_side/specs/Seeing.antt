@@ -166,6 +166,11 @@ pub record StaysWalking {E : Type 0} (gave : E → E → List Piece → Type 0) 
 abbrev pub served : {E : Type 0} → Side E → ℕ
 served side = if nat_lt side.domain (domains_in side.memory.now) then side.domain else 2 ^ 32
 
+-- There is such a page, and it is of the domain of the context that asks.
+pub record IsOwnPage {E : Type 0} (side : Side E) (q : PageId) : Type 0 where
+  pub page : IsIn (domains_in side.memory.now) q
+  pub own : q.domain ≡ side.domain
+
 -- The page can be read: the frame that was reached last holds it, and no draw is missing.
 pub record CanRead {E : Type 0} (side : ProgramSide E) (q : PageId) : Type 0 where
   pub page : IsIn (domains_in side.side.memory.now) q

@@ -1,5 +1,5 @@
 //! Atomic accesses of the kernel, and the reservations of its harts.
-ghost use Rattle.std.specs.Prelude.{◌≡◌, ◌%◌, IsTrue, IfOk, None, false};
+ghost use Rattle.std.specs.Prelude.{◌≡◌, ◌%◌, IfOk, None, false};
 ghost use Rattle.cloak_model.specs.Ask as ask;
 
 use crate::side::Side;
@@ -27,8 +27,6 @@ pub(crate) fn is_reserved(mark: Option<u32>, pa: u32) -> bool
 impl<'m, 'e, E: Emit> Side<'m, 'e, E> {
     ghost use Rattle.cloak_model.specs.Asking.{FollowsFrom, Keeps};
     ghost use Rattle.cloak_model.specs.World.{World, is_clashed};
-    ghost use Rattle.cloak_base.specs.Constants.{frame_of, is_in_frames};
-    ghost use Rattle.cloak_pager.specs.State.{held_in};
     ghost use Rattle.cloaked_side.specs.Atomic.{ask_led_word};
     ghost use Rattle.cloaked_side.specs.Holding.{IsValueOutside, frames_of};
     ghost use Rattle.cloaked_side.specs.Seeing.{Sees, FollowsAlways, StaysWithin, space_in};

@@ -1,11 +1,10 @@
 //! The answers to the questions of a cloaked program.
-ghost use Rattle.std.specs.Prelude.{◌≡◌, ◌≢◌, ◌<◌, ◌%◌, ◌^◌, ◌*◌, ◌≤◌, ◌/◌, ℕ, false, Ok, Err, None};
+ghost use Rattle.std.specs.Prelude.{◌≡◌, ◌≢◌, ◌<◌, ◌%◌, ◌^◌, ◌*◌, ◌/◌, false, Ok, Err, None};
 ghost use Rattle.cloak_model.specs.AskPages as inside;
 ghost use Rattle.cloak_model.specs.Effect.{IsWidth};
 
 use crate::kept_put::set_put;
 use crate::leading::{Found, Led, handed_on};
-use crate::memory::{self, EndedOffer};
 use crate::program_side::ProgramSide;
 use crate::side::Side;
 use cloak_base::{Frame, Kind, PageId, Violation, frame_of};
@@ -53,16 +52,15 @@ impl<'m, 'e, E: Emit> ProgramSide<'m, 'e, E> {
     ghost use Rattle.std.specs.Prelude.{IsTrue, Some};
     ghost use Rattle.cloak_model.specs.declared.item.Item.TheVariants as item;
     ghost use Rattle.cloak_model.specs.World.{World, is_clashed, written};
-    ghost use Rattle.cloak_model.specs.Asking.{Follows, FollowsFrom, Keeps};
+    ghost use Rattle.cloak_model.specs.Asking.{FollowsFrom, Keeps};
     ghost use Rattle.cloak_base.specs.Constants.{is_in_frames, frame_of};
-    ghost use Rattle.cloak_model.specs.AskPages.{replies, if_drawn, get_at, got, put_at, stored_inside, ask_offer, reached};
+    ghost use Rattle.cloak_model.specs.AskPages.{replies, if_drawn, get_at, put_at, reached};
     ghost use Rattle.cloak_model.specs.AskPages.{reach_by_table, get_by_table, put_by_table};
-    ghost use Rattle.cloak_pager.specs.State.{held_in, owed_at};
-    ghost use Rattle.protect_meta.specs.Pages.{IsIn};
-    ghost use Rattle.cloaked_side.specs.Holding.{IsValueOutside, frames_of, domains_in};
+    ghost use Rattle.cloaked_side.specs.Holding.{IsValueOutside, frames_of};
     ghost use Rattle.cloaked_side.specs.Leading.{IsLedSo, Reaches, ReachLeaves};
     ghost use Rattle.shadow_fold.specs.Table.{is_known};
-    ghost use Rattle.cloaked_side.specs.Seeing.{Sees, Becomes, FollowsAlways, FollowsInside, StaysWithin, WritesOnly, space_in};
+    ghost use Rattle.cloaked_side.specs.Seeing.{Sees, Becomes, FollowsAlways, FollowsInside, IsOwnPage, StaysWithin};
+    ghost use Rattle.cloaked_side.specs.Seeing.{WritesOnly, space_in};
 
     /// Writes that a page is absent. Kept out of line, since building an item clears room for a page.
     #[cold]
@@ -231,28 +229,26 @@ impl<'m, 'e, E: Emit> ProgramSide<'m, 'e, E> {
     fn reached(&mut self, q: PageId, va: u32, kind: Kind, led: &Led, g: Frame) -> Answer
         requires frame { g.0 ≡ frame_of led.now.pa }
         requires inside { IsTrue (is_in_frames (frames_of self.old.side.memory.now) led.now.pa) }
-        requires page { IsIn (domains_in self.old.side.memory.now) q }
-        requires own { q.domain ≡ self.old.side.domain }
+        requires page { IsOwnPage self.old.side q }
         requires drawn { self.old.side.memory.now.missed ≡ false }
-        ensures told { (first : _) (w : World) (s : _) → Sees E.gave first self.old.side w →
+        ensures told { (first : _) (w : World) (s : _) (walked : _) → Sees E.gave first self.old.side w →
             space_in self.old.side.regime ≡ Some s →
-            IsLedSo self.old.side.memory.now w self.old.side.regime va kind (Some q) led.now →
-            is_clashed (reached q va kind (Ok led.now.pa) w).world ≡ false →
-            FollowsFrom (Sees E.gave first) self.new.side result (reached q va kind (Ok led.now.pa) w) }
+            IsLedSo self.old.side.memory.now w self.old.side.regime va kind (Some q) walked led.now →
+            is_clashed (reached q va kind (Ok walked) w).world ≡ false →
+            FollowsFrom (Sees E.gave first) self.new.side result (reached q va kind (Ok walked) w) }
         ensures leaves { ReachLeaves E.gave self.old self.new q kind result }
     {
         let side = &mut self.side;
-        match side.memory.offer(q, g, is_store(kind), side.emitter) {
-            EndedOffer::Ready => {
-                self.side.learn_page(q, va, kind, led);
-                self.grant(g)
-            }
-            EndedOffer::Mismatch => {
-                self.side.violation = Some(Violation::Page { page: q, frame: g });
-                self.stop()
-            }
-            EndedOffer::Missed => self.stop(),
+        if side.memory.offer(q, g, is_store(kind), side.emitter) {
+            self.side.learn_page(q, va, kind, led);
+            return self.grant(g);
         }
+        // Tested last, since a page that is granted missed no draw.
+        if self.side.memory.missed {
+            return self.stop();
+        }
+        self.side.violation = Some(Violation::Page { page: q, frame: g });
+        self.stop()
     }
 
     /// Brings a page to where its access was led, unless a draw was missing.
@@ -260,8 +256,7 @@ impl<'m, 'e, E: Emit> ProgramSide<'m, 'e, E> {
     fn reach_led(&mut self, q: PageId, va: u32, kind: Kind, led: &Led, g: Frame) -> Answer
         requires frame { g.0 ≡ frame_of led.now.pa }
         requires inside { IsTrue (is_in_frames (frames_of self.old.side.memory.now) led.now.pa) }
-        requires page { IsIn (domains_in self.old.side.memory.now) q }
-        requires own { q.domain ≡ self.old.side.domain }
+        requires page { IsOwnPage self.old.side q }
         ensures told { Reaches E.gave self.old.side self.new.side result q va kind (Some (Ok led.now)) }
         ensures leaves { ReachLeaves E.gave self.old self.new q kind result }
     {
@@ -298,8 +293,7 @@ impl<'m, 'e, E: Emit> ProgramSide<'m, 'e, E> {
     ) -> Answer
         requires low { pa < 2 ^ 32 }
         requires inside { IsTrue (is_in_frames (frames_of self.old.side.memory.now) pa) }
-        requires page { IsIn (domains_in self.old.side.memory.now) q }
-        requires own { q.domain ≡ self.old.side.domain }
+        requires page { IsOwnPage self.old.side q }
         ensures told { Reaches E.gave self.old.side self.new.side result q va kind
             (Some (Ok (record { pa = pa; walked = Some (record { pa = pa; pt1 = pt1; pt0 = pt0 }); missed = false }))) }
         ensures leaves { ReachLeaves E.gave self.old self.new q kind result }
@@ -312,8 +306,7 @@ impl<'m, 'e, E: Emit> ProgramSide<'m, 'e, E> {
     #[inline(never)]
     fn reach_walking(&mut self, q: PageId, va: u32, kind: Kind) -> Answer
         requires unknown { is_known self.old.side.regime (va / 4096) kind self.old.side.memory.now.shadows ≡ false }
-        requires page { IsIn (domains_in self.old.side.memory.now) q }
-        requires own { q.domain ≡ self.old.side.domain }
+        requires page { IsOwnPage self.old.side q }
         ensures told { Reaches E.gave self.old.side self.new.side result q va kind None }
         ensures leaves { ReachLeaves E.gave self.old self.new q kind result }
     {
@@ -327,8 +320,7 @@ impl<'m, 'e, E: Emit> ProgramSide<'m, 'e, E> {
     /// Brings the page to where the kernel's page table leads from this address.
     #[inline(always)]
     pub(crate) fn reach_page(&mut self, q: PageId, va: u32, kind: Kind) -> Answer
-        requires page { IsIn (domains_in self.old.side.memory.now) q }
-        requires own { q.domain ≡ self.old.side.domain }
+        requires page { IsOwnPage self.old.side q }
         ensures follows { FollowsInside E.gave self.old.side self.new.side result (reach_by_table q va kind) }
         ensures leaves { ReachLeaves E.gave self.old self.new q kind result }
     {

@@ -107,14 +107,15 @@ impl<'m, 'e, E: Emit> Side<'m, 'e, E> {
     ghost use Rattle.cloak_model.specs.Ask.{opened};
     ghost use Rattle.cloak_model.specs.Events.{Look};
     ghost use Rattle.cloak_model.specs.Walk.{has_paging};
-    ghost use Rattle.cloak_model.specs.Asking.{FollowsFrom, Keeps};
+    ghost use Rattle.cloak_model.specs.Asking.{Keeps};
     ghost use Rattle.cloak_base.specs.Constants.{frame_of, is_in_frames};
     ghost use Rattle.cloak_model.specs.World.{World, is_clashed, noted};
     ghost use Rattle.cloak_pager.specs.State.{held_in};
     ghost use Rattle.cloaked_side.specs.Holding.{frames_of};
-    ghost use Rattle.cloaked_side.specs.Leading.{place_in, found_to, IsFoundInside, IsFoundSo, IsRightFound};
-    ghost use Rattle.cloaked_side.specs.Leading.{IsLedInside, IsLedSo, IsUnknownIfMissed};
-    ghost use Rattle.cloaked_side.specs.Leading.{IsRegimeIn, Learns, LearnsOnly, LearnsPage, LearnsWalk, WalkLeaves, asked_led};
+    ghost use Rattle.cloaked_side.specs.Leading.{found_to, IsFoundInside, IsFoundSo, IsRightFound};
+    ghost use Rattle.cloaked_side.specs.Leading.{IsLedInside, IsLedSo, IsUnknownIfMissed, Leads};
+    ghost use Rattle.cloaked_side.specs.Leading.{IsRegimeIn, Learns, LearnsOnly, LearnsPage, LearnsWalk, WalkLeaves};
+    ghost use Rattle.cloaked_side.specs.Leading.{asked_led};
     ghost use Rattle.cloaked_side.specs.Seeing.{Sees, SeesWalking, StaysWithin, space_in};
     ghost use Rattle.shadow_fold.specs.Table.{is_known};
 
@@ -205,19 +206,14 @@ impl<'m, 'e, E: Emit> Side<'m, 'e, E> {
     /// Where an access leads by a walk, or the cause of its fault, after a look that missed. The walk reads at most the
     /// two words of page tables that the miss pays for.
     #[inline(never)]
-    #[tactic(auto, using(cloak_model::proofs::Later::laters), unfolding(cloak_model::specs::Ask::ask_translate, cloak_model::specs::Ask::ask_in_ram))]
     pub(crate) fn led_by_walk(&mut self, regime: &Regime, va: u32, kind: Kind) -> Result<Led, u32>
         requires unknown { is_known regime.now (va / 4096) kind self.old.memory.now.shadows ≡ false }
-        ensures follows { (first : _) (w : World) →
-            SeesWalking E.gave first self.old (noted (Look (satp_in regime.now) (access_in regime.now va kind) ∷ []) w) →
-            is_clashed (asked_led regime.now va kind w).world ≡ false →
-            FollowsFrom (Sees E.gave first) self.new (place_in result) (asked_led regime.now va kind w) }
-        ensures inside { IfOk result (IsLedInside (frames_of self.new.memory.now) va) }
-        ensures leaves { WalkLeaves E.gave self.old self.new regime.now va kind }
-        ensures leads { IfOk result (λ led. (first : _) (w : World) (cloaked : Option AnyPage) →
+        ensures leads { (first : _) (w : World) (cloaked : Option AnyPage) →
             SeesWalking E.gave first self.old (noted (Look (satp_in regime.now) (access_in regime.now va kind) ∷ []) w) →
             let told = asked_led regime.now va kind w in is_clashed told.world ≡ false →
-            IsLedSo self.new.memory.now told.world regime.now va kind cloaked led) }
+            Leads E.gave first self.new regime.now va kind cloaked result told }
+        ensures inside { IfOk result (IsLedInside (frames_of self.new.memory.now) va) }
+        ensures leaves { WalkLeaves E.gave self.old self.new regime.now va kind }
     {
         let a = access_of(regime, va, kind);
         let walked = walk(satp_of(regime), a.mode, a.sum, a.mxr, a.va, a.kind, self)?;
@@ -238,18 +234,14 @@ impl<'m, 'e, E: Emit> Side<'m, 'e, E> {
             is_known regime.now (va / 4096) kind self.old.memory.now.shadows ≡ false }
         requires placed { IsRightFound found }
         requires inside { IsFoundInside (frames_of self.old.memory.now) va kind found }
-        ensures follows { (first : _) (w : World) (cloaked : Option AnyPage) →
+        ensures leads { (first : _) (w : World) (cloaked : Option AnyPage) →
             IsFoundSo E.gave first self.old w regime.now va kind cloaked (found_to kind found) →
-            is_clashed (asked_led regime.now va kind w).world ≡ false →
-            FollowsFrom (Sees E.gave first) self.new (place_in result) (asked_led regime.now va kind w) }
+            let told = asked_led regime.now va kind w in is_clashed told.world ≡ false →
+            Leads E.gave first self.new regime.now va kind cloaked result told }
         ensures keeps { Keeps (StaysWithin E.gave) self.old self.new }
         ensures inside { IfOk result (IsLedInside (frames_of self.new.memory.now) va) }
         ensures same_count { frames_of self.new.memory.now ≡ frames_of self.old.memory.now }
         ensures missed { IfOk result (λ led. IsUnknownIfMissed self.new.memory.now regime.now va kind led.missed) }
-        ensures leads { IfOk result (λ led. (first : _) (w : World) (cloaked : Option AnyPage) →
-            IsFoundSo E.gave first self.old w regime.now va kind cloaked (found_to kind found) →
-            let told = asked_led regime.now va kind w in is_clashed told.world ≡ false →
-            IsLedSo self.new.memory.now told.world regime.now va kind cloaked led) }
     {
         match found {
             Found::Straight { pa, .. } => Ok(Led {
@@ -273,18 +265,14 @@ impl<'m, 'e, E: Emit> Side<'m, 'e, E> {
         kind: Kind,
         cloaked: Option<PageId>,
     ) -> Result<Led, u32>
-        ensures follows { (first : _) (w : World) → Sees E.gave first self.old w →
+        ensures leads { (first : _) (w : World) → Sees E.gave first self.old w →
             IsRegimeIn (space_in self.old.regime) regime.now →
-            is_clashed (asked_led regime.now va kind w).world ≡ false →
-            FollowsFrom (Sees E.gave first) self.new (place_in result) (asked_led regime.now va kind w) }
+            let told = asked_led regime.now va kind w in is_clashed told.world ≡ false →
+            Leads E.gave first self.new regime.now va kind cloaked result told }
         ensures keeps { Keeps (StaysWithin E.gave) self.old self.new }
         ensures inside { IfOk result (IsLedInside (frames_of self.new.memory.now) va) }
         ensures same_count { frames_of self.new.memory.now ≡ frames_of self.old.memory.now }
         ensures missed { IfOk result (λ led. IsUnknownIfMissed self.new.memory.now regime.now va kind led.missed) }
-        ensures leads { IfOk result (λ led. (first : _) (w : World) → Sees E.gave first self.old w →
-            IsRegimeIn (space_in self.old.regime) regime.now →
-            let told = asked_led regime.now va kind w in is_clashed told.world ≡ false →
-            IsLedSo self.new.memory.now told.world regime.now va kind cloaked led) }
     {
         if self.is_bare(regime) {
             let found = self.look_bare(regime, va, kind);
@@ -318,10 +306,10 @@ impl<'m, 'e, E: Emit> Side<'m, 'e, E> {
     pub(crate) fn settle_led(&mut self, regime: &Regime, va: u32, kind: Kind, led: &Led)
         requires inside { IsTrue (is_in_frames (frames_of self.old.memory.now) led.now.pa) }
         requires missed { IsUnknownIfMissed self.old.memory.now regime.now va kind led.now.missed }
-        ensures sees { (first : _) (w : World) → Sees E.gave first self.old w →
+        ensures sees { (first : _) (w : World) (walked : _) → Sees E.gave first self.old w →
             IsRegimeIn (space_in self.old.regime) regime.now →
-            IsLedSo self.old.memory.now w regime.now va kind None led.now →
-            Sees E.gave first self.new (opened (satp_in regime.now) (access_in regime.now va kind) led.now.pa w) }
+            IsLedSo self.old.memory.now w regime.now va kind None walked led.now →
+            Sees E.gave first self.new (opened (satp_in regime.now) (access_in regime.now va kind) walked w) }
         ensures keeps { Keeps (StaysWithin E.gave) self.old self.new }
         ensures same_count { frames_of self.new.memory.now ≡ frames_of self.old.memory.now }
         ensures outside { held_in self.new.memory.now.pager (frame_of led.now.pa) ≡ None }

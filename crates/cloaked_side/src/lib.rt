@@ -28,7 +28,7 @@ mod side;
 
 pub use ending::end_pages;
 pub use kept_put::KeptPut;
-pub use memory::{EndedOffer, Memory};
+pub use memory::Memory;
 pub use outside::outside_step;
 pub use program_side::{ProgramSide, regime_inside, regime_of};
 pub use side::{OUTSIDE, Side};

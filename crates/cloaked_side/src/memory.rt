@@ -1,4 +1,4 @@
-ghost use Rattle.std.specs.Prelude.{◌≡◌, ◌≢◌, ◌==◌, ◌^◌, IsTrue, ◌⊎◌, ℕ, Bool, true, false, not, ◌<◌, ◌≤◌, [], ◌∷◌, Option, is_some, length, map};
+ghost use Rattle.std.specs.Prelude.{◌≡◌, ◌≢◌, ◌==◌, ◌^◌, IsTrue, ℕ, Bool, true, false, not, ◌<◌, ◌≤◌, [], ◌∷◌, Option, is_some, length, map};
 ghost use Rattle.cloak_base.specs.Constants.{frame_of, ram_start, is_in_frames};
 ghost use Rattle.cloak_model.specs.declared.item.Item.TheVariants.{Cipher};
 ghost use Rattle.shadow_fold.specs.Entries.{is_of_space};
@@ -10,17 +10,6 @@ use cloak_pager::{Offered, Pager, Touched};
 use host_calls::Reservations;
 use io_traits::Stream;
 use multi_shadow::Shadows;
-
-/// How an offer ended.
-#[derive(Clone, Copy)]
-pub enum EndedOffer {
-    /// The frame holds the page.
-    Ready,
-    /// The frame's bytes are not those that were last shown of the page.
-    Mismatch,
-    /// A draw was missing.
-    Missed,
-}
 
 /// The frames of RAM with the cloaked pages in them, the random stream, the reservations of the harts, and the
 /// translations that are known.
@@ -156,9 +145,10 @@ impl Memory {
         !self.missed
     }
 
-    /// Offers a page in a frame, for reading or for writing.
+    /// Offers a page in a frame, for reading or for writing. Returns whether it was granted: the frame holds the page
+    /// then. It was not if a draw was missing, or if the frame's bytes are not those that were last shown of the page.
     #[inline(always)]
-    pub fn offer<E: Emit>(&mut self, q: PageId, g: Frame, write: bool, e: &mut E) -> EndedOffer
+    pub fn offer<E: Emit>(&mut self, q: PageId, g: Frame, write: bool, e: &mut E) -> bool
         requires inside { g.0 < frames_of self.old }
         requires page { IsIn (domains_in self.old) q }
         requires drawn { self.old.missed ≡ false }
@@ -166,7 +156,7 @@ impl Memory {
         ensures leaves { OfferLeaves E.gave e.old e.new self.old self.new q g.0 write result }
     {
         if self.pager.is_ready(q, g, write) {
-            return EndedOffer::Ready;
+            return true;
         }
         self.offer_anew(q, g, write, e)
     }
@@ -174,7 +164,7 @@ impl Memory {
     /// The same, whatever the frame holds. Kept out of line, since a page that is hit is ready.
     #[cold]
     #[inline(never)]
-    fn offer_anew<E: Emit>(&mut self, q: PageId, g: Frame, write: bool, e: &mut E) -> EndedOffer
+    fn offer_anew<E: Emit>(&mut self, q: PageId, g: Frame, write: bool, e: &mut E) -> bool
         requires inside { g.0 < frames_of self.old }
         requires page { IsIn (domains_in self.old) q }
         requires drawn { self.old.missed ≡ false }
@@ -184,19 +174,19 @@ impl Memory {
         if self.is_held(q, g) {
             self.pager.whole();
             return match self.pager.offer(q, g, write) {
-                Offered::Ready => EndedOffer::Ready,
-                Offered::Mismatch => EndedOffer::Mismatch,
+                Offered::Ready => true,
+                Offered::Mismatch => false,
             };
         }
         if !self.make_room(q, g, e) {
-            return EndedOffer::Missed;
+            return false;
         }
         match self.pager.offer(q, g, write) {
             Offered::Ready => {
                 end_entries(&mut self.shadows, g);
-                EndedOffer::Ready
+                true
             }
-            Offered::Mismatch => EndedOffer::Mismatch,
+            Offered::Mismatch => false,
         }
     }
 

@@ -1,4 +1,4 @@
-ghost use Rattle.std.specs.Prelude.{◌≡◌, ◌<◌, ◌≤◌, ◌%◌, IsTrue, length, is_some};
+ghost use Rattle.std.specs.Prelude.{◌≡◌, ◌<◌, length, is_some};
 
 use crate::atomic::is_reserved;
 use crate::kept_put::KeptPut;
@@ -45,8 +45,6 @@ impl<'m, 'e, E: Emit> Side<'m, 'e, E> {
     ghost use Rattle.shadow_fold.specs.Fold.{frame, touched};
     ghost use Rattle.shadow_fold.specs.Following.{killed_if};
     ghost use Rattle.cloak_model.specs.Ask.{shown_value, stored_value};
-    ghost use Rattle.cloak_model.specs.Effect.{IsWidth};
-    ghost use Rattle.cloak_base.specs.Constants.{frame_of, is_in_frames};
 
     /// Settles a frame.
     #[inline(always)]

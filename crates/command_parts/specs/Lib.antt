@@ -1,4 +1,5 @@
 pub mod Outside
+pub mod Exiting
 pub mod Status
 pub mod Files
 pub mod Refusal

@@ -12,15 +12,15 @@ use Rattle.cloak_model.specs.declared.image.Bundle.{Bundle}
 use Rattle.cloak_model.specs.declared.image.KernelImage.{KernelImage}
 use Rattle.cloak_model.specs.declared.image.Program.{Program}
 use Rattle.cloak_model.specs.declared.item.Item.{Item}
-use Rattle.cloak_model.specs.DomainAlone.{DomainAlone, domain_alone, domain_taken, opened_domain, take_domain_item}
+use Rattle.cloak_model.specs.DomainAlone.{domain_alone, opened_domain}
 use Rattle.cloak_model.specs.BundleFault.{bundle_fault}
 use Rattle.cloak_model.specs.Exchange.{item_bytes, record_magic, byte_of}
 use Rattle.cloak_model.specs.Opening.{Lack, NoKey, NoPageDraw}
-use Rattle.cloak_model.specs.KernelAlone.{KernelAlone, kernel_alone, kernel_taken, opened_kernel, take_kernel_item}
+use Rattle.cloak_model.specs.KernelAlone.{kernel_alone, opened_kernel}
 use Rattle.cloak_model.specs.Record.{IsItem, IsRecord}
 use Rattle.record_law.proofs.Spelling.{fields_of, item_bytes-parts, tag_at}
-use Rattle.record_law.proofs.Judged.{not_both, one_record, same_item}
-use Rattle.domain_isolation.proofs.Ignoring.{taken_append}
+use Rattle.record_law.proofs.Judged.{front_bytes, not_both, one_record, same_item}
+use Rattle.record_law.proofs.Staying.{kernel_stays, program_stays}
 use Rattle.record_reader.specs.Ahead.{readable}
 use Rattle.io_traits.specs.Told.{Grows, SameFiles}
 use Rattle.command_words.specs.declared.usage_fault.UsageFault.{UsageFault}
@@ -40,16 +40,8 @@ use Rattle.read_back.specs.Reading.{BeginsWith, FileIs, FitsAs, ReadsAs, ReadsRe
 use Rattle.completeness.specs.Asked.{IsBundleFile, OnlyLine, WantsMemory}
 use Rattle.completeness.specs.Views.{IsRecordFile, ShowsAll, SolosAreComplete, ViewsAreComplete}
 use Rattle.completeness.proofs.Faults.{never_counted, never_rose, no_fault, same_bundle}
-use Rattle.kernel_isolation.proofs.Ignoring.{kernel_append}
 
 -- A front of a record.
-
--- the bytes of an item and of others after it
-front_bytes : (i : Item) (items : List Item) (rest : List ℕ) →
-    flat_map item_bytes (i ∷ items) ++ rest ≡ item_bytes i ++ (flat_map item_bytes items ++ rest)
-front_bytes i items rest =
-    ap (λ (l : List ℕ). l ++ rest) (flat_map-cons item_bytes i items)
-    ∙ append_assoc (item_bytes i) (flat_map item_bytes items) rest
 
 -- an item has bytes
 not_none : (i : Item) (r : List ℕ) → item_bytes i ++ r ≡ [] → ⊥
@@ -83,28 +75,11 @@ front_of_record file items front is (inr begins) =
 abbrev Stays : (List Item → Option ℕ) → Type 0
 Stays unfit = (front more : List Item) (step : ℕ) → unfit front ≡ Some step → unfit (front ++ more) ≡ Some step
 
-kernel_same : (schedule : List ℕ) (s : KernelAlone) (items : List Item) (step : ℕ) → s.unfit ≡ Some step →
-    (kernel_taken schedule s items).unfit ≡ Some step
-unfolding kernel_taken take_kernel_item
-kernel_same schedule s [] step is = is
-kernel_same schedule s (i ∷ items) step is = kernel_same schedule (take_kernel_item schedule s i) items step (rw is refl)
+viewed_stays : (k : KernelImage) → Stays (viewed_unfit k)
+viewed_stays k = kernel_stays k.schedule (opened_kernel k)
 
-kernel_stays : (k : KernelImage) → Stays (viewed_unfit k)
-kernel_stays k front more step is =
-    ap (λ (s : KernelAlone). s.unfit) (kernel_append k.schedule (opened_kernel k) front more)
-    ∙ kernel_same k.schedule (kernel_alone k front) more step is
-
-program_same : (d : ℕ) (schedule : List ℕ) (s : DomainAlone) (items : List Item) (step : ℕ) → s.unfit ≡ Some step →
-    (domain_taken d schedule s items).unfit ≡ Some step
-unfolding domain_taken take_domain_item
-program_same d schedule s [] step is = is
-program_same d schedule s (i ∷ items) step is =
-    program_same d schedule (take_domain_item d schedule s i) items step (rw is refl)
-
-program_stays : (d : ℕ) (k : KernelImage) (p : Program) → Stays (program_unfit d k p)
-program_stays d k p front more step is =
-    ap (λ (s : DomainAlone). s.unfit) (taken_append d k.schedule (opened_domain d p) front more)
-    ∙ program_same d k.schedule (domain_alone d k.schedule p front) more step is
+solo_stays : (d : ℕ) (k : KernelImage) (p : Program) → Stays (program_unfit d k p)
+solo_stays d k p = program_stays d k.schedule (opened_domain d p)
 
 -- How reading ends.
 
@@ -262,7 +237,7 @@ viewed {S} {O} n r b items answer before after low file there fits nothing has =
     let bundle = same_bundle (before.files.held n) file.bytes b has.bundle file.told file.is
     (subst (λ (x : List ℕ). IsInFile (before.files.held x) has.bundle) names.0 has.asks.file) in
     shows_all (viewed_unfit b.kernel) (viewed_text b.kernel) r items answer before after there
-    (record { is = there.is; fits = fits; stays = kernel_stays b.kernel; low = low; same = nothing.reading }) has.only.held
+    (record { is = there.is; fits = fits; stays = viewed_stays b.kernel; low = low; same = nothing.reading }) has.only.held
     (subst (λ (x : List ℕ). ReadsRecord (viewed_unfit b.kernel) (viewed_text b.kernel) x answer before after) names.1
     (subst (λ (x : Bundle). ReadsRecord (viewed_unfit x.kernel) (viewed_text x.kernel) has.record_name answer before after)
     bundle has.reads))
@@ -349,7 +324,7 @@ soloed {S} {O} d n r b p items answer before after low file has_p there fits not
     let both : Some has.p ≡ Some p = sym theirs ∙ has_p in
     let program : has.p ≡ p = cc in
     shows_all (program_unfit d b.kernel p) (program_text d b.kernel p) r items answer before after there
-    (record { is = there.is; fits = fits; stays = program_stays d b.kernel p; low = low; same = nothing.reading })
+    (record { is = there.is; fits = fits; stays = solo_stays d b.kernel p; low = low; same = nothing.reading })
     has.only.held
     (subst (λ (x : List ℕ). ReadsRecord (program_unfit d b.kernel p) (program_text d b.kernel p) x answer before after)
     names.2

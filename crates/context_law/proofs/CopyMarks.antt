@@ -6,7 +6,7 @@ use Rattle.std.proofs.Common.{◌≡◌, inl, ℕ, ◌%◌, Bool, false, List, [
 use Rattle.cloak_base.specs.declared.names.PageId.{PageId}
 use Rattle.cloak_model.specs.declared.answer.Answer.{Answer}
 use Rattle.cloak_model.specs.declared.answer.Answer.TheVariants as told
-use Rattle.cloak_model.specs.declared.context.WordPlace.{WordPlace}
+use Rattle.cloak_model.specs.declared.context.PageWord.{PageWord}
 use Rattle.cloak_model.specs.declared.item.Item.{Item}
 use Rattle.cloak_model.specs.declared.item.Item.TheVariants as item
 use Rattle.cloak_model.specs.AskPages.{answer_item}
@@ -28,7 +28,7 @@ use Rattle.context_law.proofs.InstructionMarks.{writes_word}
 
 pub record CopyDeed (n : ℕ) (c : Context) (moves : List Item → List Move) (answers : List Item) (after : Copy) : Type 0
   where
-    pub stores : (word : WordPlace) → word.at % 4 ≡ 0 → writes_word word after.wrote ≡ false →
+    pub stores : (word : PageWord) → word.at % 4 ≡ 0 → writes_word word after.wrote ≡ false →
         Misses n word (moves answers)
     pub mark : after.context.mark ≡ c.mark
 
@@ -84,7 +84,7 @@ module _ (d : Control) (plain : PageId → List ℕ) (c : Context) where
   -- Out of the area.
 
   still : (moves : List Item → List Move) (answers : List Item) (after : Copy) → after.context.mark ≡ c.mark →
-      ((word : WordPlace) → Misses d.number word (moves answers)) → CopyDeed d.number c moves answers after
+      ((word : PageWord) → Misses d.number word (moves answers)) → CopyDeed d.number c moves answers after
   still moves answers after same none = record { stores = λ word aligned free. none word; mark = same }
 
   out_reached_deed : (q : PageId) (done total byte : ℕ) (a : Answer) →

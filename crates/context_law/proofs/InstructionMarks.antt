@@ -13,7 +13,7 @@ use Rattle.rv_atomic.specs.declared.atomic.AtomicOp.{AtomicOp}
 use Rattle.rv_atomic.specs.declared.atomic.AtomicOp.TheVariants.{Lr, Sc}
 use Rattle.cloak_model.specs.declared.answer.Answer.{Answer}
 use Rattle.cloak_model.specs.declared.answer.Answer.TheVariants as told
-use Rattle.cloak_model.specs.declared.context.WordPlace.{WordPlace}
+use Rattle.cloak_model.specs.declared.context.PageWord.{PageWord}
 use Rattle.cloak_model.specs.declared.inside.Ran.TheVariants as ran
 use Rattle.cloak_model.specs.declared.item.Item.{Item}
 use Rattle.cloak_model.specs.declared.item.Item.TheVariants as item
@@ -45,7 +45,7 @@ use Rattle.context_law.proofs.Others.{Misses, misses_if, ecall_misses}
 use Rattle.latest_store.proofs.InstructionDeeds.{second_answer}
 
 -- the word was written in
-abbrev pub writes_word : WordPlace → Option WordPlace → Bool
+abbrev pub writes_word : PageWord → Option PageWord → Bool
 writes_word word None = false
 writes_word word (Some place) = same_word word place
 
@@ -56,12 +56,12 @@ if_reached reached answers = cond (both_granted answers) reached None
 -- An instruction, by what its program was told. At a hypercall nothing was done so far, and no answer lets it store.
 pub record DoneByInstruction (n : ℕ) (c : Context) (moves : List Item → List Move) (reached : Option Reached)
     (answers : List Item) (after : AfterInstruction) : Type 0 where
-  pub stores : (word : WordPlace) → word.at % 4 ≡ 0 → writes_word word after.wrote ≡ false →
+  pub stores : (word : PageWord) → word.at % 4 ≡ 0 → writes_word word after.wrote ≡ false →
       Misses n word (if_fetched moves answers)
-  pub mark : (word : WordPlace) → after.context.mark ≡ Some word →
+  pub mark : (word : PageWord) → after.context.mark ≡ Some word →
       (c.mark ≡ Some word) ⊎ (reserved_by (if_reached reached answers) ≡ Some word)
   pub same : after.ending ≡ ran.Ecall → after.context.mark ≡ c.mark
-  pub none : after.ending ≡ ran.Ecall → (final : List Item) (word : WordPlace) →
+  pub none : after.ending ≡ ran.Ecall → (final : List Item) (word : PageWord) →
       Misses n word (if_fetched moves final)
 
 abbrev Deed : ℕ → (PageId → List ℕ) → Context → (List Item → List Move) → Option Reached → List Item →
@@ -71,9 +71,9 @@ Deed n plain c moves reached answers s = EndsBy n (DoneByInstruction n c moves r
 -- it is no hypercall, and made no reservation
 ended : (n : ℕ) (c : Context) (moves : List Item → List Move) (reached : Option Reached) (answers : List Item)
     (after : AfterInstruction) →
-    ((word : WordPlace) → word.at % 4 ≡ 0 → writes_word word after.wrote ≡ false →
+    ((word : PageWord) → word.at % 4 ≡ 0 → writes_word word after.wrote ≡ false →
     Misses n word (if_fetched moves answers)) →
-    ((word : WordPlace) → after.context.mark ≡ Some word → c.mark ≡ Some word) → (after.ending ≡ ran.Ecall → ⊥) →
+    ((word : PageWord) → after.context.mark ≡ Some word → c.mark ≡ Some word) → (after.ending ≡ ran.Ecall → ⊥) →
     DoneByInstruction n c moves reached answers after
 ended n c moves reached answers after stores kept other = record {
   stores = stores;

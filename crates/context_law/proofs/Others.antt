@@ -13,7 +13,7 @@ use Rattle.rv_atomic.specs.declared.atomic.AtomicOp.{AtomicOp}
 use Rattle.rv_atomic.specs.declared.atomic.AtomicOp.TheVariants.{Lr, Sc}
 use Rattle.cloak_model.specs.declared.context.Phase.{Phase}
 use Rattle.cloak_model.specs.declared.context.Phase.TheVariants.{Plain, CopyIn, Waiting, CopyOut}
-use Rattle.cloak_model.specs.declared.context.WordPlace.{WordPlace}
+use Rattle.cloak_model.specs.declared.context.PageWord.{PageWord}
 use Rattle.cloak_model.specs.declared.item.Item.{Item}
 use Rattle.cloak_model.specs.declared.item.Item.TheVariants as item
 use Rattle.cloak_model.specs.declared.outcome.Effect.{Effect}
@@ -34,36 +34,36 @@ use Rattle.context_law.specs.Inside.{stores_in}
 use Rattle.context_law.proofs.Stores.{or_none, misses_domain}
 
 -- none of the moves stores in the word of the domain
-abbrev pub Misses : ℕ → WordPlace → List Move → Type 0
+abbrev pub Misses : ℕ → PageWord → List Move → Type 0
 Misses e word moves = list_any (stores_in e word) moves ≡ false
 
-pub misses_if : (e : ℕ) (word : WordPlace) (test : Bool) (moves : List Move) → Misses e word moves →
+pub misses_if : (e : ℕ) (word : PageWord) (test : Bool) (moves : List Move) → Misses e word moves →
     Misses e word (cond test moves [])
 misses_if e word true moves none = none
 misses_if e word false moves none = refl
 
 -- Hypercalls.
 
-made_misses : (e : ℕ) (word : WordPlace) (n : ℕ) (made : Result ℕ MapFault) → Misses e word (made_moves n made)
+made_misses : (e : ℕ) (word : PageWord) (n : ℕ) (made : Result ℕ MapFault) → Misses e word (made_moves n made)
 made_misses e word n (Ok k) = refl
 made_misses e word n (Err fault) = refl
 
-file_misses : (e : ℕ) (word : WordPlace) (d : Control) (c : Context) (place : Option ℕ) →
+file_misses : (e : ℕ) (word : PageWord) (d : Control) (c : Context) (place : Option ℕ) →
     Misses e word (file_moves d c place)
 file_misses e word d c None = made_misses e word d.number _
 file_misses e word d c (Some n) = refl
 
-copies_miss : (e : ℕ) (word : WordPlace) (n : ℕ) (list : List (ℕ × ℕ)) →
+copies_miss : (e : ℕ) (word : PageWord) (n : ℕ) (list : List (ℕ × ℕ)) →
     Misses e word (map (λ (copy : ℕ × ℕ). Copies n copy.0 copy.1) list)
 copies_miss e word n [] = refl
 copies_miss e word n (copy ∷ list) = copies_miss e word n list
 
-drops_miss : (e : ℕ) (word : WordPlace) (n : ℕ) (list : List ℕ) →
+drops_miss : (e : ℕ) (word : PageWord) (n : ℕ) (list : List ℕ) →
     Misses e word (map (λ (resource : ℕ). Drops n resource) list)
 drops_miss e word n [] = refl
 drops_miss e word n (resource ∷ list) = drops_miss e word n list
 
-hypercall_misses : (e : ℕ) (word : WordPlace) (h : Hypercall) (d : Control) (c : Context) (answers : List Item) →
+hypercall_misses : (e : ℕ) (word : PageWord) (h : Hypercall) (d : Control) (c : Context) (answers : List Item) →
     Misses e word (hypercall_moves h d c answers)
 unfolding hypercall_moves
 hypercall_misses e word New d c answers = made_misses e word d.number _
@@ -74,7 +74,7 @@ hypercall_misses e word Exit d c answers =
     misses_if e word (both_granted answers) _ (drops_miss e word d.number (private_numbers c.space d.resources))
 hypercall_misses e word _ d c answers = refl
 
-pub ecall_misses : (e : ℕ) (word : WordPlace) (d : Control) (c : Context) (i : Instr) (answers : List Item) →
+pub ecall_misses : (e : ℕ) (word : PageWord) (d : Control) (c : Context) (i : Instr) (answers : List Item) →
     Misses e word (ecall_moves d c i answers)
 unfolding ecall_moves
 ecall_misses e word d c instr.Ecall answers = hypercall_misses e word (hypercall_of c) d c answers
@@ -82,12 +82,12 @@ ecall_misses e word d c _ answers = refl
 
 -- Another domain's.
 
-pub load_misses : (e : ℕ) (word : WordPlace) (va width : ℕ) (place : Option PageId) →
+pub load_misses : (e : ℕ) (word : PageWord) (va width : ℕ) (place : Option PageId) →
     Misses e word (load_at va width place)
 load_misses e word va width None = refl
 load_misses e word va width (Some q) = refl
 
-module _ (e : ℕ) (word : WordPlace) (d : Control) (other : d.number ≢ e) where
+module _ (e : ℕ) (word : PageWord) (d : Control) (other : d.number ≢ e) where
   own_other : (q : PageId) → q.domain ≡ d.number → q.domain ≢ e
   own_other q own is = other (sym own ∙ is)
 

@@ -10,7 +10,7 @@ use Rattle.rv_atomic.specs.declared.atomic.AtomicOp.{AtomicOp}
 use Rattle.rv_atomic.specs.declared.atomic.AtomicOp.TheVariants.{Sc}
 use Rattle.cloak_model.specs.declared.context.Phase.{Phase}
 use Rattle.cloak_model.specs.declared.context.Phase.TheVariants.{Plain, CopyIn, Waiting, CopyOut}
-use Rattle.cloak_model.specs.declared.context.WordPlace.{WordPlace}
+use Rattle.cloak_model.specs.declared.context.PageWord.{PageWord}
 use Rattle.cloak_model.specs.declared.image.Bundle.{Bundle}
 use Rattle.cloak_model.specs.declared.image.Program.{Program}
 use Rattle.cloak_model.specs.declared.item.Item.{Item}
@@ -29,7 +29,7 @@ use Rattle.kernel_isolation.specs.Isolation.{joint_until}
 use Rattle.kernel_isolation.proofs.FilesAdded.{IsGiven, KeepsDomainIf, given_keeps}
 use Rattle.kernel_isolation.proofs.Isolated.{until_read, of_opened}
 use Rattle.resource_map.proofs.Lists.{get_or-replicate_none}
-use Rattle.frozen_state.specs.Limits.{IsWordPlace, IsContext, KeepsLimits}
+use Rattle.frozen_state.specs.Limits.{IsPageWord, IsContext, KeepsLimits}
 use Rattle.limit_law.proofs.Runs.{runs_keep_limits}
 use Rattle.limit_law.proofs.Openings.{begins}
 use Rattle.page_law.specs.Ciphers.{items_of_turn}
@@ -48,7 +48,7 @@ use Rattle.context_law.proofs.TurnMarks.{mark_in, marks_in, MarksAfter, step_mar
 
 -- The opening: no context has a reservation.
 
-none_started : (pc sp k : ℕ) (word : WordPlace) → mark_at (started_contexts pc sp) k ≡ Some word → ⊥
+none_started : (pc sp k : ℕ) (word : PageWord) → mark_at (started_contexts pc sp) k ≡ Some word → ⊥
 unfolding started_contexts
 none_started pc sp zero word is = cc
 none_started pc sp (suc k) word is =
@@ -56,7 +56,7 @@ none_started pc sp (suc k) word is =
     let gone : mark_at (replicate 7 None) k ≡ None = ap mark_of none in
     cc
 
-none_begun : (e : ℕ) (programs : List Program) (d k : ℕ) (word : WordPlace) →
+none_begun : (e : ℕ) (programs : List Program) (d k : ℕ) (word : PageWord) →
     marks_in (started_domains e programs) d k ≡ Some word → ⊥
 unfolding started_domain started_control
 none_begun e [] zero k word is = cc
@@ -65,7 +65,7 @@ none_begun e (p ∷ programs) zero k word is = none_started p.start.entry p.star
 none_begun e (p ∷ programs) (suc d) k word is = none_begun (e + 1) programs d k word is
 
 abbrev HasNone : Joint → Type 0
-HasNone j = (d k : ℕ) (word : WordPlace) → marks_in j.domains d k ≡ Some word → ⊥
+HasNone j = (d k : ℕ) (word : PageWord) → marks_in j.domains d k ≡ Some word → ⊥
 
 none_joint : (b : Bundle) (m : CloakedMemory) → HasNone (started_joint b m)
 unfolding started_joint
@@ -126,11 +126,11 @@ run_step b from budget o opens n low agrees =
 
 -- each reservation is of such a word
 abbrev AreAligned : Run → Type 0
-AreAligned r = (n d k : ℕ) (word : WordPlace) → marks_in (joint_until n r).domains d k ≡ Some word → word.at % 4 ≡ 0
+AreAligned r = (n d k : ℕ) (word : PageWord) → marks_in (joint_until n r).domains d k ≡ Some word → word.at % 4 ≡ 0
 
 abbrev AreKept : Bundle → Beginning → Run → ℕ → Type 0
 AreKept b from r n =
-    (d k : ℕ) (word : WordPlace) → marks_in (joint_until n r).domains d k ≡ Some word →
+    (d k : ℕ) (word : PageWord) → marks_in (joint_until n r).domains d k ≡ Some word →
     (k < 8) × WasReservedInside b from r n (context_number d k) word
 
 own_domain : (d k : ℕ) → k < 8 → domain_of (context_number d k) ≡ d
@@ -141,7 +141,7 @@ whole_number : (ctx : ℕ) → context_number (domain_of ctx) (slot_of ctx) ≡ 
 whole_number ctx = omega arith
 
 -- one more step, in which the word was not stored
-still_reserved : (b : Bundle) (from : Beginning) (r : Run) (n ctx : ℕ) (word : WordPlace) →
+still_reserved : (b : Bundle) (from : Beginning) (r : Run) (n ctx : ℕ) (word : PageWord) →
     WasReservedInside b from r n ctx word →
     Misses (domain_of ctx) word (moves_of_step b from r n) → WasReservedInside b from r (suc n) ctx word
 still_reserved b from r n ctx word was misses =
@@ -159,14 +159,14 @@ still_reserved b from r n ctx word was misses =
       ];
     }
 
-no_moves : (history : List Move) (domains : List Domain) (items : List Item) (d : ℕ) (word : WordPlace) →
+no_moves : (history : List Move) (domains : List Domain) (items : List Item) (d : ℕ) (word : PageWord) →
     Misses d word (step_moves history domains None items)
 unfolding step_moves
 no_moves history domains items d word = refl
 
 module _ (b : Bundle) (from : Beginning) (r : Run) (n : ℕ) (kept : AreKept b from r n) (aligned : AreAligned r) where
   -- the reservation stood before, and no move of the step stores in its word
-  stands : (inside : Option ℕ) → context_of_step b r n ≡ inside → (d k : ℕ) (word : WordPlace) →
+  stands : (inside : Option ℕ) → context_of_step b r n ≡ inside → (d k : ℕ) (word : PageWord) →
       marks_in (joint_until n r).domains d k ≡ Some word →
       Misses d word
       (step_moves (history_until b from n r) (joint_until n r).domains inside (items_of_turn (slice_get r.turns n))) →
@@ -232,17 +232,17 @@ all_kept b from r known aligned agrees (suc n) low d k word is =
 
 -- Places of words.
 
-place_aligned : (o : Option WordPlace) (word : WordPlace) → IfSome o IsWordPlace → o ≡ Some word → word.at % 4 ≡ 0
+place_aligned : (o : Option PageWord) (word : PageWord) → IfSome o IsPageWord → o ≡ Some word → word.at % 4 ≡ 0
 place_aligned None word here is = absurd cc
 place_aligned (Some place) word here is =
-    let same : place ≡ word = cc in subst (λ (x : WordPlace). x.at % 4 ≡ 0) same here.aligned
+    let same : place ≡ word = cc in subst (λ (x : PageWord). x.at % 4 ≡ 0) same here.aligned
 
-context_aligned : (r : _) (o : Option Context) (word : WordPlace) → IfSome o (IsContext r) → mark_of o ≡ Some word →
+context_aligned : (r : _) (o : Option Context) (word : PageWord) → IfSome o (IsContext r) → mark_of o ≡ Some word →
     word.at % 4 ≡ 0
 context_aligned r None word here is = absurd cc
 context_aligned r (Some c) word here is = place_aligned c.mark word here.steady.mark is
 
-program_aligned : (o : Option Domain) (k : ℕ) (word : WordPlace) →
+program_aligned : (o : Option Domain) (k : ℕ) (word : PageWord) →
     ((program : Domain) → o ≡ Some program → KeepsLimits program.control) → mark_in o k ≡ Some word → word.at % 4 ≡ 0
 program_aligned None k word limits is = absurd cc
 program_aligned (Some program) k word limits is =
@@ -272,35 +272,35 @@ contexts_keep_reservations b from budget r grammar begins runs n low d slot prog
 
 -- SC stores the word that its context had reserved.
 
-same_place : (x y : WordPlace) → x.resource ≡ y.resource → x.page ≡ y.page → x.at ≡ y.at → x ≡ y
+same_place : (x y : PageWord) → x.resource ≡ y.resource → x.page ≡ y.page → x.at ≡ y.at → x ≡ y
 same_place x y a b c = λ i. record { resource = a i; page = b i; at = c i }
 
-one_word : (x y : WordPlace) → same_word x y ≡ true → x ≡ y
+one_word : (x y : PageWord) → same_word x y ≡ true → x ≡ y
 one_word x y is =
     let parts = and_parts (nat_eq x.resource y.resource) (nat_eq x.page y.page && nat_eq x.at y.at) is in
     let rest = and_parts (nat_eq x.page y.page) (nat_eq x.at y.at) parts.1 in
     same_place x y (eqb-true x.resource y.resource parts.0) (eqb-true x.page y.page rest.0)
     (eqb-true x.at y.at rest.1)
 
-reserved_place : (place : WordPlace) (mark : Option WordPlace) → is_reserved place mark ≡ true → mark ≡ Some place
+reserved_place : (place : PageWord) (mark : Option PageWord) → is_reserved place mark ≡ true → mark ≡ Some place
 reserved_place place None is = absurd cc
-reserved_place place (Some x) is = ap (λ (y : WordPlace). Some y) (one_word x place is)
+reserved_place place (Some x) is = ap (λ (y : PageWord). Some y) (one_word x place is)
 
-conditional_mark : (test : Bool) (place : WordPlace) (mark : Option WordPlace) (word : WordPlace) →
+conditional_mark : (test : Bool) (place : PageWord) (mark : Option PageWord) (word : PageWord) →
     is_reserved place mark ≡ test → cond test (Some place) None ≡ Some word → mark ≡ Some word
 conditional_mark true place mark word test is = reserved_place place mark test ∙ is
 conditional_mark false place mark word test is = absurd cc
 
-stored_mark : (op : AtomicOp) (place : WordPlace) (mark : Option WordPlace) (word : WordPlace) →
+stored_mark : (op : AtomicOp) (place : PageWord) (mark : Option PageWord) (word : PageWord) →
     stored_with op place mark ≡ Some word → mark ≡ Some word
 stored_mark Sc place mark word is = conditional_mark (is_reserved place mark) place mark word refl is
 stored_mark _ place mark word is = absurd cc
 
 -- an atomic instruction that stores so is of a context with this reservation
-abbrev StoresOwn : Option WordPlace → Option Reached → Type 0
-StoresOwn mark reached = (word : WordPlace) → stored_by reached ≡ Some word → mark ≡ Some word
+abbrev StoresOwn : Option PageWord → Option Reached → Type 0
+StoresOwn mark reached = (word : PageWord) → stored_by reached ≡ Some word → mark ≡ Some word
 
-own_if : (test : Bool) (mark : Option WordPlace) (reached : Option Reached) → StoresOwn mark reached →
+own_if : (test : Bool) (mark : Option PageWord) (reached : Option Reached) → StoresOwn mark reached →
     StoresOwn mark (cond test reached None)
 own_if true mark reached own word is = own word is
 own_if false mark reached own word is = absurd cc

@@ -5,7 +5,7 @@ use Rattle.cloak_base.specs.declared.names.PageId.{PageId}
 use Rattle.cloak_model.specs.declared.context.Phase.{Phase}
 use Rattle.cloak_model.specs.declared.context.Phase.TheVariants.{Plain, CopyIn, Waiting, CopyOut}
 use Rattle.cloak_model.specs.declared.context.ResumeFault.{ResumeFault}
-use Rattle.cloak_model.specs.declared.context.WordPlace.{WordPlace}
+use Rattle.cloak_model.specs.declared.context.PageWord.{PageWord}
 use Rattle.cloak_model.specs.declared.inside.Copied.{Copied}
 use Rattle.cloak_model.specs.declared.inside.Copied.TheVariants as copied
 use Rattle.cloak_model.specs.declared.inside.Ran.{Ran}
@@ -35,7 +35,7 @@ use Rattle.context_law.proofs.CopyMarks.{CopyDeed, copy_in_deed, copy_out_deed}
 use Rattle.context_law.proofs.HypercallMarks.{hypercall_one}
 
 -- A reservation that a context of this slot makes, or that stood before in a word in which no move stores.
-abbrev pub Origin : ℕ → ℕ → List (Option Context) → Option Reached → List Move → ℕ → WordPlace → Type 0
+abbrev pub Origin : ℕ → ℕ → List (Option Context) → Option Reached → List Move → ℕ → PageWord → Type 0
 Origin n slot contexts reached moves k word =
     ((k ≡ slot) × (reserved_by reached ≡ Some word))
     ⊎ ((mark_at contexts k ≡ Some word) × Misses n word moves)
@@ -45,19 +45,19 @@ pub record Stepping (slot : ℕ) (d : Domain) (moves : List Item → List Move) 
     (t : Told DomainStepped) : Type 0 where
   pub answers : List Item
   pub told : inward_half d.control.number (items_of t.world) ≡ answers
-  pub marks : (k : ℕ) (word : WordPlace) → word.at % 4 ≡ 0 →
+  pub marks : (k : ℕ) (word : PageWord) → word.at % 4 ≡ 0 →
       mark_at t.answer.domain.control.contexts k ≡ Some word →
       Origin d.control.number slot d.control.contexts (reached answers) (moves answers) k word
 
-same_one : (slot : ℕ) (mark : Option WordPlace) (contexts : List (Option Context)) → OneMore slot mark contexts contexts
+same_one : (slot : ℕ) (mark : Option PageWord) (contexts : List (Option Context)) → OneMore slot mark contexts contexts
 same_one slot mark contexts k word is = inr is
 
 -- what was written in
-record LeftBy (wrote : Option WordPlace) (s : DomainStepped) (k : ℕ) (word : WordPlace) : Type 0 where
+record LeftBy (wrote : Option PageWord) (s : DomainStepped) (k : ℕ) (word : PageWord) : Type 0 where
   pub was : mark_at s.domain.control.contexts k ≡ Some word
   pub free : writes_word word wrote ≡ false
 
-left_by : (wrote : Option WordPlace) (s : DomainStepped) (k : ℕ) (word : WordPlace) →
+left_by : (wrote : Option PageWord) (s : DomainStepped) (k : ℕ) (word : PageWord) →
     mark_at (after_write wrote s).domain.control.contexts k ≡ Some word → LeftBy wrote s k word
 left_by None s k word is = record { was = is; free = refl }
 left_by (Some place) s k word is =
@@ -89,7 +89,7 @@ is_ecall _ = inr (λ is. cc)
 
 module _ (slot : ℕ) (d : Domain) (c : Context) (there : context_at d.control.contexts slot ≡ Some c) where
   -- the reservation of the context before
-  own_mark : (k : ℕ) (word : WordPlace) → k ≡ slot → c.mark ≡ Some word →
+  own_mark : (k : ℕ) (word : PageWord) → k ≡ slot → c.mark ≡ Some word →
       mark_at d.control.contexts k ≡ Some word
   own_mark k word at is = ap (mark_at d.control.contexts) at ∙ ap mark_of there ∙ is
 
@@ -145,9 +145,9 @@ module _ (slot : ℕ) (d : Domain) (c : Context) (there : context_at d.control.c
   copied_one k _ = set_one d.control.contexts slot (Some k)
 
   copied_marks : (moves : List Item → List Move) (reached : List Item → Option Reached) (t : Told Copy)
-      (deed : EndBy d.control.number (CopyDeed d.control.number c moves) t) (wrote : Option WordPlace) →
-      ((word : WordPlace) → word.at % 4 ≡ 0 → writes_word word wrote ≡ false →
-      Misses d.control.number word (moves deed.answers)) → (k : ℕ) (word : WordPlace) → word.at % 4 ≡ 0 →
+      (deed : EndBy d.control.number (CopyDeed d.control.number c moves) t) (wrote : Option PageWord) →
+      ((word : PageWord) → word.at % 4 ≡ 0 → writes_word word wrote ≡ false →
+      Misses d.control.number word (moves deed.answers)) → (k : ℕ) (word : PageWord) → word.at % 4 ≡ 0 →
       mark_at (after_write wrote (copy_ended slot d t.answer.context t.answer.ending)).domain.control.contexts k
       ≡ Some word →
       Origin d.control.number slot d.control.contexts (reached deed.answers) (moves deed.answers) k word

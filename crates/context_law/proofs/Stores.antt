@@ -3,7 +3,7 @@ use Rattle.std.proofs.Common.{◌≡◌, ◌≢◌, ◌∙◌, ◌⊎◌, inl, i
 use Rattle.std.specs.Prelude.{nat_eq, nat_lt}
 use Rattle.std.proofs.lemmas.Bool.{false≢true, and_parts, ltb-true, eqb-true}
 use Rattle.cloak_base.specs.declared.names.PageId.{PageId}
-use Rattle.cloak_model.specs.declared.context.WordPlace.{WordPlace}
+use Rattle.cloak_model.specs.declared.context.PageWord.{PageWord}
 use Rattle.cloak_model.specs.Contexts.{word_of_page, same_word}
 use Rattle.cloak_model.specs.Effect.{IsWidth}
 use Rattle.script_fold.proofs.Aligned.{IsAligned}
@@ -39,7 +39,7 @@ in_word va at width aligned (inr (inl two)) low high =
 in_word va at width aligned (inr (inr four)) low high =
     let w = four.0 in let even = four.1 in omega (arith, aligned, w, even, low, high)
 
-same_word_is : (word : WordPlace) (q : PageId) (va : ℕ) → q.resource ≡ word.resource → q.page ≡ word.page →
+same_word_is : (word : PageWord) (q : PageId) (va : ℕ) → q.resource ≡ word.resource → q.page ≡ word.page →
     word.at ≡ va % 4096 / 4 * 4 → same_word word (word_of_page q va) ≡ true
 same_word_is word q va resource page at =
     all (nat_eq word.resource q.resource) (nat_eq word.page q.page) (nat_eq word.at (va % 4096 / 4 * 4))
@@ -53,7 +53,7 @@ same_word_is word q va resource page at =
     all false b c p q r = absurd (false≢true p)
 
 -- it does not meet another word
-pub misses_word : (n : ℕ) (word : WordPlace) (q : PageId) (va width : ℕ) → word.at % 4 ≡ 0 → IsOnWord va width →
+pub misses_word : (n : ℕ) (word : PageWord) (q : PageId) (va width : ℕ) → word.at % 4 ≡ 0 → IsOnWord va width →
     same_word word (word_of_page q va) ≡ false → meets_place n word q (va % 4096) width ≡ false
 misses_word n word q va width aligned on other = false_if (meets_place n word q (va % 4096) width) (λ meets.
     let parts = and_parts (nat_eq q.domain n && (nat_eq q.resource word.resource && nat_eq q.page word.page))
@@ -67,7 +67,7 @@ misses_word n word q va width aligned on other = false_if (meets_place n word q 
     (eqb-true q.page word.page names.1) at))
 
 -- nor one of another domain
-pub misses_domain : (d : ℕ) (word : WordPlace) (q : PageId) (from width : ℕ) → q.domain ≢ d →
+pub misses_domain : (d : ℕ) (word : PageWord) (q : PageId) (from width : ℕ) → q.domain ≢ d →
     meets_place d word q from width ≡ false
 misses_domain d word q from width other =
     ap (λ (b : Bool). (b && (nat_eq q.resource word.resource && nat_eq q.page word.page)) && reaches from width word.at)

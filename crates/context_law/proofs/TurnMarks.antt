@@ -6,7 +6,7 @@ use Rattle.std.proofs.lemmas.List.Elements.{filter-append}
 use Rattle.cloak_base.specs.declared.causes.Shown.{Shown}
 use Rattle.cloak_base.specs.declared.causes.Violation.{Violation}
 use Rattle.cloak_model.specs.declared.context.ResumeFault.{ResumeFault}
-use Rattle.cloak_model.specs.declared.context.WordPlace.{WordPlace}
+use Rattle.cloak_model.specs.declared.context.PageWord.{PageWord}
 use Rattle.cloak_model.specs.declared.inside.Went.{Went}
 use Rattle.cloak_model.specs.declared.inside.Went.TheVariants as went
 use Rattle.cloak_model.specs.declared.item.Item.{Item}
@@ -38,24 +38,24 @@ use Rattle.context_law.specs.Inside.{Reached, reserved_by, stores_in, context_re
 use Rattle.context_law.proofs.Marks.{mark_of, mark_at, NoMore}
 use Rattle.context_law.proofs.Others.{Misses, context_misses}
 use Rattle.context_law.proofs.StepMarks.{Origin, Stepping, step_stepping, interrupt_none, resume_none}
-use Rattle.latest_store.proofs.Turned.{timer_phase, silent_phase, timer_told}
+use Rattle.latest_store.proofs.Turned.{timer_told, EndsSo, domain_ended_so, interrupt_ended_so, silent_none, timer_none}
 
 -- Programs.
 
-abbrev pub mark_in : Option Domain → ℕ → Option WordPlace
+abbrev pub mark_in : Option Domain → ℕ → Option PageWord
 mark_in None k = None
 mark_in (Some d) k = mark_at d.control.contexts k
 
 -- the reservation of the context of slot k of program d
-abbrev pub marks_in : List Domain → ℕ → ℕ → Option WordPlace
+abbrev pub marks_in : List Domain → ℕ → ℕ → Option PageWord
 marks_in domains d k = mark_in (slice_get domains d) k
 
 -- each reservation was there before
 abbrev pub NoneNew : List Domain → List Domain → Type 0
 NoneNew domains domains' =
-    (d k : ℕ) (word : WordPlace) → marks_in domains' d k ≡ Some word → marks_in domains d k ≡ Some word
+    (d k : ℕ) (word : PageWord) → marks_in domains' d k ≡ Some word → marks_in domains d k ≡ Some word
 
-set_in : (domains : List Domain) (e : ℕ) (made : Domain) (d k : ℕ) (word : WordPlace) →
+set_in : (domains : List Domain) (e : ℕ) (made : Domain) (d k : ℕ) (word : PageWord) →
     marks_in (slice_set domains e made) d k ≡ Some word →
     ((e ≡ d) × (mark_at made.control.contexts k ≡ Some word)) ⊎ ((e ≢ d) × (marks_in domains d k ≡ Some word))
 set_in [] e made zero k word is = absurd cc
@@ -122,19 +122,19 @@ outside_none j number h d k word is = outside_ended_none _ number _ _ d k word i
 -- A hart inside.
 
 -- the context made the reservation
-pub record Reserves (ctx : ℕ) (reached : Option Reached) (d k : ℕ) (word : WordPlace) : Type 0 where
+pub record Reserves (ctx : ℕ) (reached : Option Reached) (d k : ℕ) (word : PageWord) : Type 0 where
   pub domain : domain_of ctx ≡ d
   pub slot : slot_of ctx ≡ k
   pub by : reserved_by reached ≡ Some word
 
 -- it stood before, in a word in which no move stores
-pub record Stands (domains : List Domain) (moves : List Move) (d k : ℕ) (word : WordPlace) : Type 0 where
+pub record Stands (domains : List Domain) (moves : List Move) (d k : ℕ) (word : PageWord) : Type 0 where
   pub was : marks_in domains d k ≡ Some word
   pub unstored : Misses d word moves
 
 abbrev pub MarksBy : List Domain → ℕ → Option Reached → List Move → List Domain → Type 0
 MarksBy domains ctx reached moves domains' =
-    (d k : ℕ) (word : WordPlace) → word.at % 4 ≡ 0 → marks_in domains' d k ≡ Some word →
+    (d k : ℕ) (word : PageWord) → word.at % 4 ≡ 0 → marks_in domains' d k ≡ Some word →
     Reserves ctx reached d k word ⊎ Stands domains moves d k word
 
 -- by the program that is there, and what it was told
@@ -146,7 +146,7 @@ MarksTold history domains ctx found items domains' =
     domains'
 
 -- nothing that is stored by a program is of another one
-other_misses : (history : List Move) (domains : List Domain) (e slot d : ℕ) (word : WordPlace) (found : Option Domain)
+other_misses : (history : List Move) (domains : List Domain) (e slot d : ℕ) (word : PageWord) (found : Option Domain)
     (answers : List Item) → slice_get domains e ≡ found → AreFrom 0 domains → e ≢ d →
     Misses d word (program_moves found history slot answers)
 unfolding program_moves
@@ -161,7 +161,7 @@ module _ (history : List Move) (j : Joint) (ctx : ℕ) (found : Domain)
   where
     built : (made : Domain) (t : Turn) (answers : List Item) → inward_half (domain_of ctx) t.items ≡ answers →
         t.joint.domains ≡ slice_set j.domains (domain_of ctx) made →
-        ((k : ℕ) (word : WordPlace) → word.at % 4 ≡ 0 → mark_at made.control.contexts k ≡ Some word →
+        ((k : ℕ) (word : PageWord) → word.at % 4 ≡ 0 → mark_at made.control.contexts k ≡ Some word →
         Origin (domain_of ctx) (slot_of ctx) found.control.contexts
         (context_reached (context_at found.control.contexts (slot_of ctx)) history found.control answers)
         (context_moves (context_at found.control.contexts (slot_of ctx)) history found.control answers) k word) →
@@ -199,45 +199,12 @@ module _ (history : List Move) (j : Joint) (ctx : ℕ) (found : Domain)
         built made t answers told domains (λ k word aligned is.
         inr (none k word is, ap (list_any (stores_in (domain_of ctx) word)) nothing))
 
--- what is shown of a context is told to no program
-leave_told : (e : ℕ) (items : List Item) (s : Shown) → inward_half e (items ++ item.Leave s ∷ []) ≡ inward_half e items
-leave_told e items s = filter-append (is_inward e) items (item.Leave s ∷ []) ∙ append-nil (inward_half e items)
-
-record EndsSo (e : ℕ) (j : Joint) (items : List Item) (t : Turn) : Type 0 where
-  pub told : inward_half e t.items ≡ inward_half e items
-  pub domains : t.joint.domains ≡ j.domains
-
-domain_ended_so : (e : ℕ) (j : Joint) (number : ℕ) (h : Hart) (d : ℕ) (w : World) (how : Went) →
-    EndsSo e j (items_of w) (domain_ended j number h d w how)
-unfolding domain_ended
-domain_ended_so e j number h d w (went.Leave s) = record { told = leave_told e (items_of w) s; domains = refl }
-domain_ended_so e j number h d w (went.SpaceGone space s) =
-    record { told = leave_told e (items_of w) s; domains = refl }
-domain_ended_so e j number h d w _ = record { told = refl; domains = refl }
-
-interrupt_ended_so : (e : ℕ) (j : Joint) (number : ℕ) (h : Hart) (items : List Item) (how : Went) →
-    EndsSo e j items (interrupt_ended j number h items how)
-unfolding interrupt_ended
-interrupt_ended_so e j number h items (went.Leave s) = record { told = leave_told e items s; domains = refl }
-interrupt_ended_so e j number h items _ = record { told = refl; domains = refl }
-
 -- if nothing or the timer is told of, nothing is done
-
-timer_nothing : (o : Option Context) (history : List Move) (d : Control) (e : ℕ) →
-    context_moves o history d (item.Timer e ∷ []) ≡ []
-unfolding context_moves
-timer_nothing None history d e = refl
-timer_nothing (Some c) history d e = timer_phase c.phase history d c e
-
-silent_context : (o : Option Context) (history : List Move) (d : Control) → context_moves o history d [] ≡ []
-unfolding context_moves
-silent_context None history d = refl
-silent_context (Some c) history d = silent_phase c.phase history d c
 
 silent_program : (o : Option Domain) (history : List Move) (slot : ℕ) → program_moves o history slot [] ≡ []
 unfolding program_moves
 silent_program None history slot = refl
-silent_program (Some d) history slot = silent_context (context_at d.control.contexts slot) history d.control
+silent_program (Some d) history slot = silent_none (context_at d.control.contexts slot) history d.control
 
 -- a step of its context
 stepped_marks : (history : List Move) (j : Joint) (number : ℕ) (h : Hart) (ctx : ℕ) (found : Domain)
@@ -261,7 +228,7 @@ stepped_marks history j number h ctx found t there own steps =
     steps.answers (ended.told ∙ subst (λ (n : ℕ). inward_half n (items_of t.world) ≡ steps.answers) own steps.told)
     ended.domains
     (subst (λ (n : ℕ).
-    (k : ℕ) (word : WordPlace) → word.at % 4 ≡ 0 → mark_at t.answer.domain.control.contexts k ≡ Some word →
+    (k : ℕ) (word : PageWord) → word.at % 4 ≡ 0 → mark_at t.answer.domain.control.contexts k ≡ Some word →
     Origin n (slot_of ctx) found.control.contexts (context_reached o history found.control steps.answers)
     (context_moves o history found.control steps.answers) k word) own steps.marks)
 
@@ -278,7 +245,7 @@ due_marks true history j number h ctx found there own agrees =
     quiet history j ctx found there own made (by_interrupt true j number h e (slot_of ctx) found)
     (item.Timer e ∷ []) (ended.told ∙ timer_told e) ended.domains
     (interrupt_none (slot_of ctx) found.control)
-    (timer_nothing (context_at found.control.contexts (slot_of ctx)) history found.control e)
+    (timer_none (context_at found.control.contexts (slot_of ctx)) history found.control e)
 due_marks false history j number h ctx found there own agrees =
     let e = domain_of ctx in
     let slot = slot_of ctx in
@@ -334,7 +301,7 @@ turn_marks history j number h (Some ctx) programs agrees =
     inside_marks history j number (ticked h) ctx _ refl programs agrees
 
 -- an ended domain has no contexts
-ended_none : (old : Domain) (k : ℕ) (word : WordPlace) → mark_at (ended_domain old).control.contexts k ≡ Some word → ⊥
+ended_none : (old : Domain) (k : ℕ) (word : PageWord) → mark_at (ended_domain old).control.contexts k ≡ Some word → ⊥
 unfolding ended_domain
 ended_none old k word is =
     let none : context_at (replicate 8 None) k ≡ None = get_or-replicate_none 8 k in

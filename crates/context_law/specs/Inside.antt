@@ -11,7 +11,7 @@ use Rattle.rv_atomic.specs.declared.atomic.AtomicOp.{AtomicOp}
 use Rattle.rv_atomic.specs.declared.atomic.AtomicOp.TheVariants.{Lr, Sc}
 use Rattle.cloak_model.specs.declared.context.Phase.{Phase}
 use Rattle.cloak_model.specs.declared.context.Phase.TheVariants.{Plain}
-use Rattle.cloak_model.specs.declared.context.WordPlace.{WordPlace}
+use Rattle.cloak_model.specs.declared.context.PageWord.{PageWord}
 use Rattle.cloak_model.specs.declared.image.Bundle.{Bundle}
 use Rattle.cloak_model.specs.declared.item.Item.{Item}
 use Rattle.cloak_model.specs.Beginning.{Beginning, IsBeginning}
@@ -30,8 +30,8 @@ use Rattle.latest_store.specs.LatestStore.{history_until}
 -- An atomic instruction that reached its word: its operation, the word, and what its context had reserved before.
 pub record Reached : Type 0 where
   pub op : AtomicOp
-  pub place : WordPlace
-  pub mark : Option WordPlace
+  pub place : PageWord
+  pub mark : Option PageWord
 
 -- an atomic instruction of a context
 abbrev pub atomic_reached : Control → Context → Option Atomic → Option Reached
@@ -78,37 +78,37 @@ moves_of_step b from r n =
 
 -- the word that LR reserves
 
-abbrev pub reserved_with : AtomicOp → WordPlace → Option WordPlace
+abbrev pub reserved_with : AtomicOp → PageWord → Option PageWord
 reserved_with Lr place = Some place
 reserved_with _ place = None
 
-abbrev pub reserved_by : Option Reached → Option WordPlace
+abbrev pub reserved_by : Option Reached → Option PageWord
 reserved_by None = None
 reserved_by (Some it) = reserved_with it.op it.place
 
 -- the word that SC stores: the one that its context has reserved
 
-abbrev pub stored_with : AtomicOp → WordPlace → Option WordPlace → Option WordPlace
+abbrev pub stored_with : AtomicOp → PageWord → Option PageWord → Option PageWord
 stored_with Sc place mark = if is_reserved place mark then Some place else None
 stored_with _ place mark = None
 
-abbrev pub stored_by : Option Reached → Option WordPlace
+abbrev pub stored_by : Option Reached → Option PageWord
 stored_by None = None
 stored_by (Some it) = stored_with it.op it.place it.mark
 
 -- This many bytes of a page, from a place on, include one of this word of a domain.
-abbrev pub meets_place : ℕ → WordPlace → PageId → ℕ → ℕ → Bool
+abbrev pub meets_place : ℕ → PageWord → PageId → ℕ → ℕ → Bool
 meets_place d word q from count =
     (nat_eq q.domain d && (nat_eq q.resource word.resource && nat_eq q.page word.page)) && (nat_lt from (word.at + 4) && nat_lt word.at (from + count))
 
 -- a move stores a byte of this word of a domain
-abbrev pub stores_in : ℕ → WordPlace → Move → Bool
+abbrev pub stores_in : ℕ → PageWord → Move → Bool
 stores_in d word (Stores q from width value) = meets_place d word q from width
 stores_in d word (Combines q at op operand) = meets_place d word q at 4
 stores_in d word _ = false
 
 -- The context reserved the word with LR, in a step before step n, and from then on to step n no step stored a byte of it.
-pub record WasReservedInside (b : Bundle) (from : Beginning) (r : Run) (n ctx : ℕ) (word : WordPlace) : Type 0 where
+pub record WasReservedInside (b : Bundle) (from : Beginning) (r : Run) (n ctx : ℕ) (word : PageWord) : Type 0 where
   pub step : ℕ
   pub before : suc step ≤ n
   pub own : context_of_step b r step ≡ Some ctx
@@ -121,14 +121,14 @@ pub record WasReservedInside (b : Bundle) (from : Beginning) (r : Run) (n ctx : 
 -- each reservation that a context has, at each moment, was made so and kept
 abbrev pub KeepsContextReservations : Bundle → Beginning → Run → Type 0
 KeepsContextReservations b from r =
-    (n : ℕ) → n ≤ length r.turns → (d slot : ℕ) (program : Domain) (c : Context) (word : WordPlace) →
+    (n : ℕ) → n ≤ length r.turns → (d slot : ℕ) (program : Domain) (c : Context) (word : PageWord) →
     slice_get (joint_until n r).domains d ≡ Some program → context_at program.control.contexts slot ≡ Some c →
     c.mark ≡ Some word → WasReservedInside b from r n (context_number d slot) word
 
 -- SC stores only so
 abbrev pub StoresOnlyReservedInside : Bundle → Beginning → Run → Type 0
 StoresOnlyReservedInside b from r =
-    (n ctx : ℕ) (word : WordPlace) → suc n ≤ length r.turns → context_of_step b r n ≡ Some ctx →
+    (n ctx : ℕ) (word : PageWord) → suc n ≤ length r.turns → context_of_step b r n ≡ Some ctx →
     stored_by (reached_of_step b from r n) ≡ Some word → WasReservedInside b from r n ctx word
 
 -- The laws: every run of an image in the grammar does, from whatever beginning.

@@ -45,16 +45,16 @@ translate_flat satp a s =
     ap (λ (told : Told Walk). (ask_in_ram a told.answer told.world).world) (ask_walk-flat satp a s)
     ∙ inside_flat a (walk s.ram satp a) s
 
-loaded_flat : (satp : ℕ) (a : Access) (width : ℕ) (found : Result ℕ ℕ) (s : Seen) →
+loaded_flat : (satp : ℕ) (a : Access) (width : ℕ) (found : Walk) (s : Seen) →
     (loaded_at satp a width found (Flat s)).world ≡ Flat s
 unfolding loaded_at ask_value
 loaded_flat satp a width (Err cause) s = refl
-loaded_flat satp a width (Ok pa) s = refl
+loaded_flat satp a width (Ok walked) s = refl
 
 load_flat : (satp : ℕ) (a : Access) (width : ℕ) (s : Seen) → (ask_load satp a width (Flat s)).world ≡ Flat s
 unfolding ask_load ask_led
 load_flat satp a width s =
-    let found : Result ℕ ℕ = (ask_translate satp a (Flat s)).answer in
+    let found : Walk = (ask_translate satp a (Flat s)).answer in
     ap (λ (w : World). (loaded_at satp a width found w).world) (translate_flat satp a s)
     ∙ loaded_flat satp a width found s
 

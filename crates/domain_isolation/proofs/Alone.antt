@@ -15,27 +15,27 @@ use Rattle.cloak_model.specs.Contexts.{domain_of, slot_of}
 use Rattle.cloak_model.specs.DomainState.{Domain}
 use Rattle.cloak_model.specs.DomainStep.{domain_script, domain_step, DomainStepped, interrupt, resume_slot}
 use Rattle.cloak_model.specs.DomainAlone as alone
-use Rattle.cloak_model.specs.DomainAlone.{DomainAlone, DomainPlace, Between, Other, Running, Done, Stopped, Over, Wants, tried, try_with, handed_of, is_stopped, domain_taken, take_domain_item, domain_takes, take_domain_step, domain_step_ended, domain_step_begun, slot_on, place_for, take_answer, answered_by, made_by, take_timer, take_resume, resumed_by, is_granted, with_control}
+use Rattle.cloak_model.specs.DomainAlone.{DomainAlone, DomainStage, Between, Other, Running, Done, Stopped, Over, Wants, tried, try_with, handed_of, is_stopped, domain_taken, take_domain_item, domain_takes, take_domain_step, domain_step_ended, domain_step_begun, slot_on, stage_for, take_answer, answered_by, made_by, take_timer, take_resume, resumed_by, is_granted, with_control}
 use Rattle.cloak_model.specs.Script.{played}
 use Rattle.script_fold.proofs.StepScripts.{step_scripted}
 use Rattle.domain_isolation.proofs.Answers.{alone_with, IsServing}
 use Rattle.domain_isolation.proofs.Played.{answers_of, answer_items, last_stopped, last_any, played_alone, played_short}
 use Rattle.domain_isolation.proofs.Ignoring.{item_taken}
 
--- the machine alone with this part, at this place, with no item unfit
-abbrev pub alone_at : DomainPart → ℕ → DomainPlace → DomainAlone
-alone_at p n place = record { part = p; steps = n; place = place; unfit = None }
+-- the machine alone with this part, at this stage, with no item unfit
+abbrev pub alone_at : DomainPart → ℕ → DomainStage → DomainAlone
+alone_at p n stage = record { part = p; steps = n; stage = stage; unfit = None }
 
 -- the step that is open has ended
 abbrev pub ended : DomainAlone → DomainAlone
-ended s = domain_step_ended s.place s
+ended s = domain_step_ended s.stage s
 
 -- It has this part, and is between two steps, unless the run was stopped.
 pub record RestsAt (s : DomainAlone) (p : DomainPart) (stops : Bool) : Type 0 where
   pub steps : ℕ
-  pub place : DomainPlace
-  pub is : s ≡ alone_at p steps place
-  pub between : stops ≡ false → place ≡ Between
+  pub stage : DomainStage
+  pub is : s ≡ alone_at p steps stage
+  pub between : stops ≡ false → stage ≡ Between
 
 -- It may take the end of the domain: in a step of another hart, or after what stopped its own.
 pub record OtherAt (s : DomainAlone) (p : DomainPart) : Type 0 where
@@ -62,19 +62,19 @@ unfolding made_by
 made_fits (Over p) s fits = fits
 made_fits _ s fits = absurd cc
 
-ended_fits : (place : DomainPlace) (s : DomainAlone) → (domain_step_ended place s).unfit ≡ None → s.unfit ≡ None
+ended_fits : (stage : DomainStage) (s : DomainAlone) → (domain_step_ended stage s).unfit ≡ None → s.unfit ≡ None
 unfolding domain_step_ended
 ended_fits (Running slot answers) s fits = made_fits (try_with slot answers s.part) s fits
 ended_fits _ s fits = fits
 
-step_again : (schedule : List ℕ) (k : ℕ) (place : DomainPlace) (s : DomainAlone) → s.place ≡ place →
-    (domain_step_ended place s).place ≡ Between →
-    take_domain_step schedule k place s ≡ take_domain_step schedule k (domain_step_ended place s).place
-    (domain_step_ended place s)
+step_again : (schedule : List ℕ) (k : ℕ) (stage : DomainStage) (s : DomainAlone) → s.stage ≡ stage →
+    (domain_step_ended stage s).stage ≡ Between →
+    take_domain_step schedule k stage s ≡ take_domain_step schedule k (domain_step_ended stage s).stage
+    (domain_step_ended stage s)
 unfolding domain_step_ended take_domain_step
-step_again schedule k Between s is rests = ap (λ (place : DomainPlace). take_domain_step schedule k place s) (sym rests)
+step_again schedule k Between s is rests = ap (λ (stage : DomainStage). take_domain_step schedule k stage s) (sym rests)
 step_again schedule k (Running slot answers) s is rests =
-    ap (λ (place : DomainPlace). take_domain_step schedule k place (made_by (try_with slot answers s.part) s))
+    ap (λ (stage : DomainStage). take_domain_step schedule k stage (made_by (try_with slot answers s.part) s))
     (sym rests)
 step_again schedule k Stopped s is rests = absurd (let clash : Stopped ≡ Between = sym is ∙ rests in cc)
 step_again schedule k _ s is rests = refl
@@ -88,21 +88,21 @@ unfolding domain_taken domain_takes
 from_ended d schedule k items s p n is =
     let fits : (ended s).unfit ≡ None = ap (λ (t : DomainAlone). t.unfit) is in
     ap (λ (t : DomainAlone). domain_taken d schedule t items)
-    (item_taken d schedule s (item.Step k) (ended_fits s.place s fits)
-    ∙ step_again schedule k s.place s refl (ap (λ (t : DomainAlone). t.place) is)
-    ∙ ap (λ (t : DomainAlone). take_domain_step schedule k t.place t) is
+    (item_taken d schedule s (item.Step k) (ended_fits s.stage s fits)
+    ∙ step_again schedule k s.stage s refl (ap (λ (t : DomainAlone). t.stage) is)
+    ∙ ap (λ (t : DomainAlone). take_domain_step schedule k t.stage t) is
     ∙ sym (item_taken d schedule (alone_at p n Between) (item.Step k) refl))
 
 -- it begins by the hart whose turn it is
 pub begins : (d : ℕ) (schedule : List ℕ) (k : ℕ) (items : List Item) (p : DomainPart) (n : ℕ) →
     let hart = slice_index schedule (k % length schedule) in
     domain_taken d schedule (alone_at p n Between) (item.Step (suc k) ∷ items)
-    ≡ domain_taken d schedule (alone_at p (suc k) (place_for hart (slot_on hart 0 p.domain.control.contexts))) items
+    ≡ domain_taken d schedule (alone_at p (suc k) (stage_for hart (slot_on hart 0 p.domain.control.contexts))) items
 unfolding domain_taken take_domain_item domain_takes take_domain_step domain_step_ended domain_step_begun
 begins d schedule k items p n =
     let before : suc k - 1 ≡ k = omega arith in
     ap (λ (i : ℕ). let hart = slice_index schedule (i % length schedule) in
-    domain_taken d schedule (alone_at p (suc k) (place_for hart
+    domain_taken d schedule (alone_at p (suc k) (stage_for hart
     (slot_on hart 0 p.domain.control.contexts))) items) before
 
 -- Close ends it
@@ -111,7 +111,7 @@ pub closes : (d : ℕ) (schedule : List ℕ) (k : ℕ) (s : DomainAlone) (p : Do
     domain_taken d schedule s (item.Close k ∷ []) ≡ ended s
 unfolding domain_taken domain_takes
 closes d schedule k s p stops rests =
-    item_taken d schedule s (item.Close k) (ended_fits s.place s (ap (λ (t : DomainAlone). t.unfit) rests.is))
+    item_taken d schedule s (item.Close k) (ended_fits s.stage s (ap (λ (t : DomainAlone). t.unfit) rests.is))
 
 -- The steps of other harts.
 
@@ -119,7 +119,7 @@ closes d schedule k s p stops rests =
 pub other_rests : (d : ℕ) (schedule : List ℕ) (p : DomainPart) (k hart : ℕ) (stops : Bool) →
     RestsAt (ended (domain_taken d schedule (alone_at p k (Other hart)) [])) p stops
 unfolding domain_taken domain_step_ended
-other_rests d schedule p k hart stops = record { steps = k; place = Between; is = refl; between = λ goes. refl }
+other_rests d schedule p k hart stops = record { steps = k; stage = Between; is = refl; between = λ goes. refl }
 
 -- a context of its own is resumed
 pub resume_rests : (d : ℕ) (schedule : List ℕ) (p : DomainPart) (k hart ctx reply : ℕ) (stops : Bool) →
@@ -133,11 +133,11 @@ resume_rests d schedule p k hart ctx reply stops own granted =
     let r = resume_slot (slot_of ctx) hart reply p.domain.control in
     let after = alone_at (with_control r.control p) k Done in
     let taken : domain_taken d schedule s (item.Resume d ctx reply ∷ []) ≡ after =
-    same_number d (take_resume d s.place ctx reply s) s
+    same_number d (take_resume d s.stage ctx reply s) s
     ∙ ap (λ (b : Bool). cond b (resumed_by r s) (alone.domain_unfit s)) (eq-eqb (domain_of ctx) d own)
     ∙ ap (λ (b : Bool). cond b after (alone.domain_unfit s)) granted in
     subst (λ (t : DomainAlone). RestsAt (ended t) (with_control r.control p) stops) (sym taken)
-    (record { steps = k; place = Between; is = refl; between = λ goes. refl })
+    (record { steps = k; stage = Between; is = refl; between = λ goes. refl })
 
 -- The steps of its own contexts.
 
@@ -149,8 +149,8 @@ unfolding domain_taken take_domain_item domain_takes take_timer domain_step_ende
 timer_rests d schedule p k slot stops =
     let s = alone_at p k (Running slot []) in
     subst (λ (t : DomainAlone). RestsAt (ended t) (with_control (interrupt slot p.domain.control).control p) stops)
-    (sym (same_number d (take_timer s.place s) s))
-    (record { steps = k; place = Between; is = refl; between = λ goes. refl })
+    (sym (same_number d (take_timer s.stage s) s))
+    (record { steps = k; stage = Between; is = refl; between = λ goes. refl })
 
 -- the part of a domain in this world
 abbrev pub part_in : Domain → World → DomainPart
@@ -197,12 +197,12 @@ over_rests : (p : DomainPart) (k : ℕ) (stopped stops : Bool) → (stopped ≡ 
 unfolding domain_step_ended
 over_rests p k true stops stop = record {
   steps = k;
-  place = Stopped;
+  stage = Stopped;
   is = refl;
   between = λ goes.
       let clash : true ≡ false = sym (stop refl) ∙ goes in absurd cc;
 }
-over_rests p k false stops stop = record { steps = k; place = Between; is = refl; between = λ goes. refl }
+over_rests p k false stops stop = record { steps = k; stage = Between; is = refl; between = λ goes. refl }
 
 -- its answers, one by one, up to the last
 answers_taken : (schedule : List ℕ) (k slot : ℕ) (d : Domain) (w : World) → IsServing d.control.number w →
@@ -248,7 +248,7 @@ pub answers_rest : (schedule : List ℕ) (k slot : ℕ) (d : Domain) (w : World)
 unfolding domain_taken domain_step_ended made_by
 answers_rest schedule k slot d w serving stops [] is stop = record {
   steps = k;
-  place = Between;
+  stage = Between;
   is = ap (λ (r : alone.Tried). made_by r (alone_at (part_in d w) k (Running slot [])))
       (ap (λ (l : List Answer). try_with slot l (part_in d w)) is ∙ tried_all slot d w serving);
   between = λ goes. refl;

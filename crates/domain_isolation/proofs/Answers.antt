@@ -1,5 +1,5 @@
 -- Each question of a program, over the joint machine and over the program alone.
-use Rattle.std.proofs.Common.{◌≡◌, ◌≢◌, ◌∙◌, ◌+◌, ◌*◌, ◌%◌, ◌^◌, true, false, cond, zero, suc, ℕ, Bool, List, [], ◌∷◌, Result, Ok, Err, refl, ap, sym, subst, ne_eqb}
+use Rattle.std.proofs.Common.{◌≡◌, ◌≢◌, ◌∙◌, ◌+◌, ◌*◌, ◌%◌, ◌^◌, true, false, cond, zero, suc, ℕ, Bool, List, [], ◌∷◌, Ok, Err, refl, ap, sym, subst, ne_eqb}
 use mathlib.Core.Path.{fun_ext}
 use Rattle.std.specs.Prelude.{nat_eq, ◌&&◌, if◌then◌else◌}
 use Rattle.std.proofs.Math.Nat.{mod-mod}
@@ -8,15 +8,16 @@ use Rattle.cloak_base.specs.declared.names.Kind.{Kind}
 use Rattle.cloak_base.specs.declared.names.Kind.TheVariants.{Load, Store}
 use Rattle.cloak_base.specs.declared.names.PageId.{PageId}
 use Rattle.cloak_base.specs.Pages.{zero_page, same_page, is_of, page_in}
+use Rattle.cloak_model.specs.declared.access.Walked.{Walked}
 use Rattle.cloak_model.specs.declared.answer.Answer.{Answer}
 use Rattle.cloak_model.specs.declared.answer.Answer.TheVariants as told
-use Rattle.cloak_model.specs.Cloaking.{OfferEnd, Ready, Mismatch, Missed}
 use Rattle.cloak_model.specs.Memory.{with_value_in}
 use Rattle.cloak_model.specs.PageMoves.{copy_pages, drop_pages}
 use Rattle.cloak_model.specs.Parts.{domain_pages}
 use Rattle.cloak_model.specs.World.{World, Flat, Cloaked, Alone, Handed, plain_of, regime_of, items_of, violation_of, is_missed}
 use Rattle.cloak_model.specs.Asking.{Told, Asking}
-use Rattle.cloak_model.specs.AskPages.{inside_access, replies, if_drawn, ask_inside_address, offered_by, ask_offer, reached, reach_by_table, get_at, got, get_by_table, put_at, stored_inside, put_by_table, clear_from, is_for_access, is_for_value, is_for_clearing, of_width, next_answer, ask_reach, ask_read, ask_write, ask_get, ask_put, ask_clear, ask_copy, ask_forget}
+use Rattle.cloak_model.specs.AskPages.{inside_access, replies, if_drawn, ask_led_inside, offered_by, ask_offer, reached, reach_by_table, get_at, got, get_by_table, put_at, stored_inside, put_by_table, clear_from, is_for_access, is_for_value, is_for_clearing, of_width, next_answer, ask_reach, ask_read, ask_write, ask_get, ask_put, ask_clear, ask_copy, ask_forget}
+use Rattle.cloak_model.specs.Walk.{Walk}
 use Rattle.cloak_model.specs.Ask.{opened}
 use Rattle.cloak_model.specs.Script.{Question, Reach, Get, Put, Clear, Change, Write, Copy, Forget, asked, changed}
 use Rattle.script_fold.proofs.Scripts.{Alters}
@@ -53,48 +54,46 @@ record ForValue (width : ℕ) (a : Answer) : Type 0 where
   pub kind : is_for_value a ≡ true
   pub narrow : of_width width a ≡ a
 
-offered_has : (q : PageId) (va : ℕ) (kind : Kind) (g : ℕ) (o : OfferEnd) (w : World) →
-    ForAccess (offered_by q va kind g o w).answer
+offered_has : (q : PageId) (va : ℕ) (kind : Kind) (walked : Walked) (granted : Bool) (w : World) →
+    ForAccess (offered_by q va kind walked granted w).answer
 unfolding offered_by replies
-offered_has q va kind g Ready w = refl
-offered_has q va kind g Missed w = refl
-offered_has q va kind g Mismatch (Flat ram) = refl
-offered_has q va kind g Mismatch (Cloaked c) = refl
-offered_has q va kind g Mismatch (Alone h) = refl
+offered_has q va kind walked true w = refl
+offered_has q va kind walked false (Flat ram) = refl
+offered_has q va kind walked false (Cloaked c) = refl
+offered_has q va kind walked false (Alone h) = refl
 
-offer_has : (q : PageId) (va : ℕ) (kind : Kind) (g : ℕ) (w : World) → ForAccess (ask_offer q va kind g w).answer
+offer_has : (q : PageId) (va : ℕ) (kind : Kind) (walked : Walked) (w : World) →
+    ForAccess (ask_offer q va kind walked w).answer
 unfolding ask_offer
-offer_has q va kind g (Cloaked c) = offered_has q va kind g _ _
-offer_has q va kind g _ = refl
+offer_has q va kind walked (Cloaked c) = drawn_has ForAccess _ (Cloaked _) refl (offered_has q va kind walked _ _)
+offer_has q va kind walked _ = refl
 
-reached_has : (q : PageId) (va : ℕ) (kind : Kind) (to : Result ℕ ℕ) (w : World) →
-    ForAccess (reached q va kind to w).answer
+reached_has : (q : PageId) (va : ℕ) (kind : Kind) (to : Walk) (w : World) → ForAccess (reached q va kind to w).answer
 unfolding reached replies
 reached_has q va kind (Err cause) w = refl
-reached_has q va kind (Ok pa) w = offer_has q va kind _ w
+reached_has q va kind (Ok walked) w = offer_has q va kind walked w
 
 reach_has : (q : PageId) (va : ℕ) (kind : Kind) (w : World) → ForAccess (reach_by_table q va kind w).answer
 unfolding reach_by_table
 reach_has q va kind w =
-    let to = ask_inside_address va kind w in
+    let to = ask_led_inside va kind w in
     drawn_has ForAccess (reached q va kind to.answer) to.world refl (reached_has q va kind to.answer to.world)
 
 put_at_has : (pa width value : ℕ) (w : World) → ForAccess (put_at pa width value w).answer
 unfolding put_at replies
 put_at_has pa width value w = refl
 
-stored_has : (va width value : ℕ) (to : Result ℕ ℕ) (w : World) →
-    ForAccess (stored_inside va width value to w).answer
+stored_has : (va width value : ℕ) (to : Walk) (w : World) → ForAccess (stored_inside va width value to w).answer
 unfolding stored_inside replies
 stored_has va width value (Err cause) w = refl
-stored_has va width value (Ok pa) w =
-    drawn_has ForAccess (put_at pa width value) (opened (regime_of w).satp (inside_access w va Store) pa w) refl
-    (put_at_has pa width value _)
+stored_has va width value (Ok walked) w =
+    drawn_has ForAccess (put_at walked.pa width value) (opened (regime_of w).satp (inside_access w va Store) walked w) refl
+    (put_at_has walked.pa width value _)
 
 put_has : (va width value : ℕ) (w : World) → ForAccess (put_by_table va width value w).answer
 unfolding put_by_table
 put_has va width value w =
-    let to = ask_inside_address va _ w in
+    let to = ask_led_inside va _ w in
     drawn_has ForAccess (stored_inside va width value to.answer) to.world refl
     (stored_has va width value to.answer to.world)
 
@@ -106,17 +105,17 @@ get_at_has : (pa width : ℕ) (w : World) → ForValue width (get_at pa width w)
 unfolding get_at
 get_at_has pa width w = word_has width _ _
 
-got_has : (va width : ℕ) (to : Result ℕ ℕ) (w : World) → ForValue width (got va width to w).answer
+got_has : (va width : ℕ) (to : Walk) (w : World) → ForValue width (got va width to w).answer
 unfolding got replies
 got_has va width (Err cause) w = record { kind = refl; narrow = refl }
-got_has va width (Ok pa) w =
-    drawn_has (ForValue width) (get_at pa width) (opened (regime_of w).satp (inside_access w va Load) pa w)
-    (record { kind = refl; narrow = refl }) (get_at_has pa width _)
+got_has va width (Ok walked) w =
+    drawn_has (ForValue width) (get_at walked.pa width) (opened (regime_of w).satp (inside_access w va Load) walked w)
+    (record { kind = refl; narrow = refl }) (get_at_has walked.pa width _)
 
 get_has : (va width : ℕ) (w : World) → ForValue width (get_by_table va width w).answer
 unfolding get_by_table
 get_has va width w =
-    let to = ask_inside_address va _ w in
+    let to = ask_led_inside va _ w in
     drawn_has (ForValue width) (got va width to.answer) to.world (record { kind = refl; narrow = refl })
     (got_has va width to.answer to.world)
 

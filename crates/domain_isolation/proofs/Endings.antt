@@ -10,7 +10,7 @@ use Rattle.cloak_model.specs.declared.item.Item.TheVariants as item
 use Rattle.cloak_model.specs.AskPages.{ask_forget}
 use Rattle.cloak_model.specs.Cloaking.{CloakedMemory}
 use Rattle.cloak_model.specs.Contexts.{domain_of}
-use Rattle.cloak_model.specs.DomainAlone.{DomainAlone, DomainPlace, Between, Other, Done, Stopped, handed_of, domain_taken, take_domain_item, domain_takes, take_ended, ended_part, domain_gone, domain_step_ended, slot_on, place_for}
+use Rattle.cloak_model.specs.DomainAlone.{DomainAlone, DomainStage, Between, Other, Done, Stopped, handed_of, domain_taken, take_domain_item, domain_takes, take_ended, ended_part, domain_gone, domain_step_ended, slot_on, stage_for}
 use Rattle.cloak_model.specs.DomainState.{Domain}
 use Rattle.cloak_model.specs.Ending.{settled_for, ask_end, cloak_for, handed_for, ended_domain}
 use Rattle.cloak_model.specs.Fork.{forget_each}
@@ -103,12 +103,12 @@ end_half d e m =
     ∙ ap (λ (l : List Item). l ++ (if e == d then item.Ended e ∷ [] else [])) ((end_leaves e m).items d)
 
 -- the program takes the end
-open_taken : (d : ℕ) (schedule : List ℕ) (part : DomainPart) (steps : ℕ) (place : DomainPlace) →
-    (take_ended d part.domain.control.ended place (alone_at part steps place) ≡ domain_gone d (alone_at part steps place)) →
-    domain_taken d schedule (alone_at part steps place) (item.Ended d ∷ []) ≡ alone_at (ended_part d part) steps Done
+open_taken : (d : ℕ) (schedule : List ℕ) (part : DomainPart) (steps : ℕ) (stage : DomainStage) →
+    (take_ended d part.domain.control.ended stage (alone_at part steps stage) ≡ domain_gone d (alone_at part steps stage)) →
+    domain_taken d schedule (alone_at part steps stage) (item.Ended d ∷ []) ≡ alone_at (ended_part d part) steps Done
 unfolding domain_taken take_domain_item domain_takes
-open_taken d schedule part steps place takes =
-    same_number d (take_ended d part.domain.control.ended place (alone_at part steps place)) (alone_at part steps place)
+open_taken d schedule part steps stage takes =
+    same_number d (take_ended d part.domain.control.ended stage (alone_at part steps stage)) (alone_at part steps stage)
     ∙ takes
 
 other_takes : (d : ℕ) (over : Bool) (hart : ℕ) (s : DomainAlone) → over ≡ false →
@@ -123,18 +123,18 @@ stopped_takes d over s = refl
 
 done_rests : (p : DomainPart) (steps : ℕ) (stops : Bool) → RestsAt (ended (alone_at p steps Done)) p stops
 unfolding domain_step_ended
-done_rests p steps stops = record { steps = steps; place = Between; is = refl; between = λ goes. refl }
+done_rests p steps stops = record { steps = steps; stage = Between; is = refl; between = λ goes. refl }
 
 other_rests : (p : DomainPart) (steps hart : ℕ) (stops : Bool) → RestsAt (ended (alone_at p steps (Other hart))) p stops
 unfolding domain_step_ended
-other_rests p steps hart stops = record { steps = steps; place = Between; is = refl; between = λ goes. refl }
+other_rests p steps hart stops = record { steps = steps; stage = Between; is = refl; between = λ goes. refl }
 
 -- A step with what follows it.
 pub record StepTaken (d count : ℕ) (schedule : List ℕ) (k hart : ℕ) (p : DomainPart) (t : Turn) : Type 0 where
   pub part : DomainPart
   pub has : HoldsPart d t.joint part
   pub rests : RestsAt (ended (domain_taken d schedule
-      (alone_at p (suc k) (place_for hart (slot_on hart 0 p.domain.control.contexts)))
+      (alone_at p (suc k) (stage_for hart (slot_on hart 0 p.domain.control.contexts)))
       t.items)) part (is_some (stop_of t))
   pub order : InOrder count t.joint.harts t.joint.domains
   pub told : AllByRecursion IsOfStep (inward_half d t.items)
@@ -142,7 +142,7 @@ pub record StepTaken (d count : ℕ) (schedule : List ℕ) (k hart : ℕ) (p : D
 -- the program alone once it has read the items of the step
 abbrev read_by : ℕ → List ℕ → ℕ → ℕ → DomainPart → Turn → DomainAlone
 read_by d schedule k hart p t =
-    domain_taken d schedule (alone_at p (suc k) (place_for hart (slot_on hart 0 p.domain.control.contexts))) t.items
+    domain_taken d schedule (alone_at p (suc k) (stage_for hart (slot_on hart 0 p.domain.control.contexts))) t.items
 
 no_violation : (d count : ℕ) (schedule : List ℕ) (k hart : ℕ) (p : DomainPart) (inside : Option ℕ) (t : Turn) →
     t.violation ≡ None → StepAlone d count schedule k hart p inside t → StepTaken d count schedule k hart p t
@@ -176,7 +176,7 @@ end_elsewhere : (d count : ℕ) (schedule : List ℕ) (k hart : ℕ) (p : Domain
     StepTaken d count schedule k hart p (end_domain e old v t)
 unfolding end_domain
 end_elsewhere d count schedule k hart p inside t e old v apart found step o =
-    let start = alone_at p (suc k) (place_for hart (slot_on hart 0 p.domain.control.contexts)) in
+    let start = alone_at p (suc k) (stage_for hart (slot_on hart 0 p.domain.control.contexts)) in
     let m = t.joint.memory in
     let more : List Item = items_of (end_world e m) ++ item.Ended e ∷ [] in
     let none : inward_half d more ≡ [] = end_half d e m
@@ -205,14 +205,14 @@ all_append (i ∷ a) b here there = (here.0, all_append a b here.1 there)
 -- its own end
 end_own : (d count : ℕ) (schedule : List ℕ) (k hart : ℕ) (p : DomainPart) (inside : Option ℕ) (t : Turn)
     (old : Domain) (v : Violation) → slice_get t.joint.domains d ≡ Some old →
-    (step : StepAlone d count schedule k hart p inside t) (steps : ℕ) (place : DomainPlace) →
-    read_by d schedule k hart p t ≡ alone_at step.part steps place →
-    take_ended d step.part.domain.control.ended place (alone_at step.part steps place)
-    ≡ domain_gone d (alone_at step.part steps place) →
+    (step : StepAlone d count schedule k hart p inside t) (steps : ℕ) (stage : DomainStage) →
+    read_by d schedule k hart p t ≡ alone_at step.part steps stage →
+    take_ended d step.part.domain.control.ended stage (alone_at step.part steps stage)
+    ≡ domain_gone d (alone_at step.part steps stage) →
     StepTaken d count schedule k hart p (end_domain d old v t)
 unfolding end_domain
-end_own d count schedule k hart p inside t old v found step steps place is takes =
-    let start = alone_at p (suc k) (place_for hart (slot_on hart 0 p.domain.control.contexts)) in
+end_own d count schedule k hart p inside t old v found step steps stage is takes =
+    let start = alone_at p (suc k) (stage_for hart (slot_on hart 0 p.domain.control.contexts)) in
     let m = t.joint.memory in
     let more : List Item = items_of (end_world d m) ++ item.Ended d ∷ [] in
     let half : inward_half d more ≡ item.Ended d ∷ [] = end_half d d m
@@ -232,7 +232,7 @@ end_own d count schedule k hart p inside t old v found step steps place is takes
           (sym (taken_append d schedule start t.items more
           ∙ taken_half d schedule (read_by d schedule k hart p t) more (item.Ended d ∷ []) half
           ∙ ap (λ (s : DomainAlone). domain_taken d schedule s (item.Ended d ∷ [])) is
-          ∙ open_taken d schedule step.part steps place takes))
+          ∙ open_taken d schedule step.part steps stage takes))
           (done_rests (ended_part d step.part) steps _);
       order = order_ends count t.joint.harts t.joint.domains d old step.order found;
       told = subst (AllByRecursion IsOfStep)

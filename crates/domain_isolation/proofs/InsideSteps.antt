@@ -29,7 +29,7 @@ use Rattle.cloak_model.specs.Hypercalls.{Stepped}
 use Rattle.cloak_model.specs.DomainStep.{domain_script, domain_step, interrupt, interrupt_if}
 use Rattle.cloak_model.specs.Parts.{Joint, DomainPart, domain_pages}
 use Rattle.cloak_model.specs.Joint.{Turn, quiet, hart_in, with_hart, cloak_of, memory_of, domain_ended, with_domain, after_domain_step, pages_for, interrupt_ended, after_interrupt, by_interrupt, inside_step, turn_of, stop_without_miss, by_running, left, not_running}
-use Rattle.cloak_model.specs.DomainAlone.{DomainAlone, Running, domain_taken, place_for, is_stopped, runs_on}
+use Rattle.cloak_model.specs.DomainAlone.{DomainAlone, Running, domain_taken, stage_for, is_stopped, runs_on}
 use Rattle.domain_isolation.proofs.Ignoring.{half_taken, taken_half}
 use Rattle.script_fold.proofs.Runs.{MovesSlot, slot_kept, slot_left, has_left, runs_in}
 use Rattle.cloak_model.specs.Script.{played}
@@ -86,12 +86,12 @@ running_alone d count schedule k n p j ctx old new t order has is runs here doma
             };
             rests =
                 subst (λ (o : Option ℕ). RestsAt (ended
-                (domain_taken e schedule (alone_at q (suc k) (place_for n o)) t.items))
+                (domain_taken e schedule (alone_at q (suc k) (stage_for n o)) t.items))
                 (record { domain = new; plain = domain_pages e t.joint.memory.plain }) (is_cut t))
                 (sym (slot_own count j.harts j.domains old n ctx order is runs here)) own;
             opens = λ some. inr (
               refl,
-              subst (λ (o : Option ℕ). StoppedAt (domain_taken e schedule (alone_at q (suc k) (place_for n o)) t.items)
+              subst (λ (o : Option ℕ). StoppedAt (domain_taken e schedule (alone_at q (suc k) (stage_for n o)) t.items)
                   (record { domain = new; plain = domain_pages e t.joint.memory.plain }))
                   (sym (slot_own count j.harts j.domains old n ctx order is runs here)) (opens some),
             );
@@ -184,7 +184,7 @@ unfolding domain_ended
 ended_plain j n h e w went.Stay = refl
 ended_plain j n h e w _ = refl
 
-with_leave : (d : ℕ) (items : List Item) (s : Shown) → inward_half d (items ++ item.Leave s ∷ []) ≡ inward_half d items
+pub with_leave : (d : ℕ) (items : List Item) (s : Shown) → inward_half d (items ++ item.Leave s ∷ []) ≡ inward_half d items
 with_leave d items s = filter-append (is_inward d) items (item.Leave s ∷ []) ∙ append-nil (inward_half d items)
 
 ended_items : (d : ℕ) (j : Joint) (n : ℕ) (h : Hart) (e : ℕ) (w : World) (g : Went) →

@@ -64,7 +64,7 @@ after_none d schedule k j s p n has is =
       has = has;
       stops = false;
       rests =
-          record { steps = n; place = Between; is = is; between = λ goes. refl };
+          record { steps = n; stage = Between; is = is; between = λ goes. refl };
       told = tt;
     }
 
@@ -150,7 +150,7 @@ fronts_unless budget d count schedule rest k t s p None is order has rests =
 fronts : (budget d count : ℕ) (schedule : List ℕ) → IsSchedule count schedule → FrontsFrom budget d count schedule
 unfolding turns_from joint_step
 fronts zero d count schedule is k j s p n order has rests =
-    fronts_none d schedule k j s p false has (record { steps = n; place = Between; is = rests; between = λ goes. refl })
+    fronts_none d schedule k j s p false has (record { steps = n; stage = Between; is = rests; between = λ goes. refl })
 fronts (suc budget) d count schedule is k j s p n order has rests =
     let hart = slice_index schedule (k % length schedule) in
     let h = hart_in j hart in
@@ -226,7 +226,7 @@ closed_part d schedule p opening k j j' turns rest after ignored kept =
     let start = opened_with_part p in
     let first = domain_taken d schedule start opening in
     let s = domain_taken d schedule first (items_behind 0 turns) in
-    let end = alone_at after.part after.rests.steps after.rests.place in
+    let end = alone_at after.part after.rests.steps after.rests.stage in
     let all : domain_alone_from d schedule p (opening ++ (items_behind 0 turns ++ item.Close k ∷ rest)) ≡ end =
     taken_append d schedule start opening (items_behind 0 turns ++ item.Close k ∷ rest)
     ∙ taken_append d schedule first (items_behind 0 turns) (item.Close k ∷ rest)

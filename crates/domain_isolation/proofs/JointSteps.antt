@@ -6,7 +6,7 @@ use Rattle.cloak_model.specs.Halves.{inward_half}
 use Rattle.cloak_model.specs.Record.{IsOfStep}
 use Rattle.cloak_model.specs.Parts.{Joint, DomainPart, domain_pages, domain_part, part_of}
 use Rattle.cloak_model.specs.Joint.{Turn, stop_of}
-use Rattle.cloak_model.specs.DomainAlone.{DomainAlone, Other, domain_taken, slot_on, place_for}
+use Rattle.cloak_model.specs.DomainAlone.{DomainAlone, Other, domain_taken, slot_on, stage_for}
 use Rattle.domain_isolation.proofs.Ignoring.{taken_half, none_taken}
 use Rattle.cloak_model.specs.Contexts.{domain_of}
 use Rattle.domain_isolation.proofs.Alone.{alone_at, ended, RestsAt, OtherAt, Opens, other_rests}
@@ -33,10 +33,10 @@ pub record StepAlone (d count : ℕ) (schedule : List ℕ) (k hart : ℕ) (p : D
   pub part : DomainPart
   pub has : HoldsPart d t.joint part
   pub rests : RestsAt (ended (domain_taken d schedule
-      (alone_at p (suc k) (place_for hart (slot_on hart 0 p.domain.control.contexts)))
+      (alone_at p (suc k) (stage_for hart (slot_on hart 0 p.domain.control.contexts)))
       t.items)) part (is_cut t)
   pub opens : is_some t.violation ≡ true → Opens d inside (domain_taken d schedule
-      (alone_at p (suc k) (place_for hart (slot_on hart 0 p.domain.control.contexts)))
+      (alone_at p (suc k) (stage_for hart (slot_on hart 0 p.domain.control.contexts)))
       t.items) part
   pub order : InOrder count t.joint.harts t.joint.domains
   pub told : AllByRecursion IsOfStep (inward_half d t.items)
@@ -62,14 +62,14 @@ other_alone d count schedule k hart p inside t none half has order elsewhere = r
   has = has;
   rests =
       subst (λ (o : Option ℕ). RestsAt (ended
-      (domain_taken d schedule (alone_at p (suc k) (place_for hart o)) t.items)) p (is_cut t)) (sym none)
+      (domain_taken d schedule (alone_at p (suc k) (stage_for hart o)) t.items)) p (is_cut t)) (sym none)
       (subst (λ (s : DomainAlone). RestsAt (ended s) p (is_cut t))
       (sym (taken_half d schedule (alone_at p (suc k) (Other hart)) t.items [] half))
       (other_rests d schedule p (suc k) hart (is_cut t)));
   opens = λ some. opens_elsewhere d inside _ p (elsewhere some) (record {
     steps = suc k;
     hart = hart;
-    is = ap (λ (o : Option ℕ). domain_taken d schedule (alone_at p (suc k) (place_for hart o)) t.items) none
+    is = ap (λ (o : Option ℕ). domain_taken d schedule (alone_at p (suc k) (stage_for hart o)) t.items) none
         ∙ taken_half d schedule (alone_at p (suc k) (Other hart)) t.items [] half
         ∙ none_taken d schedule (alone_at p (suc k) (Other hart));
   });

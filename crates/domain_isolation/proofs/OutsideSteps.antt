@@ -25,7 +25,7 @@ use Rattle.cloak_model.specs.Resuming.{AfterResume, violated, space_of, resume}
 use Rattle.cloak_model.proofs.ResumeParts.{with_roots, with_domain_control, by_root, by_context, by_domain}
 use Rattle.cloak_model.specs.Parts.{Joint, DomainPart, domain_pages}
 use Rattle.cloak_model.specs.Joint.{Turn, quiet, hart_in, with_hart, cloak_outside, memory_of, outside_ended, after_outside, outside_step}
-use Rattle.cloak_model.specs.DomainAlone.{DomainAlone, Other, domain_taken, slot_on, place_for, is_granted, with_control}
+use Rattle.cloak_model.specs.DomainAlone.{DomainAlone, Other, domain_taken, slot_on, stage_for, is_granted, with_control}
 use Rattle.domain_isolation.proofs.Ignoring.{taken_half}
 use Rattle.domain_isolation.proofs.Steady.{settle_plain, ciphers_told}
 use Rattle.domain_isolation.proofs.Alone.{alone_at, ended, RestsAt, resume_rests}
@@ -125,7 +125,7 @@ granted_own count schedule k n p j h disk m items ctx reply root o goes granted 
       };
       rests =
           subst (λ (s : Option ℕ). RestsAt (ended
-          (domain_taken e schedule (alone_at p (suc k) (place_for n s)) t.items)) (with_control r.control p)
+          (domain_taken e schedule (alone_at p (suc k) (stage_for n s)) t.items)) (with_control r.control p)
           (is_cut t)) (sym o.none)
           (subst (λ (s : DomainAlone). RestsAt (ended s) (with_control r.control p) (is_cut t))
           (sym (taken_half e schedule (alone_at p (suc k) (Other n)) t.items (item.Resume e ctx reply ∷ []) half))

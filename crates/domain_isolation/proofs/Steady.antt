@@ -1,6 +1,6 @@
 -- What the joint machine's questions of a program leave: the newest bytes of each page, the regime, and what each
 -- program was told; and what an answer adds to that.
-use Rattle.std.proofs.Common.{sym, ◌≡◌, ◌∙◌, true, false, cond, zero, suc, ◌+◌, ℕ, Bool, List, [], ◌∷◌, ◌++◌, Option, Some, None, Result, Ok, Err, refl, ap, append-nil, if◌then◌else◌}
+use Rattle.std.proofs.Common.{sym, ◌≡◌, ◌∙◌, true, false, cond, zero, suc, ◌+◌, ℕ, Bool, List, [], ◌∷◌, ◌++◌, Option, Some, None, Ok, Err, refl, ap, append-nil, if◌then◌else◌}
 use Rattle.std.specs.Prelude.{is_some, ◌||◌}
 use Rattle.std.specs.Str.{bytes_eq}
 use Rattle.std.proofs.lemmas.List.Elements.{filter-append}
@@ -10,20 +10,23 @@ use Rattle.cloak_base.specs.declared.names.Kind.TheVariants.{Load, Store}
 use Rattle.cloak_base.specs.declared.names.PageId.{PageId}
 use Rattle.cloak_base.specs.Random.{Random}
 use Rattle.cloak_base.specs.declared.causes.Violation.TheVariants as violation
+use Rattle.cloak_base.specs.Constants.{frame_of}
 use Rattle.cloak_model.specs.declared.access.Access.{Access}
+use Rattle.cloak_model.specs.declared.access.Walked.{Walked}
 use Rattle.cloak_model.specs.declared.answer.Answer.{Answer}
 use Rattle.cloak_model.specs.declared.answer.Answer.TheVariants as told
 use Rattle.cloak_model.specs.declared.item.Item.{Item}
 use Rattle.cloak_model.specs.Events.{Event}
 use Rattle.cloak_model.specs.Ledger.{vector_of}
 use Rattle.cloak_model.specs.Halves.{is_inward, inward_half}
-use Rattle.cloak_model.specs.Cloaking.{CloakedMemory, AfterSettling, AfterOffer, OfferEnd, Ready, Mismatch, Missed, settle, settle_if, settle_owed, settle_frame_if, owing_frame, owes, owed_in, compared, unless_missed, offer}
+use Rattle.cloak_model.specs.Cloaking.{CloakedMemory, AfterSettling, AfterOffer, settle, settle_if, settle_owed, settle_frame_if, owing_frame, owes, owed_in, compared, unless_missed, offer}
 use Rattle.cloak_model.specs.World.{World, Flat, Cloaked, Alone, plain_of, regime_of, items_of, violation_of, is_missed, noted, stored_at, settled, written, cipher_items}
 use Rattle.cloak_model.specs.Asking.{Told, Asking}
+use Rattle.cloak_model.specs.Walk.{Walk, frame_at}
 use Rattle.cloak_model.specs.Ask.{opened}
-use Rattle.cloak_model.specs.AskPages.{answer_item, is_store, inside_access, replies, if_drawn, ask_inside_address, offered_by, ask_offer, reached, reach_by_table, get_at, got, get_by_table, put_at, stored_inside, put_by_table, settled_if_marked, clear_from}
+use Rattle.cloak_model.specs.AskPages.{answer_item, is_store, inside_access, replies, if_drawn, ask_led_inside, offered_by, ask_offer, reached, reach_by_table, get_at, got, get_by_table, put_at, stored_inside, put_by_table, settled_if_marked, clear_from}
 use Rattle.cloak_model.proofs.Clashes.{either}
-use Rattle.script_fold.proofs.Questions.{Opens, opens_by, keeps_inside_address, keeps_if_marked}
+use Rattle.script_fold.proofs.Questions.{Opens, opens_by, keeps_led_inside, keeps_if_marked}
 
 abbrev pub is_cloaked : World → Bool
 is_cloaked (Cloaked c) = true
@@ -73,62 +76,6 @@ offer_plain q g write m =
     unless_missed_plain (settle_frame_if (owing_frame m' q) m') _
     (λ m''. compared_plain q g write (m''.ledger.recorded q) m'')
     ∙ settle_frame_if_plain (owing_frame m' q) m') ∙ settle_plain g m)
-
--- A missing draw is marked.
-
-abbrev SettlesMarked : AfterSettling → Type 0
-SettlesMarked s = s.missed ≡ true → s.memory.ledger.missed ≡ true
-
-settle_owed_marked : (f : ℕ) (q : PageId) (draw : Option (List ℕ × Random)) (m : CloakedMemory) →
-    SettlesMarked (settle_owed f q draw m)
-unfolding settle_owed
-settle_owed_marked f q None m missed = refl
-settle_owed_marked f q (Some draw) m missed = absurd (false≢true missed)
-
-settle_if_marked : (f : ℕ) (owed : Option PageId) (m : CloakedMemory) → SettlesMarked (settle_if f owed m)
-unfolding settle_if
-settle_if_marked f None m missed = absurd (false≢true missed)
-settle_if_marked f (Some q) m missed = settle_owed_marked f q (vector_of m.ledger q) m missed
-
-settle_marked : (f : ℕ) (m : CloakedMemory) → SettlesMarked (settle f m)
-unfolding settle
-settle_marked f m missed = settle_if_marked f (owed_in m f) m missed
-
-settle_frame_marked : (f : Option ℕ) (m : CloakedMemory) → SettlesMarked (settle_frame_if f m)
-settle_frame_marked None m missed = absurd (false≢true missed)
-settle_frame_marked (Some f) m missed = settle_marked f m missed
-
-abbrev OffersMarked : AfterOffer → Type 0
-OffersMarked o = o.answer ≡ Missed → o.memory.ledger.missed ≡ true
-
-compared_marked : (q : PageId) (g : ℕ) (write : Bool) (recorded : Option (List ℕ)) (m : CloakedMemory) →
-    OffersMarked (compared q g write recorded m)
-unfolding compared
-compared_marked q g write None m = λ is. let clash : Ready ≡ Missed = is in absurd cc
-compared_marked q g write (Some c) m =
-    either OffersMarked (bytes_eq _ c) _ _ (λ is. let clash : Ready ≡ Missed = is in absurd cc)
-    (λ is. let clash : Mismatch ≡ Missed = is in absurd cc)
-
-either_marked : (missed : Bool) (s : AfterSettling) (o : AfterOffer) → s.missed ≡ missed → SettlesMarked s →
-    OffersMarked o →
-    OffersMarked (if missed then record { memory = s.memory; ciphers = s.ciphers; answer = Missed } else
-    record { memory = o.memory; ciphers = s.ciphers ++ o.ciphers; answer = o.answer })
-either_marked true s o is settles offers same = settles is
-either_marked false s o is settles offers same = offers same
-
-unless_missed_marked : (s : AfterSettling) (next : CloakedMemory → AfterOffer) → SettlesMarked s →
-    ((m : CloakedMemory) → OffersMarked (next m)) →
-    OffersMarked (unless_missed s next)
-unfolding unless_missed
-unless_missed_marked s next settles offers = either_marked s.missed s (next s.memory) refl settles (offers s.memory)
-
-offer_marked : (q : PageId) (g : ℕ) (write : Bool) (m : CloakedMemory) → OffersMarked (offer q g write m)
-unfolding offer
-offer_marked q g write m =
-    either OffersMarked (owes q (owed_in m g)) _ _ (λ is. let clash : Ready ≡ Missed = is in absurd cc)
-    (unless_missed_marked (settle g m) _ (settle_marked g m) (λ m'.
-    unless_missed_marked (settle_frame_if (owing_frame m' q) m') _ (settle_frame_marked (owing_frame m' q) m') (λ m''.
-    compared_marked q g write (m''.ledger.recorded q) m'')))
 
 -- What is shown to the kernel is told to no program.
 
@@ -187,11 +134,11 @@ pub steady_opens : Opens Steady
 steady_opens =
     opens_by Steady (record { same = Steady-refl; chained = Steady-trans; settled = Steady-settled }) Steady-noted
 
-steady_inside_address : (va : ℕ) (kind : Kind) (w : World) → Steady w (ask_inside_address va kind w).world
-steady_inside_address va kind w = keeps_inside_address Steady steady_opens va kind w
+steady_led_inside : (va : ℕ) (kind : Kind) (w : World) → Steady w (ask_led_inside va kind w).world
+steady_led_inside va kind w = keeps_led_inside Steady steady_opens va kind w
 
-Steady-opened : (satp : ℕ) (a : Access) (pa : ℕ) (w : World) → Steady w (opened satp a pa w)
-Steady-opened satp a pa w = steady_opens.opened satp a pa w
+Steady-opened : (satp : ℕ) (a : Access) (walked : Walked) (w : World) → Steady w (opened satp a walked w)
+Steady-opened satp a walked w = steady_opens.opened satp a walked w
 
 Steady-stored_at : (pa width value : ℕ) (w : World) → Steady w (stored_at pa width value w)
 Steady-stored_at pa width value (Alone h) = Steady-refl (Alone h)
@@ -264,18 +211,15 @@ replied_drawn : (ask : Asking Answer) (w : World) → is_cloaked w ≡ true → 
 unfolding if_drawn
 replied_drawn ask w cloaked next = replied_if_drawn (is_missed w) ask w refl cloaked next
 
-replied_offered : (q : PageId) (va : ℕ) (kind : Kind) (g : ℕ) (o : OfferEnd) (w : World) → is_cloaked w ≡ true →
-    (o ≡ Missed → is_missed w ≡ true) → Replied w (offered_by q va kind g o w)
+replied_offered : (q : PageId) (va : ℕ) (kind : Kind) (walked : Walked) (granted : Bool) (w : World) →
+    is_cloaked w ≡ true → Replied w (offered_by q va kind walked granted w)
 unfolding offered_by replies
-replied_offered q va kind g Ready w cloaked marked =
+replied_offered q va kind walked true w cloaked =
     let steady = Steady-noted _ w in
     replied_after w _ _ steady (replied told.Ok _ (steady.form ∙ cloaked) (λ e. absurd cc))
-replied_offered q va kind g Missed w cloaked marked =
-    replied told.Stopped w cloaked (λ e. missed_halted w (marked refl))
-replied_offered q va kind g Mismatch (Flat ram) cloaked marked = absurd (false≢true cloaked)
-replied_offered q va kind g Mismatch (Cloaked c) cloaked marked =
-    let r = replied told.Stopped
-    (Cloaked (record c { violation = Some (violation.Page q (record { 0 = g })) })) refl
+replied_offered q va kind walked false (Flat ram) cloaked = absurd (false≢true cloaked)
+replied_offered q va kind walked false (Cloaked c) cloaked =
+    let r = replied told.Stopped (Cloaked (record c { violation = Some (violation.Page q (frame_at walked.pa)) })) refl
     (λ e. violation_halted c.memory.ledger.missed) in
     record {
       plain = r.plain;
@@ -289,37 +233,38 @@ replied_offered q va kind g Mismatch (Cloaked c) cloaked marked =
     violation_halted : (b : Bool) → (b || true) ≡ true
     violation_halted true = refl
     violation_halted false = refl
-replied_offered q va kind g Mismatch (Alone h) cloaked marked = absurd (false≢true cloaked)
+replied_offered q va kind walked false (Alone h) cloaked = absurd (false≢true cloaked)
 
-replied_offer : (q : PageId) (va : ℕ) (kind : Kind) (g : ℕ) (w : World) → is_cloaked w ≡ true →
-    Replied w (ask_offer q va kind g w)
+replied_offer : (q : PageId) (va : ℕ) (kind : Kind) (walked : Walked) (w : World) → is_cloaked w ≡ true →
+    Replied w (ask_offer q va kind walked w)
 unfolding ask_offer
-replied_offer q va kind g (Cloaked c) cloaked =
-    let o = offer q g (is_store kind) c.memory in
+replied_offer q va kind walked (Cloaked c) cloaked =
+    let o = offer q (frame_of walked.pa) (is_store kind) c.memory in
     replied_after (Cloaked c) (Cloaked _) _
     (record {
-      plain = offer_plain q g (is_store kind) c.memory;
+      plain = offer_plain q (frame_of walked.pa) (is_store kind) c.memory;
       regime = refl;
       form = refl;
       items = λ d.
           ciphers_told d c.items o.ciphers;
       violation = refl;
     })
-    (replied_offered q va kind g o.answer (Cloaked _) refl (offer_marked q g (is_store kind) c.memory))
-replied_offer q va kind g _ cloaked = absurd (false≢true cloaked)
+    (replied_drawn (offered_by q va kind walked o.granted) (Cloaked _) refl
+    (replied_offered q va kind walked o.granted (Cloaked _) refl))
+replied_offer q va kind walked _ cloaked = absurd (false≢true cloaked)
 
-replied_reached : (q : PageId) (va : ℕ) (kind : Kind) (to : Result ℕ ℕ) (w : World) → is_cloaked w ≡ true →
+replied_reached : (q : PageId) (va : ℕ) (kind : Kind) (to : Walk) (w : World) → is_cloaked w ≡ true →
     Replied w (reached q va kind to w)
 unfolding reached
 replied_reached q va kind (Err cause) w cloaked = replied (told.Absent cause) w cloaked (λ e. absurd cc)
-replied_reached q va kind (Ok pa) w cloaked = replied_offer q va kind _ w cloaked
+replied_reached q va kind (Ok walked) w cloaked = replied_offer q va kind walked w cloaked
 
 pub replied_reach : (q : PageId) (va : ℕ) (kind : Kind) (w : World) → is_cloaked w ≡ true →
     Replied w (reach_by_table q va kind w)
 unfolding reach_by_table
 replied_reach q va kind w cloaked =
-    let to = ask_inside_address va kind w in
-    let steady = steady_inside_address va kind w in
+    let to = ask_led_inside va kind w in
+    let steady = steady_led_inside va kind w in
     let cloaked' : is_cloaked to.world ≡ true = steady.form ∙ cloaked in
     replied_after w to.world _ steady (replied_drawn (reached q va kind to.answer) to.world cloaked'
     (replied_reached q va kind to.answer to.world cloaked'))
@@ -329,20 +274,21 @@ unfolding get_at
 replied_get_at pa width w cloaked =
     let steady = Steady-noted _ w in replied_after w _ _ steady (replied _ _ (steady.form ∙ cloaked) (λ e. absurd cc))
 
-replied_got : (va width : ℕ) (to : Result ℕ ℕ) (w : World) → is_cloaked w ≡ true → Replied w (got va width to w)
+replied_got : (va width : ℕ) (to : Walk) (w : World) → is_cloaked w ≡ true → Replied w (got va width to w)
 unfolding got
 replied_got va width (Err cause) w cloaked = replied (told.Absent cause) w cloaked (λ e. absurd cc)
-replied_got va width (Ok pa) w cloaked =
-    let v = opened (regime_of w).satp (inside_access w va Load) pa w in
-    let steady = Steady-opened _ _ pa w in
+replied_got va width (Ok walked) w cloaked =
+    let v = opened (regime_of w).satp (inside_access w va Load) walked w in
+    let steady = Steady-opened _ _ walked w in
     let cloaked' : is_cloaked v ≡ true = steady.form ∙ cloaked in
-    replied_after w _ _ steady (replied_drawn (get_at pa width) _ cloaked' (replied_get_at pa width _ cloaked'))
+    replied_after w _ _ steady (replied_drawn (get_at walked.pa width) _ cloaked'
+    (replied_get_at walked.pa width _ cloaked'))
 
 pub replied_get : (va width : ℕ) (w : World) → is_cloaked w ≡ true → Replied w (get_by_table va width w)
 unfolding get_by_table
 replied_get va width w cloaked =
-    let to = ask_inside_address va _ w in
-    let steady = steady_inside_address va _ w in
+    let to = ask_led_inside va _ w in
+    let steady = steady_led_inside va _ w in
     let cloaked' : is_cloaked to.world ≡ true = steady.form ∙ cloaked in
     replied_after w to.world _ steady (replied_drawn (got va width to.answer) to.world cloaked'
     (replied_got va width to.answer to.world cloaked'))
@@ -353,22 +299,22 @@ replied_put_at pa width value w cloaked =
     let steady = Steady-trans _ _ _ (Steady-stored_at pa width value w) (Steady-written _ _ (λ d. refl)) in
     replied_after w _ _ steady (replied told.Ok _ (steady.form ∙ cloaked) (λ e. absurd cc))
 
-replied_stored : (va width value : ℕ) (to : Result ℕ ℕ) (w : World) → is_cloaked w ≡ true →
+replied_stored : (va width value : ℕ) (to : Walk) (w : World) → is_cloaked w ≡ true →
     Replied w (stored_inside va width value to w)
 unfolding stored_inside
 replied_stored va width value (Err cause) w cloaked = replied (told.Absent cause) w cloaked (λ e. absurd cc)
-replied_stored va width value (Ok pa) w cloaked =
-    let v = opened (regime_of w).satp (inside_access w va Store) pa w in
-    let steady = Steady-opened _ _ pa w in
+replied_stored va width value (Ok walked) w cloaked =
+    let v = opened (regime_of w).satp (inside_access w va Store) walked w in
+    let steady = Steady-opened _ _ walked w in
     let cloaked' : is_cloaked v ≡ true = steady.form ∙ cloaked in
-    replied_after w _ _ steady (replied_drawn (put_at pa width value) _ cloaked'
-    (replied_put_at pa width value _ cloaked'))
+    replied_after w _ _ steady (replied_drawn (put_at walked.pa width value) _ cloaked'
+    (replied_put_at walked.pa width value _ cloaked'))
 
 pub replied_put : (va width value : ℕ) (w : World) → is_cloaked w ≡ true → Replied w (put_by_table va width value w)
 unfolding put_by_table
 replied_put va width value w cloaked =
-    let to = ask_inside_address va _ w in
-    let steady = steady_inside_address va _ w in
+    let to = ask_led_inside va _ w in
+    let steady = steady_led_inside va _ w in
     let cloaked' : is_cloaked to.world ≡ true = steady.form ∙ cloaked in
     replied_after w to.world _ steady (replied_drawn (stored_inside va width value to.answer) to.world cloaked'
     (replied_stored va width value to.answer to.world cloaked'))

@@ -8,7 +8,7 @@ use Rattle.cloak_base.specs.Registers.{with_register}
 use Rattle.cloak_base.specs.declared.names.HartId.{HartId}
 use Rattle.cloak_model.specs.declared.context.Phase.{Phase}
 use Rattle.cloak_model.specs.declared.context.Phase.TheVariants.{Plain, CopyIn, Waiting, CopyOut}
-use Rattle.cloak_model.specs.declared.context.WordPlace.{WordPlace}
+use Rattle.cloak_model.specs.declared.context.PageWord.{PageWord}
 use Rattle.cloak_model.specs.declared.resource.Owner.{Owner}
 use Rattle.cloak_model.specs.declared.resource.Owner.TheVariants.{Space, File}
 use Rattle.cloak_model.specs.declared.resource.Resource.{Resource}
@@ -139,7 +139,7 @@ slot_some l0 l1 l2 l3 l4 l5 l6 tag byte phase space pc regs a b c d e f used (So
 
 -- Reservations.
 
-same_mark : (p : WordPlace) (resource page at : ℕ) → resource ≡ p.resource → page ≡ p.page → at ≡ p.at →
+same_mark : (p : PageWord) (resource page at : ℕ) → resource ≡ p.resource → page ≡ p.page → at ≡ p.at →
     Some (record { resource = resource; page = page; at = at }) ≡ Some p
 same_mark p resource page at a b c = rw (a, b, c) refl
 
@@ -161,21 +161,21 @@ mark_some l0 l1 l2 l3 l4 tag resource page at a b c d used (Some p) rest right i
     (same_mark p resource page at r2.0 r3.0 r4.0, r4.1)
 
 -- a slot with its reservation
-pub marked_none : (l0 l1 : List ℕ) (mark : Option WordPlace) → ReadsSpelled mark_bytes HasMarkWords all l0 l1 mark →
+pub marked_none : (l0 l1 : List ℕ) (mark : Option PageWord) → ReadsSpelled mark_bytes HasMarkWords all l0 l1 mark →
     (x : Option Context) (rest : List ℕ) → IsReadableSlot x → None ≡ unmarked x → l0 ≡ slot_mark_bytes x ++ rest →
     (None ≡ x) × (l1 ≡ rest)
 marked_none l0 l1 mark reads None rest right same e = (refl, (reads None rest tt e).1)
 marked_none l0 l1 mark reads (Some c) rest right same e = cc
 
-with_mark : Option WordPlace → Option Context → Option Context
+with_mark : Option PageWord → Option Context → Option Context
 with_mark mark slot = option_map (λ (c : Context). record c { mark = mark }) slot
 
-same_but_mark : (before c : Context) (mark : Option WordPlace) → Some before ≡ unmarked (Some c) → mark ≡ c.mark →
+same_but_mark : (before c : Context) (mark : Option PageWord) → Some before ≡ unmarked (Some c) → mark ≡ c.mark →
     Some (record before { mark = mark }) ≡ Some c
 unfolding with_mark
-same_but_mark before c mark same is = ap (with_mark mark) same ∙ ap (λ (m : Option WordPlace). with_mark m (Some c)) is
+same_but_mark before c mark same is = ap (with_mark mark) same ∙ ap (λ (m : Option PageWord). with_mark m (Some c)) is
 
-pub marked_some : (l0 l1 : List ℕ) (mark : Option WordPlace) (before : Context) →
+pub marked_some : (l0 l1 : List ℕ) (mark : Option PageWord) (before : Context) →
     ReadsSpelled mark_bytes HasMarkWords all l0 l1 mark → (x : Option Context) (rest : List ℕ) → IsReadableSlot x →
     Some before ≡ unmarked x → l0 ≡ slot_mark_bytes x ++ rest → (Some (record before { mark = mark }) ≡ x) × (l1 ≡ rest)
 marked_some l0 l1 mark before reads None rest right same e = cc

@@ -6,7 +6,7 @@ use Rattle.std.proofs.lemmas.List.{get_or_default}
 use Rattle.std.proofs.lemmas.List.Sums.{get_or-le-sum_by}
 use Rattle.cloak_model.specs.declared.context.Phase.{Phase}
 use Rattle.cloak_model.specs.declared.context.Phase.TheVariants.{Plain, CopyIn, Waiting, CopyOut}
-use Rattle.cloak_model.specs.declared.context.WordPlace.{WordPlace}
+use Rattle.cloak_model.specs.declared.context.PageWord.{PageWord}
 use Rattle.cloak_model.specs.declared.resource.Owner.{Owner}
 use Rattle.cloak_model.specs.declared.resource.Owner.TheVariants.{Space, File}
 use Rattle.cloak_model.specs.declared.resource.Resource.{Resource}
@@ -15,7 +15,7 @@ use Rattle.cloak_model.specs.Contexts.{Context, context_at}
 use Rattle.cloak_model.specs.DomainState.{Control, slot_bytes, space_bytes, resource_bytes}
 use Rattle.cloak_model.specs.Resources.{Resources, resource_at, pages_of, is_shared_with}
 use Rattle.frozen_state.specs.DomainPage.{slot_mark_bytes, state_string, domain_page, IsProgram}
-use Rattle.frozen_state.specs.Limits.{IsPhase, IsWordPlace, IsContext, IsSpace}
+use Rattle.frozen_state.specs.Limits.{IsPhase, IsPageWord, IsContext, IsSpace}
 use Rattle.frozen_state.specs.Words.{HasContextWords, HasSlotWords, HasOwnerWord}
 use Rattle.resource_map.specs.Kept.{IsInUse, IsOwner, IsHeld, IsMapped, IsSound, IsSoundRegion}
 use Rattle.resource_map.proofs.Lists.{inside_from_some}
@@ -37,9 +37,9 @@ phase_words regs (CopyIn done) is = omega (arith, is.part, is.call.few)
 phase_words regs Waiting is = tt
 phase_words regs (CopyOut done total) is = (omega (arith, is.part, is.whole, is.call.few), omega (arith, is.whole, is.call.few))
 
-mark_words : (mark : Option WordPlace) → IfSome mark IsWordPlace → HasMarkWords mark
+mark_words : (mark : Option PageWord) → IfSome mark IsPageWord → HasMarkWords mark
 mark_words None is = tt
-mark_words (Some place) is = record {
+mark_words (Some word) is = record {
   resource = omega (arith, is.resource);
   page = omega (arith, is.page);
   at = omega (arith, is.inside);

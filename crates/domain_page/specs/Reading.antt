@@ -5,7 +5,7 @@ use Rattle.cloak_base.specs.Registers.{register}
 use Rattle.cloak_base.specs.declared.names.HartId.{HartId}
 use Rattle.cloak_model.specs.declared.context.Phase.{Phase}
 use Rattle.cloak_model.specs.declared.context.Phase.TheVariants.{Plain, CopyIn, Waiting, CopyOut}
-use Rattle.cloak_model.specs.declared.context.WordPlace.{WordPlace}
+use Rattle.cloak_model.specs.declared.context.PageWord.{PageWord}
 use Rattle.cloak_model.specs.declared.resource.Owner.{Owner}
 use Rattle.cloak_model.specs.declared.resource.Owner.TheVariants.{Space, File}
 use Rattle.cloak_model.specs.declared.resource.Resource.{Resource}
@@ -57,13 +57,13 @@ pub record AreRegs (regs : List ℕ) : Type 0 where
 abbrev pub regs_bytes : List ℕ → List ℕ
 regs_bytes regs = flat_map word (drop 1 regs)
 
-pub record HasPlaceWords (place : WordPlace) : Type 0 where
-  pub resource : IsWord place.resource
-  pub page : IsWord place.page
-  pub at : IsWord place.at
+pub record HasFieldWords (word : PageWord) : Type 0 where
+  pub resource : IsWord word.resource
+  pub page : IsWord word.page
+  pub at : IsWord word.at
 
-abbrev pub HasMarkWords : Option WordPlace → Type 0
-HasMarkWords mark = IfSome mark HasPlaceWords
+abbrev pub HasMarkWords : Option PageWord → Type 0
+HasMarkWords mark = IfSome mark HasFieldWords
 
 pub record IsReadable (c : Context) : Type 0 where
   pub hart : HasHart c.on

@@ -4,11 +4,11 @@ ghost use Rattle.std.specs.Prelude.{◌≡◌, ◌↔◌, ◌<◌, ◌≤◌, �
 ghost use Rattle.std.specs.List.{AllByRecursion};
 ghost use Rattle.cloak_model.specs.Contexts.{context_at};
 ghost use Rattle.cloak_model.specs.Resources.{regions_in};
-ghost use Rattle.frozen_state.specs.Limits.{IsCall, IsCopyIn, IsCopyOut, IsPhase, WaitsOnNoHart, IsWordPlace, IsSteady, IsContext, IsSpace};
+ghost use Rattle.frozen_state.specs.Limits.{IsCall, IsCopyIn, IsCopyOut, IsPhase, WaitsOnNoHart, IsPageWord, IsSteady, IsContext, IsSpace};
 ghost use Rattle.frozen_state.specs.Words.{AreWords, HasContextWords, HasSlotWords, HasOwnerWord, AreFileWords};
 
 use cloak_base::{HartId, Regs};
-use cloak_model::{Owner, Phase, WordPlace};
+use cloak_model::{Owner, PageWord, Phase};
 use resource_map::Resources;
 use thread_context::Context;
 
@@ -66,18 +66,18 @@ fn waits_on_no_hart(phase: &Phase, on: Option<HartId>) -> bool
     }
 }
 
-fn is_word_place(place: WordPlace) -> bool
-    ensures { IsTrue result ↔ IsWordPlace place }
+fn is_page_word(word: PageWord) -> bool
+    ensures { IsTrue result ↔ IsPageWord word }
 {
-    place.resource < 16 && place.page < 1024 && place.at < 4096 && place.at % 4 == 0
+    word.resource < 16 && word.page < 1024 && word.at < 4096 && word.at % 4 == 0
 }
 
-fn is_mark(mark: Option<WordPlace>) -> bool
-    ensures { IsTrue result ↔ IfSome mark IsWordPlace }
+fn is_mark(mark: Option<PageWord>) -> bool
+    ensures { IsTrue result ↔ IfSome mark IsPageWord }
 {
     match mark {
         None => true,
-        Some(place) => is_word_place(place),
+        Some(word) => is_page_word(word),
     }
 }
 

@@ -10,7 +10,7 @@ ghost use Rattle.domain_page.specs.Reading.{ReadsSpelled, all, phase_in, hart_in
 
 use crate::region_list::RegionList;
 use cloak_base::{HartId, Regs};
-use cloak_model::{Owner, Phase, Region, Resource, WordPlace};
+use cloak_model::{Owner, PageWord, Phase, Region, Resource};
 use thread_context::Context;
 
 /// The bytes that are not read yet.
@@ -130,13 +130,13 @@ impl Unread<'_> {
         slots
     }
 
-    fn mark(&mut self) -> Option<WordPlace>
+    fn mark(&mut self) -> Option<PageWord>
         ensures { ReadsSpelled page.mark_bytes HasMarkWords all self.old.left.now self.new.left.now result }
     {
         if self.byte() == 0 {
             return None;
         }
-        Some(WordPlace {
+        Some(PageWord {
             resource: self.word(),
             page: self.word(),
             at: self.word(),

@@ -9,7 +9,7 @@ ghost use Rattle.frozen_state.specs.DomainPage as page;
 ghost use Rattle.domain_page.specs.Writing.{Appends, HasHart, IsOnHart, told_bytes, state_of};
 
 use cloak_base::HartId;
-use cloak_model::{Owner, Phase, Region, WordPlace};
+use cloak_model::{Owner, PageWord, Phase, Region};
 use resource_map::Resources;
 use thread_context::{Context, Contexts};
 
@@ -191,22 +191,22 @@ fn put_resources(into: &mut [u8; 4096], at: usize, r: &Resources) -> usize
 }
 
 /// Writes a reservation, in 13 bytes at most: 0 if there is none.
-fn put_mark(into: &mut [u8; 4096], at: usize, mark: Option<WordPlace>) -> usize
+fn put_mark(into: &mut [u8; 4096], at: usize, mark: Option<PageWord>) -> usize
     requires { at + 13 ≤ 4096 }
     ensures written { Appends into.old into.new at result (page.mark_bytes mark) }
     ensures few { result ≤ at + 13 }
 {
-    let Some(place) = mark else {
+    let Some(word) = mark else {
         return put(into, at, &[0]);
     };
-    let [a, b, c, d] = place.resource.to_le_bytes();
-    let [e, f, g, h] = place.page.to_le_bytes();
-    let [i, j, k, l] = place.at.to_le_bytes();
+    let [a, b, c, d] = word.resource.to_le_bytes();
+    let [e, f, g, h] = word.page.to_le_bytes();
+    let [i, j, k, l] = word.at.to_le_bytes();
     put(into, at, &[1, a, b, c, d, e, f, g, h, i, j, k, l])
 }
 
 /// The reservation of a slot. A free slot has none.
-fn mark_of(slot: &Option<Context>) -> Option<WordPlace>
+fn mark_of(slot: &Option<Context>) -> Option<PageWord>
     ensures { page.mark_bytes result ≡ page.slot_mark_bytes slot.now }
 {
     match slot {

@@ -15,7 +15,7 @@ use Rattle.read_back.specs.Answering.{viewed_unfit}
 use Rattle.read_back.specs.Reading.{IsReadTo}
 use Rattle.read_back.specs.declared.ending.Ending.{Ending}
 use Rattle.read_back.specs.declared.ending.Ending.TheVariants as ending
-use Rattle.read_back.proofs.KernelReads.{at_front}
+use Rattle.read_back.proofs.ItemsRead.{at_front}
 use Rattle.read_back.proofs.NextItem.{told_begins}
 use Rattle.draw_command.specs.Replaying.{ReadsRun, TakesOne}
 
@@ -32,7 +32,7 @@ pub run_opens : (k : KernelImage) (machine : KernelAlone) (told : Option (List �
     RunReads k machine told reader
 unfolding kernel_taken
 run_opens k machine told reader stands front =
-    record { items = []; fits = refl; stands = stands; behind = at_front reader told front }
+    record { items = []; fits = refl; stands = stands; behind = at_front told reader front }
 
 -- one more item
 taken_more : (turns : List ℕ) (s : model.KernelAlone) (items : List Item) (i : Item) →

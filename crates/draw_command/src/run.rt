@@ -8,7 +8,7 @@ ghost use Rattle.draw_command.specs.Replaying.{TakesOne};
 
 use crate::ear::Ear;
 use crate::frames::{differs, frame_led};
-use alone_views::{AskedAccess, DomainAlone, KernelAlone, KernelPlace, Unfit};
+use alone_views::{AskedAccess, DomainAlone, KernelAlone, KernelStage, Unfit};
 use cloak_base::{NoMemory, frame_of, place_of};
 use cloak_model::{Bundle, Item, Kernel};
 use run_notes::{Mark, MarkKind, Notes, Plan};
@@ -64,7 +64,7 @@ fn step_ahead(kernel: &KernelAlone, item: &Item) -> Option<StepAhead> {
     if !matches!(item, Item::Step { .. } | Item::Close { .. }) {
         return None;
     }
-    let KernelPlace::Outside { hart } = kernel.place() else {
+    let KernelStage::Outside { hart } = kernel.stage() else {
         return None;
     };
     Some(StepAhead {

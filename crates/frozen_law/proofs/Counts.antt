@@ -1,5 +1,5 @@
 -- There are as many frames at every moment of a run, and as many places of owed pages.
-use Rattle.std.proofs.Common.{◌≡◌, ◌∙◌, ℕ, Bool, List, [], length, slice_index_or, Option, Some, None, IfSome, Ok, sym, ap}
+use Rattle.std.proofs.Common.{◌≡◌, ◌∙◌, ℕ, Bool, true, false, List, [], length, slice_index_or, Option, Some, None, IfSome, Ok, sym, ap}
 use Rattle.std.specs.Str.{bytes_eq}
 use Rattle.std.proofs.lemmas.List.{length-replicate, length-set}
 use Rattle.cloak_base.specs.Random.{Random}
@@ -8,7 +8,7 @@ use Rattle.cloak_model.specs.declared.image.Bundle.{Bundle}
 use Rattle.cloak_model.specs.declared.item.Item.{Item}
 use Rattle.cloak_model.specs.AskPages.{ask_copy, ask_forget}
 use Rattle.cloak_model.specs.Beginning.{Beginning, opening_from}
-use Rattle.cloak_model.specs.Cloaking.{CloakedMemory, AfterSettling, AfterOffer, Ready, Mismatch, owed_in, settle_owed, settle_if, settle, settle_frame_if, owing_frame, owes, with_owed, with_comparison, taken, compared, unless_missed, offer}
+use Rattle.cloak_model.specs.Cloaking.{CloakedMemory, AfterSettling, AfterOffer, owed_in, settle_owed, settle_if, settle, settle_frame_if, owing_frame, owes, with_owed, with_comparison, taken, compared, unless_missed, offer}
 use Rattle.cloak_model.specs.DomainState.{Domain}
 use Rattle.cloak_model.specs.DomainStep.{domain_step}
 use Rattle.cloak_model.specs.Events.{Event}
@@ -31,7 +31,8 @@ use Rattle.script_fold.proofs.Endings.{keeps_end}
 use Rattle.kernel_isolation.proofs.Shown.{either}
 use Rattle.limit_law.proofs.Moments.{at_every_moment}
 use Rattle.limit_law.proofs.Openings.{begins_by_memory}
-use Rattle.frozen_law.proofs.Memories.{InWorld, Carries, step_carries}
+use Rattle.chain_law.proofs.ZeroWorlds.{InWorld}
+use Rattle.frozen_law.proofs.Memories.{Carries, step_carries}
 
 abbrev pub HasCount : ℕ → CloakedMemory → Type 0
 HasCount n m = length m.ledger.owed ≡ n
@@ -68,8 +69,8 @@ compared_count n q g write None m here = put_count n g q m here
 compared_count n q g write (Some c) m here =
     let there = slice_index_or m.ram g [] in
     let m' : CloakedMemory = with_comparison there c m in
-    either (OfferCount n) (bytes_eq there c) (record { memory = taken q g write m'; ciphers = []; answer = Ready })
-    (record { memory = m'; ciphers = []; answer = Mismatch })
+    either (OfferCount n) (bytes_eq there c) (record { memory = taken q g write m'; ciphers = []; granted = true })
+    (record { memory = m'; ciphers = []; granted = false })
     (either (HasCount n) write (with_owed g (Some q) m') m' (put_count n g q m' here) here) here
 
 unless_count : (n : ℕ) (s : AfterSettling) (next : CloakedMemory → AfterOffer) → HasCount n s.memory →

@@ -1,12 +1,12 @@
 -- Draws, and frames that are owed a page: settling takes none more of both together, and an offer one.
-use Rattle.std.proofs.Common.{◌≡◌, ℕ, zero, suc, ◌+◌, ◌-◌, ◌^◌, ◌≤◌, Bool, List, [], ◌∷◌, slice_set, slice_index_or, Option, Some, None, refl, ap, arith}
+use Rattle.std.proofs.Common.{◌≡◌, ℕ, zero, suc, ◌+◌, ◌-◌, ◌^◌, ◌≤◌, Bool, true, false, List, [], ◌∷◌, slice_set, slice_index_or, Option, Some, None, refl, ap, arith}
 use Rattle.std.specs.Str.{bytes_eq}
 use Rattle.std.proofs.Math.Nat.{min-le_left}
 use Rattle.cloak_base.specs.Random.{Random}
 use Rattle.cloak_base.specs.declared.names.PageId.{PageId}
 use Rattle.cloak_model.specs.declared.item.Item.{Item}
 use Rattle.cloak_model.specs.AskPages.{ask_write, ask_copy, ask_forget}
-use Rattle.cloak_model.specs.Cloaking.{CloakedMemory, AfterSettling, AfterOffer, Ready, Mismatch, owed_in, settle_owed, settle_if, settle, settle_frame_if, owing_frame, owes, with_owed, with_comparison, taken, compared, unless_missed, offer}
+use Rattle.cloak_model.specs.Cloaking.{CloakedMemory, AfterSettling, AfterOffer, owed_in, settle_owed, settle_if, settle, settle_frame_if, owing_frame, owes, with_owed, with_comparison, taken, compared, unless_missed, offer}
 use Rattle.cloak_model.specs.Contexts.{Context}
 use Rattle.cloak_model.specs.DomainState.{Control, Domain}
 use Rattle.cloak_model.specs.DomainStep.{domain_step}
@@ -20,7 +20,7 @@ use Rattle.cloak_model.specs.World.{World, Flat, Cloaked, Alone, noted, stored_a
 use Rattle.cloak_model.specs.Script.{played}
 use Rattle.kernel_isolation.proofs.Shown.{either}
 use Rattle.frozen_law.proofs.Ends.{hypercall_keeps, end_keeps}
-use Rattle.frozen_law.proofs.Memories.{InWorld}
+use Rattle.chain_law.proofs.ZeroWorlds.{InWorld}
 use Rattle.frozen_law.proofs.Questions.{Kept, reach_keeps, clear_keeps}
 use Rattle.frozen_law.proofs.Walks.{AnyPage, any_page, Stores, step_keeps}
 
@@ -91,8 +91,8 @@ compared_few n q g write (Some c) m few =
     let there = slice_index_or m.ram g [] in
     let m' : CloakedMemory = with_comparison there c m in
     let wide : AreFew (n + 1) m' = few_wide n (n + 1) m (omega arith) few in
-    either (OfferFew (n + 1)) (bytes_eq there c) (record { memory = taken q g write m'; ciphers = []; answer = Ready })
-    (record { memory = m'; ciphers = []; answer = Mismatch })
+    either (OfferFew (n + 1)) (bytes_eq there c) (record { memory = taken q g write m'; ciphers = []; granted = true })
+    (record { memory = m'; ciphers = []; granted = false })
     (either (AreFew (n + 1)) write (with_owed g (Some q) m') m' (put_few n g q m' few) wide) wide
 
 unless_few : (n : ℕ) (s : AfterSettling) (next : CloakedMemory → AfterOffer) → AreFew n s.memory →

@@ -11,7 +11,7 @@ use Rattle.cloak_base.specs.Registers.{register}
 use Rattle.cloak_base.specs.declared.names.PageId.{PageId}
 use Rattle.cloak_model.specs.declared.context.Phase.{Phase}
 use Rattle.cloak_model.specs.declared.context.Phase.TheVariants.{Plain, CopyIn, Waiting, CopyOut}
-use Rattle.cloak_model.specs.declared.context.WordPlace.{WordPlace}
+use Rattle.cloak_model.specs.declared.context.PageWord.{PageWord}
 use Rattle.cloak_model.specs.declared.inside.Copied.{Copied}
 use Rattle.cloak_model.specs.declared.inside.Copied.TheVariants as copied
 use Rattle.cloak_model.specs.declared.inside.Ran.{Ran}
@@ -45,11 +45,10 @@ use Rattle.resource_map.proofs.Copies.{marked_all}
 use Rattle.resource_map.proofs.Lists.{get_or-map_all, inside_from_some}
 use Rattle.resource_map.proofs.Places.{any-places}
 use Rattle.chain_law.proofs.Zeros.{keeps_places, settle_fresh, offer_offered}
-use Rattle.chain_law.proofs.ZeroWorlds.{clear_clears, NoneOwedIn}
+use Rattle.chain_law.proofs.ZeroWorlds.{InWorld, clear_clears, NoneOwedIn}
 use Rattle.frozen_law.specs.Held.{IsHeldBy}
 use Rattle.frozen_law.proofs.HeldCopies.{closed_all, fork_stay}
 use Rattle.frozen_law.proofs.HeldPages.{IsKind, pages_held, HeldStay, new_stay, file_stay, map_stay, unmap_stay}
-use Rattle.frozen_law.proofs.Memories.{InWorld}
 use Rattle.frozen_law.proofs.Owned.{PagesAreOf, of_wide, settle_of, offer_of, copy_of_kind, Without, drop_of}
 use Rattle.frozen_law.proofs.Questions.{Kept, reach_keeps, clear_keeps}
 use Rattle.frozen_law.proofs.Walks.{Stores, instruction_keeps, copy_in_keeps, copy_out_keeps}
@@ -315,7 +314,7 @@ module _ (Other : PageId → Type 0) (d : Domain) (sound : IsSound d.control.res
   copied_same slot c copied.Going = refl
   copied_same slot c _ = refl
 
-  written_same : (wrote : Option WordPlace) (s : DomainStepped) →
+  written_same : (wrote : Option PageWord) (s : DomainStepped) →
       (after_write wrote s).domain.control.resources ≡ s.domain.control.resources
   written_same None s = refl
   written_same (Some place) s = refl
@@ -323,7 +322,7 @@ module _ (Other : PageId → Type 0) (d : Domain) (sound : IsSound d.control.res
   same_holds : (r : Resources) (w : World) → r ≡ d.control.resources → OfIn Now w → OfIn (Mine r) w
   same_holds r w same of = subst (λ (x : Resources). OfIn (Mine x) w) (sym same) of
 
-  wrote_holds : (wrote : Option WordPlace) (s : DomainStepped) (w : World) → OfIn (Mine s.domain.control.resources) w →
+  wrote_holds : (wrote : Option PageWord) (s : DomainStepped) (w : World) → OfIn (Mine s.domain.control.resources) w →
       OfIn (Mine (after_write wrote s).domain.control.resources) w
   wrote_holds None s w of = of
   wrote_holds (Some place) s w of = of

@@ -1,5 +1,5 @@
 -- There are as many places for reservations at every moment of a run.
-use Rattle.std.proofs.Common.{◌≡◌, ◌∙◌, ℕ, Bool, List, [], length, slice_index_or, Option, Some, None, IfSome, Ok, ap}
+use Rattle.std.proofs.Common.{◌≡◌, ◌∙◌, ℕ, Bool, true, false, List, [], length, slice_index_or, Option, Some, None, IfSome, Ok, ap}
 use Rattle.std.specs.Str.{bytes_eq}
 use Rattle.std.proofs.lemmas.List.{length-map, length-replicate, length-set}
 use Rattle.cloak_base.specs.Pages.{zero_page}
@@ -9,7 +9,7 @@ use Rattle.cloak_model.specs.declared.image.Bundle.{Bundle}
 use Rattle.cloak_model.specs.declared.item.Item.{Item}
 use Rattle.cloak_model.specs.AskPages.{ask_copy, ask_forget}
 use Rattle.cloak_model.specs.Beginning.{Beginning, opening_from}
-use Rattle.cloak_model.specs.Cloaking.{CloakedMemory, AfterSettling, AfterOffer, Ready, Mismatch, seen_in, owed_in, ciphertext_of, settle_owed, settle_if, settle, settle_frame_if, owing_frame, owes, with_owed, with_comparison, taken, compared, unless_missed, offer}
+use Rattle.cloak_model.specs.Cloaking.{CloakedMemory, AfterSettling, AfterOffer, seen_in, owed_in, ciphertext_of, settle_owed, settle_if, settle, settle_frame_if, owing_frame, owes, with_owed, with_comparison, taken, compared, unless_missed, offer}
 use Rattle.cloak_model.specs.DomainStep.{domain_step}
 use Rattle.cloak_model.specs.Ending.{ask_end, cloak_for}
 use Rattle.cloak_model.specs.Events.{Event}
@@ -76,8 +76,8 @@ compared_count n q g write None m here = here
 compared_count n q g write (Some c) m here =
     let there = slice_index_or m.ram g [] in
     let m' : CloakedMemory = with_comparison there c m in
-    either (OfferCount n) (bytes_eq there c) (record { memory = taken q g write m'; ciphers = []; answer = Ready })
-    (record { memory = m'; ciphers = []; answer = Mismatch })
+    either (OfferCount n) (bytes_eq there c) (record { memory = taken q g write m'; ciphers = []; granted = true })
+    (record { memory = m'; ciphers = []; granted = false })
     (either (HasMarks n) write (with_owed g (Some q) m') m' here here) here
 
 unless_count : (n : ℕ) (s : AfterSettling) (next : CloakedMemory → AfterOffer) → HasMarks n s.memory →

@@ -26,11 +26,7 @@ use Rattle.cloak_model.proofs.ResumeParts.{with_roots, by_root, by_context, by_d
 use Rattle.cloak_model.specs.World.{World, MidStep, Flat, Cloaked, Alone, seen_of}
 use Rattle.kernel_isolation.proofs.Settlings.{HasPlaces}
 use Rattle.limit_law.proofs.Endings.{answers_keep}
-
--- of the memory of a world
-abbrev pub InWorld : (CloakedMemory → Type 0) → World → Type 0
-InWorld P (Cloaked c) = P c.memory
-InWorld P _ = Unit {0}
+use Rattle.chain_law.proofs.ZeroWorlds.{InWorld}
 
 -- What takes a memory from P, before a step, to Q.
 pub record Carries (P Q : CloakedMemory → Type 0) : Type 0 where

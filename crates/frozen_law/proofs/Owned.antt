@@ -7,7 +7,7 @@ use Rattle.cloak_base.specs.Pages.{same_page, is_of, page_in}
 use Rattle.cloak_base.specs.Random.{Random}
 use Rattle.cloak_base.specs.declared.names.PageId.{PageId}
 use Rattle.cloak_base.proofs.Pages.{is_of-here}
-use Rattle.cloak_model.specs.Cloaking.{CloakedMemory, AfterSettling, AfterOffer, Ready, Mismatch, owed_in, settle_owed, settle_if, settle, settle_frame_if, owing_frame, owes, with_owed, with_comparison, taken, compared, unless_missed, offer}
+use Rattle.cloak_model.specs.Cloaking.{CloakedMemory, AfterSettling, AfterOffer, owed_in, settle_owed, settle_if, settle, settle_frame_if, owing_frame, owes, with_owed, with_comparison, taken, compared, unless_missed, offer}
 use Rattle.cloak_model.specs.Ledger.{vector_of}
 use Rattle.cloak_model.specs.PageMoves.{copy_pages, drop_pages}
 use Rattle.kernel_isolation.proofs.Shown.{either}
@@ -80,8 +80,8 @@ module _ (P : PageId → Type 0) where
       let there = slice_index_or m.ram g [] in
       let m' : CloakedMemory = with_comparison there c m in
       let of' : PagesAreOf P m' = record { owed = of.owed; recorded = of.recorded } in
-      either OfferOf (bytes_eq there c) (record { memory = taken q g write m'; ciphers = []; answer = Ready })
-      (record { memory = m'; ciphers = []; answer = Mismatch })
+      either OfferOf (bytes_eq there c) (record { memory = taken q g write m'; ciphers = []; granted = true })
+      (record { memory = m'; ciphers = []; granted = false })
       (either (PagesAreOf P) write (with_owed g (Some q) m') m' (taken_of g q m' own of') of') of'
 
   unless_of : (s : AfterSettling) (next : CloakedMemory → AfterOffer) → PagesAreOf P s.memory → OfferOf (next s.memory) →

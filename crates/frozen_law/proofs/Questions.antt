@@ -1,18 +1,21 @@
 -- What each change of a world does, each question of a program does, with a count of the pages that are offered: a
 -- question for a page offers one at most, and it is one of a kind; no other question offers any.
-use Rattle.std.proofs.Common.{true, ℕ, Bool, List, Ok, Err, ◌+◌, ◌≤◌, ◌++◌, Result, Some, arith}
+use Rattle.std.proofs.Common.{true, false, ℕ, Bool, List, Ok, Err, ◌+◌, ◌≤◌, ◌++◌, Some, arith}
 use Rattle.std.proofs.lemmas.Bool.{cond_both}
+use Rattle.cloak_base.specs.Constants.{frame_of}
 use Rattle.cloak_base.specs.declared.causes.Violation.TheVariants as violation
 use Rattle.cloak_base.specs.declared.names.Kind.{Kind}
 use Rattle.cloak_base.specs.declared.names.PageId.{PageId}
+use Rattle.cloak_model.specs.declared.access.Walked.{Walked}
 use Rattle.cloak_model.specs.declared.answer.Answer.{Answer}
 use Rattle.cloak_model.specs.declared.item.Item.{Item}
 use Rattle.cloak_model.specs.Asking.{Told, Asking}
-use Rattle.cloak_model.specs.AskPages.{is_store, replies, if_drawn, ask_inside_address, offered_by, offer_events, ask_offer, reached, reach_by_table, put_at, settled_if_marked, ask_reach, ask_get, ask_put, ask_clear}
-use Rattle.cloak_model.specs.Cloaking.{OfferEnd, Ready, Mismatch, Missed, offer}
+use Rattle.cloak_model.specs.AskPages.{is_store, replies, if_drawn, ask_led_inside, offered_by, offer_events, ask_offer, reached, reach_by_table, put_at, ask_reach, ask_get, ask_put, ask_clear}
+use Rattle.cloak_model.specs.Cloaking.{offer}
 use Rattle.cloak_model.specs.Events.{Event}
+use Rattle.cloak_model.specs.Walk.{Walk}
 use Rattle.cloak_model.specs.World.{World, MidStep, Flat, Cloaked, Alone, noted, stored_at, settled, Handed, written, cipher_items, is_missed}
-use Rattle.script_fold.proofs.Questions.{Opens, Replies, opens_by, keeps_inside_address, keeps_if_marked, keeps_next_answer, keeps_get, keeps_stored, keeps_clear}
+use Rattle.script_fold.proofs.Questions.{Opens, Replies, opens_by, keeps_led_inside, keeps_next_answer, keeps_get, keeps_stored, keeps_clear}
 
 -- What holds of a world and of that after it, if at most this many pages were offered in between, all of this kind.
 pub record Kept (P : PageId → Type 0) (R : ℕ → World → World → Type 0) : Type 0 where
@@ -28,7 +31,7 @@ pub record Kept (P : PageId → Type 0) (R : ℕ → World → World → Type 0)
       R 1 (Cloaked c) (Cloaked (record c {
         memory = o.memory;
         items = c.items ++ cipher_items o.ciphers;
-        events = c.events ++ offer_events q g c.memory o.answer;
+        events = c.events ++ offer_events q g c.memory o.granted;
       }))
   pub mismatched : (q : PageId) (g : ℕ) (c : MidStep) →
       R 0 (Cloaked c) (Cloaked (record c { violation = Some (violation.Page q (record { 0 = g })) }))
@@ -53,45 +56,46 @@ module _ (P : PageId → Type 0) (R : ℕ → World → World → Type 0) (k : K
   none_replies : Replies (R 0)
   none_replies = record { opens = none_opens; replied = replies_keeps; told = k.told; unfit = k.unfit }
 
-  pub address_keeps : (va : ℕ) (kind : Kind) (w : World) → R 0 w (ask_inside_address va kind w).world
-  address_keeps va kind w = keeps_inside_address (R 0) none_opens va kind w
+  address_keeps : (va : ℕ) (kind : Kind) (w : World) → R 0 w (ask_led_inside va kind w).world
+  address_keeps va kind w = keeps_led_inside (R 0) none_opens va kind w
 
   -- pages
 
-  offered_keeps : (q : PageId) (va : ℕ) (kind : Kind) (g : ℕ) (o : OfferEnd) (w : World) →
-      R 0 w (offered_by q va kind g o w).world
+  offered_keeps : (q : PageId) (va : ℕ) (kind : Kind) (walked : Walked) (granted : Bool) (w : World) →
+      R 0 w (offered_by q va kind walked granted w).world
   unfolding offered_by
-  offered_keeps q va kind g Ready w = k.chained 0 0 _ _ _ (k.noted _ w) (replies_keeps _ _)
-  offered_keeps q va kind g Missed w = replies_keeps _ w
-  offered_keeps q va kind g Mismatch (Flat ram) = replies_keeps _ (Flat ram)
-  offered_keeps q va kind g Mismatch (Cloaked c) =
-      k.chained 0 0 _ (Cloaked _) _ (k.mismatched q g c) (replies_keeps _ _)
-  offered_keeps q va kind g Mismatch (Alone h) = replies_keeps _ (Alone h)
+  offered_keeps q va kind walked true w = k.chained 0 0 _ _ _ (k.noted _ w) (replies_keeps _ _)
+  offered_keeps q va kind walked false (Flat ram) = replies_keeps _ (Flat ram)
+  offered_keeps q va kind walked false (Cloaked c) =
+      k.chained 0 0 _ (Cloaked _) _ (k.mismatched q (frame_of walked.pa) c) (replies_keeps _ _)
+  offered_keeps q va kind walked false (Alone h) = replies_keeps _ (Alone h)
 
-  offer_keeps : (q : PageId) → P q → (va : ℕ) (kind : Kind) (g : ℕ) (w : World) →
-      R 1 w (ask_offer q va kind g w).world
+  -- what is asked unless a draw was missing may offer as many
+  drawn_keeps : (n : ℕ) (ask : Asking Answer) (w : World) → R n w (ask w).world → R n w (if_drawn ask w).world
+  unfolding if_drawn
+  drawn_keeps n ask w next =
+      cond_both (is_missed w) _ _ (λ (t : Told Answer). R n w t.world)
+      (λ missed. k.wider 0 n _ _ (omega arith) (replies_keeps _ w)) (λ drawn. next)
+
+  offer_keeps : (q : PageId) → P q → (va : ℕ) (kind : Kind) (walked : Walked) (w : World) →
+      R 1 w (ask_offer q va kind walked w).world
   unfolding ask_offer
-  offer_keeps q own va kind g (Flat ram) = one _ _ (k.same (Flat ram))
-  offer_keeps q own va kind g (Cloaked c) =
-      k.chained 1 0 _ (Cloaked _) _ (k.offered q own g (is_store kind) c) (offered_keeps q va kind g _ _)
-  offer_keeps q own va kind g (Alone h) = one _ _ (k.same (Alone h))
+  offer_keeps q own va kind walked (Flat ram) = one _ _ (k.same (Flat ram))
+  offer_keeps q own va kind walked (Cloaked c) =
+      k.chained 1 0 _ (Cloaked _) _ (k.offered q own (frame_of walked.pa) (is_store kind) c)
+      (drawn_keeps 0 _ _ (offered_keeps q va kind walked _ _))
+  offer_keeps q own va kind walked (Alone h) = one _ _ (k.same (Alone h))
 
-  reached_keeps : (q : PageId) → P q → (va : ℕ) (kind : Kind) (to : Result ℕ ℕ) (w : World) →
+  reached_keeps : (q : PageId) → P q → (va : ℕ) (kind : Kind) (to : Walk) (w : World) →
       R 1 w (reached q va kind to w).world
   unfolding reached
   reached_keeps q own va kind (Err cause) w = one _ _ (replies_keeps _ w)
-  reached_keeps q own va kind (Ok pa) w = offer_keeps q own va kind _ w
-
-  drawn_keeps : (ask : Asking Answer) (w : World) → R 1 w (ask w).world → R 1 w (if_drawn ask w).world
-  unfolding if_drawn
-  drawn_keeps ask w next =
-      cond_both (is_missed w) _ _ (λ (t : Told Answer). R 1 w t.world) (λ missed. one _ _ (replies_keeps _ w))
-      (λ drawn. next)
+  reached_keeps q own va kind (Ok walked) w = offer_keeps q own va kind walked w
 
   table_keeps : (q : PageId) → P q → (va : ℕ) (kind : Kind) (w : World) → R 1 w (reach_by_table q va kind w).world
   unfolding reach_by_table
   table_keeps q own va kind w =
-      k.chained 0 1 _ _ _ (address_keeps va kind w) (drawn_keeps _ _ (reached_keeps q own va kind _ _))
+      k.chained 0 1 _ _ _ (address_keeps va kind w) (drawn_keeps 1 _ _ (reached_keeps q own va kind _ _))
 
   pub reach_keeps : (q : PageId) → P q → (va : ℕ) (kind : Kind) (w : World) → R 1 w (ask_reach q va kind w).world
   unfolding ask_reach
@@ -112,10 +116,6 @@ module _ (P : PageId → Type 0) (R : ℕ → World → World → Type 0) (k : K
   pub put_keeps : (va width value : ℕ) (w : World) → R 0 w (ask_put va width value w).world
   put_keeps va width value w =
       keeps_stored (R 0) none_replies width (λ pa value' v. put_at_keeps pa width value' v) va value w
-
-  pub marked_keeps : (domain : ℕ) (marked : List Bool) (f : ℕ) (w : World) →
-      R 0 w (settled_if_marked domain marked f w)
-  marked_keeps domain marked f w = keeps_if_marked (R 0) none_opens.settles domain marked f w
 
   pub clear_keeps : (domain : ℕ) (marked : List Bool) (w : World) → R 0 w (ask_clear domain marked w).world
   clear_keeps domain marked w = keeps_clear (R 0) none_replies domain marked w

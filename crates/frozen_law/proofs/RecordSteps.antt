@@ -1,39 +1,33 @@
 -- What is recorded of pages tells their newest bytes, after each step of a program.
-use Rattle.std.proofs.Common.{◌≡◌, ◌∙◌, ◌<◌, ◌+◌, ℕ, Bool, true, false, ◌&&◌, cond, List, [], ◌∷◌, zip, length, Result, Ok, Err, refl, sym}
+use Rattle.std.proofs.Common.{◌≡◌, ◌∙◌, ◌+◌, ℕ, Bool, true, false, List, [], ◌∷◌, zip, length, refl, sym}
 use Rattle.std.specs.Prelude.{All}
-use Rattle.std.proofs.lemmas.Bool.{false≢true, ltb-true}
+use Rattle.std.proofs.lemmas.Bool.{false≢true}
 use Rattle.std.proofs.lemmas.List.{length-set}
 use Rattle.std.proofs.lemmas.List.Elements.{All-head, All-tail}
 use Rattle.cloak_base.specs.Constants.{frame_of}
-use Rattle.cloak_base.specs.declared.names.Kind.{Kind}
 use Rattle.cloak_base.specs.declared.names.Kind.TheVariants.{Store}
 use Rattle.cloak_base.specs.declared.names.PageId.{PageId}
-use Rattle.cloak_model.specs.declared.answer.Answer.{Answer}
 use Rattle.cloak_model.specs.declared.answer.Answer.TheVariants as told
 use Rattle.cloak_model.specs.declared.item.Item.{Item}
-use Rattle.cloak_model.specs.Asking.{Told, Asking}
-use Rattle.cloak_model.specs.AskPages.{replies, if_drawn, ask_inside_address, offered_by, ask_offer, reached, reach_by_table, next_answer, ask_reach, ask_write, ask_copy, ask_forget}
-use Rattle.cloak_model.specs.Cloaking.{CloakedMemory, OfferEnd, Ready, Mismatch, Missed}
+use Rattle.cloak_model.specs.AskPages.{ask_reach, ask_write, ask_copy, ask_forget}
+use Rattle.cloak_model.specs.Cloaking.{CloakedMemory}
 use Rattle.cloak_model.specs.Contexts.{Context}
 use Rattle.cloak_model.specs.DomainState.{Control, Domain}
 use Rattle.cloak_model.specs.DomainStep.{domain_step}
 use Rattle.cloak_model.specs.Ending.{ask_end}
 use Rattle.cloak_model.specs.Events.{Event}
 use Rattle.cloak_model.specs.Fork.{marked, private_numbers, free_numbers, copies, copy_each}
-use Rattle.cloak_model.specs.Memory.{is_in_ram}
 use Rattle.cloak_model.specs.PageMoves.{copy_pages, drop_pages}
-use Rattle.cloak_model.specs.World.{World, Handed, Flat, Cloaked, Alone, is_missed, ram_of, noted, stored_at, settled, written}
+use Rattle.cloak_model.specs.World.{World, Flat, Cloaked, Alone, noted, stored_at, settled, written}
 use Rattle.cloak_model.specs.Script.{played}
 use Rattle.hypercall_kinds.specs.Kinds.{cleared}
 use Rattle.script_fold.proofs.Endings.{keeps_end}
-use Rattle.kernel_isolation.proofs.Leading.{leads_inside}
 use Rattle.kernel_isolation.proofs.Settlings.{HasPlaces}
 use Rattle.chain_law.proofs.Zeros.{keeps_places, settle_fresh, offer_offered}
-use Rattle.chain_law.proofs.ZeroWorlds.{clear_clears, NoneOwedIn, MarkedClear, copy_owes}
+use Rattle.chain_law.proofs.ZeroWorlds.{InWorld, PlacesIn, IfOk, reach_grants, clear_clears, NoneOwedIn, MarkedClear, copy_owes}
 use Rattle.frozen_law.specs.Records.{RecordsTell}
 use Rattle.frozen_law.proofs.Ends.{hypercall_keeps}
-use Rattle.frozen_law.proofs.Memories.{InWorld}
-use Rattle.frozen_law.proofs.Questions.{Kept, address_keeps, reach_keeps, clear_keeps}
+use Rattle.frozen_law.proofs.Questions.{Kept, reach_keeps, clear_keeps}
 use Rattle.frozen_law.proofs.Records.{IsOwed, settle_tell, offer_tell, offer_owes, newest_tell, copy_tell, drop_tell}
 use Rattle.frozen_law.proofs.Walks.{AnyPage, any_page, Stores, step_keeps}
 use Rattle.chain_law.proofs.ZeroSteps.{IsMarked, private_marked}
@@ -98,94 +92,15 @@ changes = record {
 
 -- A page that was reached for a store is owed to a frame.
 
-abbrev OwedIn : PageId → World → Type 0
-OwedIn q w = InWorld (IsOwed q) w
-
-abbrev OwedIfOk : PageId → Told Answer → Type 0
-OwedIfOk q t = t.answer ≡ told.Ok → OwedIn q t.world
-
-owed_written : (q : PageId) (i : Item) (w : World) → OwedIn q w → OwedIn q (written i w)
-owed_written q i (Cloaked c) owed = owed
-owed_written q i _ owed = tt
-
-owed_noted : (q : PageId) (events : List Event) (w : World) → OwedIn q w → OwedIn q (noted events w)
-owed_noted q events (Cloaked c) owed = owed
-owed_noted q events _ owed = tt
-
-owed_replies : (q : PageId) (a : Answer) (w : World) → (a ≡ told.Ok → OwedIn q w) → OwedIfOk q (replies a w)
-unfolding replies
-owed_replies q a w owed is = owed_written q _ w (owed is)
-
-stopped_ok : told.Stopped ≡ told.Ok → ⊥
-stopped_ok is = cc
-
-owed_offered : (q : PageId) (va : ℕ) (kind : Kind) (g : ℕ) (o : OfferEnd) (w : World) → (o ≡ Ready → OwedIn q w) →
-    OwedIfOk q (offered_by q va kind g o w)
-unfolding offered_by
-owed_offered q va kind g Ready w owed = owed_replies q told.Ok _ (λ is. owed_noted q _ w (owed refl))
-owed_offered q va kind g Missed w owed = owed_replies q told.Stopped w (λ is. absurd (stopped_ok is))
-owed_offered q va kind g Mismatch (Flat seen) owed = owed_replies q told.Stopped _ (λ is. absurd (stopped_ok is))
-owed_offered q va kind g Mismatch (Cloaked c) owed = owed_replies q told.Stopped _ (λ is. absurd (stopped_ok is))
-owed_offered q va kind g Mismatch (Alone h) owed = owed_replies q told.Stopped _ (λ is. absurd (stopped_ok is))
-
-owed_offer : (q : PageId) (va g : ℕ) (w : World) → InWorld HasPlaces w → g < length (ram_of w) →
-    OwedIfOk q (ask_offer q va Store g w)
-unfolding ask_offer
-owed_offer q va g (Cloaked c) places low is =
-    owed_offered q va Store g _ _ (offer_owes (length c.memory.ram) q g c.memory places low) is
-owed_offer q va g _ places low is = absurd (stopped_ok is)
-
-second_true : (a b : Bool) → a && b ≡ true → b ≡ true
-second_true true b is = is
-second_true false b is = absurd (false≢true is)
-
-owed_reached : (q : PageId) (va : ℕ) (to : Result ℕ ℕ) (w : World) → InWorld HasPlaces w →
-    ((pa : ℕ) → to ≡ Ok pa → is_in_ram (ram_of w) pa ≡ true) → OwedIfOk q (reached q va Store to w)
-unfolding reached
-owed_reached q va (Err cause) w places inside = owed_replies q (told.Absent cause) w (λ is. absurd cc)
-owed_reached q va (Ok pa) w places inside =
-    owed_offer q va (frame_of pa) w places
-    (ltb-true (frame_of pa) (length (ram_of w)) (second_true _ _ (inside pa refl)))
-
-owed_drawn : (q : PageId) (ask : Asking Answer) (w : World) → OwedIfOk q (ask w) → OwedIfOk q (if_drawn ask w)
-unfolding if_drawn
-owed_drawn q ask w owed = by (is_missed w)
-  where
-    by : (missed : Bool) → OwedIfOk q (cond missed (replies told.Stopped w) (ask w))
-    by true = owed_replies q told.Stopped w (λ is. absurd (stopped_ok is))
-    by false = owed
-
-places_of : (w : World) → KnowsIn w → InWorld HasPlaces w
+places_of : (w : World) → KnowsIn w → PlacesIn w
 places_of (Cloaked c) knows = knows.0
 places_of _ knows = tt
 
-owed_by_table : (q : PageId) (va : ℕ) (w : World) → KnowsIn w → OwedIfOk q (reach_by_table q va Store w)
-unfolding reach_by_table
-owed_by_table q va w knows =
-    let to = ask_inside_address va Store w in
-    owed_drawn q (reached q va Store to.answer) to.world
-    (owed_reached q va to.answer to.world
-    (places_of to.world ((address_keeps AnyPage Learns changes va Store w).by knows))
-    (λ pa is. ((leads_inside va Store w).inside pa is).0))
+reach_owed : (q : PageId) (va : ℕ) (w : World) → KnowsIn w → IfOk (IsOwed q) (ask_reach q va Store w)
+reach_owed q va w knows =
+    reach_grants (IsOwed q) q Store (λ g m low. offer_owes (length m.ledger.owed) q g m refl low) va w (places_of w knows)
 
-either_owed : (q : PageId) (b : Bool) (x y : Told Answer) → OwedIn q x.world → OwedIn q y.world →
-    OwedIn q (cond b x y).world
-either_owed q true x y here there = here
-either_owed q false x y here there = there
-
-owed_alone : (q : PageId) (is_fit : Answer → Bool) (rest : List Answer) (h : Handed) →
-    OwedIn q (next_answer is_fit rest h).world
-unfolding next_answer
-owed_alone q is_fit [] h = tt
-owed_alone q is_fit (a ∷ rest) h = either_owed q (is_fit a) _ _ tt tt
-
-reach_owed : (q : PageId) (va : ℕ) (w : World) → KnowsIn w → OwedIfOk q (ask_reach q va Store w)
-unfolding ask_reach
-reach_owed q va (Flat seen) knows is = absurd (stopped_ok is)
-reach_owed q va (Cloaked c) knows is = owed_by_table q va (Cloaked c) knows is
-reach_owed q va (Alone h) knows is = owed_alone q _ _ h
-
-write_knows : (q : PageId) (at width value : ℕ) (w : World) → OwedIn q w → KnowsIn w →
+write_knows : (q : PageId) (at width value : ℕ) (w : World) → InWorld (IsOwed q) w → KnowsIn w →
     KnowsIn (ask_write q at width value w).world
 unfolding ask_write
 write_knows q at width value (Cloaked c) owed knows = (knows.0, newest_tell q _ c.memory owed knows.1)

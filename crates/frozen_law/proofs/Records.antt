@@ -9,7 +9,7 @@ use Rattle.cloak_base.specs.Random.{Random}
 use Rattle.cloak_base.specs.declared.names.PageId.{PageId}
 use Rattle.cloak_base.proofs.Pages.{same_page_tells, is_of_tells}
 use Rattle.cloak_model.specs.Chain.{cbc}
-use Rattle.cloak_model.specs.Cloaking.{CloakedMemory, AfterSettling, AfterOffer, Ready, Mismatch, Missed, owed_in, settle_owed, settle_if, settle, settle_frame_if, owing_frame, owes, with_owed, with_comparison, taken, compared, unless_missed, offer}
+use Rattle.cloak_model.specs.Cloaking.{CloakedMemory, AfterSettling, AfterOffer, owed_in, settle_owed, settle_if, settle, settle_frame_if, owing_frame, owes, with_owed, with_comparison, taken, compared, unless_missed, offer}
 use Rattle.cloak_model.specs.Ledger.{key_of, vector_of}
 use Rattle.cloak_model.specs.PageMoves.{with_newest, copy_pages, drop_pages}
 use Rattle.domain_isolation.proofs.InOrder.{decided}
@@ -114,8 +114,8 @@ compared_tell q g write (Some c) m clean tell =
     let there = slice_index_or m.ram g [] in
     let m' : CloakedMemory = with_comparison there c m in
     let tell' : RecordsTell m' = tell in
-    either OfferTells (bytes_eq there c) (record { memory = taken q g write m'; ciphers = []; answer = Ready })
-    (record { memory = m'; ciphers = []; answer = Mismatch })
+    either OfferTells (bytes_eq there c) (record { memory = taken q g write m'; ciphers = []; granted = true })
+    (record { memory = m'; ciphers = []; granted = false })
     (either RecordsTell write (with_owed g (Some q) m') m' (put_tell g q m' clean tell') tell') tell'
 
 unless_tell : (s : AfterSettling) (next : CloakedMemory → AfterOffer) → RecordsTell s.memory →
@@ -142,8 +142,8 @@ offer_tell q g write m tell =
 abbrev pub IsOwed : PageId → CloakedMemory → Type 0
 IsOwed q m = (f : ℕ) × (owed_in m f ≡ Some q)
 
-abbrev OwesIfReady : PageId → AfterOffer → Type 0
-OwesIfReady q o = o.answer ≡ Ready → IsOwed q o.memory
+abbrev OwesIfGranted : PageId → AfterOffer → Type 0
+OwesIfGranted q o = o.granted ≡ true → IsOwed q o.memory
 
 owes_page : (q : PageId) (o : Option PageId) → owes q o ≡ true → o ≡ Some q
 owes_page q None is = absurd (false≢true is)
@@ -153,21 +153,21 @@ put_owes : (g : ℕ) (q : PageId) (m : CloakedMemory) → g < length m.ledger.ow
 put_owes g q m low = (g, get_or-set_same m.ledger.owed g (Some q) None low)
 
 compared_owes : (q : PageId) (g : ℕ) (o : Option (List ℕ)) (m : CloakedMemory) → g < length m.ledger.owed →
-    OwesIfReady q (compared q g true o m)
+    OwesIfGranted q (compared q g true o m)
 unfolding compared
 compared_owes q g None m low = λ is. put_owes g q m low
 compared_owes q g (Some c) m low =
     let there = slice_index_or m.ram g [] in
     let m' : CloakedMemory = with_comparison there c m in
-    either (OwesIfReady q) (bytes_eq there c) (record { memory = taken q g true m'; ciphers = []; answer = Ready })
-    (record { memory = m'; ciphers = []; answer = Mismatch }) (λ is. put_owes g q m' low) (λ is. absurd cc)
+    either (OwesIfGranted q) (bytes_eq there c) (record { memory = taken q g true m'; ciphers = []; granted = true })
+    (record { memory = m'; ciphers = []; granted = false }) (λ is. put_owes g q m' low) (λ is. absurd cc)
 
-unless_owes : (q : PageId) (s : AfterSettling) (next : CloakedMemory → AfterOffer) → OwesIfReady q (next s.memory) →
-    OwesIfReady q (unless_missed s next)
+unless_owes : (q : PageId) (s : AfterSettling) (next : CloakedMemory → AfterOffer) → OwesIfGranted q (next s.memory) →
+    OwesIfGranted q (unless_missed s next)
 unfolding unless_missed
 unless_owes q s next later =
-    either (OwesIfReady q) s.missed (record { memory = s.memory; ciphers = s.ciphers; answer = Missed })
-    (let o = next s.memory in record { memory = o.memory; ciphers = s.ciphers ++ o.ciphers; answer = o.answer })
+    either (OwesIfGranted q) s.missed (record { memory = s.memory; ciphers = s.ciphers; granted = false })
+    (let o = next s.memory in record { memory = o.memory; ciphers = s.ciphers ++ o.ciphers; granted = o.granted })
     (λ is. absurd cc) later
 
 either_case : (P : AfterOffer → Type 0) (t : Bool) (x y : AfterOffer) → (t ≡ true → P x) → P y → P (cond t x y)
@@ -175,14 +175,14 @@ either_case P true x y here there = here refl
 either_case P false x y here there = there
 
 pub offer_owes : (n : ℕ) (q : PageId) (g : ℕ) (m : CloakedMemory) → HasCount n m → g < n →
-    OwesIfReady q (offer q g true m)
+    OwesIfGranted q (offer q g true m)
 unfolding offer
 offer_owes n q g m count low =
     let m' : CloakedMemory = (settle g m).memory in
     let s = settle_frame_if (owing_frame m' q) m' in
     let count'' : HasCount n s.memory = frame_count n (owing_frame m' q) m' (settle_count n g m count) in
-    either_case (OwesIfReady q) (owes q (owed_in m g)) (record { memory = m; ciphers = []; answer = Ready }) _
-    (λ is ready. (g, owes_page q (owed_in m g) is))
+    either_case (OwesIfGranted q) (owes q (owed_in m g)) (record { memory = m; ciphers = []; granted = true }) _
+    (λ is granted. (g, owes_page q (owed_in m g) is))
     (unless_owes q (settle g m) _
     (unless_owes q s _
     (compared_owes q g (s.memory.ledger.recorded q) s.memory (subst (λ (k : ℕ). g < k) (sym count'') low))))

@@ -1,5 +1,5 @@
 -- A run's stream is what is left after its draws: over each step, and in a run.
-use Rattle.std.proofs.Common.{◌≡◌, ◌∙◌, inl, inr, ℕ, zero, suc, ◌+◌, ◌-◌, ◌^◌, ◌<◌, min, Bool, List, [], slice_index_or, Option, Some, None, IfSome, Ok, refl, sym, ap, subst, arith}
+use Rattle.std.proofs.Common.{◌≡◌, ◌∙◌, inl, inr, ℕ, zero, suc, ◌+◌, ◌-◌, ◌^◌, ◌<◌, min, Bool, true, false, List, [], slice_index_or, Option, Some, None, IfSome, Ok, refl, sym, ap, subst, arith}
 use Rattle.std.specs.Prelude.{IsSomeAnd, option_and_then}
 use Rattle.std.specs.Str.{bytes_eq}
 use Rattle.std.proofs.Math.Nat.{min-eq_left, min-eq_right}
@@ -11,7 +11,7 @@ use Rattle.cloak_model.specs.declared.image.Bundle.{Bundle}
 use Rattle.cloak_model.specs.declared.item.Item.{Item}
 use Rattle.cloak_model.specs.AskPages.{ask_copy, ask_forget}
 use Rattle.cloak_model.specs.Beginning.{Beginning, Fresh, Stored, stored_keys, opening_from}
-use Rattle.cloak_model.specs.Cloaking.{CloakedMemory, AfterSettling, AfterOffer, Ready, Mismatch, owed_in, settle_owed, settle_if, settle, settle_frame_if, owing_frame, owes, with_owed, with_comparison, taken, compared, unless_missed, offer}
+use Rattle.cloak_model.specs.Cloaking.{CloakedMemory, AfterSettling, AfterOffer, owed_in, settle_owed, settle_if, settle, settle_frame_if, owing_frame, owes, with_owed, with_comparison, taken, compared, unless_missed, offer}
 use Rattle.cloak_model.specs.DomainState.{Domain}
 use Rattle.cloak_model.specs.DomainStep.{domain_step}
 use Rattle.cloak_model.specs.Events.{Event}
@@ -33,7 +33,8 @@ use Rattle.kernel_isolation.proofs.Shown.{either}
 use Rattle.limit_law.proofs.Moments.{at_every_moment}
 use Rattle.frozen_law.specs.Streams.{HasDrawn, HasDrawnFrom, RunsKeepStreams}
 use Rattle.frozen_law.proofs.DrawRuns.{draws_are_below}
-use Rattle.frozen_law.proofs.Memories.{InWorld, Carries, step_carries}
+use Rattle.chain_law.proofs.ZeroWorlds.{InWorld}
+use Rattle.frozen_law.proofs.Memories.{Carries, step_carries}
 use Rattle.frozen_law.proofs.Placing.{programs_placed}
 
 -- One more draw.
@@ -114,8 +115,8 @@ module _ (keys : Keys) (rest : Random) where
       let there = slice_index_or m.ram g [] in
       let m' : CloakedMemory = with_comparison there c m in
       let here' : Fits m' = record { held = here.held; stream = here.stream } in
-      either OfferFits (bytes_eq there c) (record { memory = taken q g write m'; ciphers = []; answer = Ready })
-      (record { memory = m'; ciphers = []; answer = Mismatch })
+      either OfferFits (bytes_eq there c) (record { memory = taken q g write m'; ciphers = []; granted = true })
+      (record { memory = m'; ciphers = []; granted = false })
       (either Fits write (with_owed g (Some q) m') m' (record { held = here.held; stream = here.stream }) here') here'
 
   unless_follows : (s : AfterSettling) (next : CloakedMemory → AfterOffer) → Fits s.memory → OfferFits (next s.memory) →

@@ -1,5 +1,5 @@
 -- What ended a program names a page of it and a frame of RAM, at every moment of a run: a step presented both.
-use Rattle.std.proofs.Common.{◌≡◌, ◌∙◌, ℕ, zero, suc, ◌<◌, nat_le, nat_lt, true, List, [], ◌∷◌, length, take, slice_get, slice_index_or, Option, Some, None, IfSome, Result, Ok, refl, sym, ap, subst}
+use Rattle.std.proofs.Common.{◌≡◌, ◌∙◌, ℕ, zero, suc, ◌<◌, nat_le, nat_lt, true, List, [], ◌∷◌, length, take, slice_get, slice_index_or, Option, Some, None, IfSome, Ok, refl, sym, ap, subst}
 use Rattle.std.specs.Result.{result_map_both}
 use Rattle.std.proofs.lemmas.Bool.{and_parts, ltb-true}
 use Rattle.std.proofs.lemmas.List.{length-set}
@@ -24,6 +24,7 @@ use Rattle.cloak_model.specs.Joint.{Moment, Turn, joint_step, after_turn, stop_o
 use Rattle.cloak_model.specs.Memory.{is_in_ram}
 use Rattle.cloak_model.specs.Opening.{RunEdge, Lack}
 use Rattle.cloak_model.specs.Run.{Run, run_from, run_of, unless_stopped, turns_from, joint_after, first_moment, closing}
+use Rattle.cloak_model.specs.Walk.{Walk}
 use Rattle.cloak_model.specs.World.{World, Flat, Cloaked, Alone, ram_of, noted, stored_at, settled, written, with_plain}
 use Rattle.cause_law.specs.Causes.{EndIsPresented, moment_at}
 use Rattle.cause_law.specs.Presented.{AsksAt, Fetches, LoadsAt, StoresAt, AtomicAt, CopiesFrom, CopiesTo, PresentsPage, world_inside}
@@ -31,13 +32,13 @@ use Rattle.cause_law.proofs.Runs.{end_has_cause}
 use Rattle.kernel_isolation.specs.Isolation.{joint_until}
 use Rattle.kernel_isolation.proofs.Isolated.{of_opened}
 use Rattle.kernel_isolation.proofs.Leading.{leads_inside}
-use Rattle.script_fold.proofs.Questions.{Kept, opens_of, replies_of, keeps_reach, keeps_get, keeps_inside_address}
+use Rattle.script_fold.proofs.Questions.{Kept, opens_of, replies_of, keeps_reach, keeps_get, keeps_led_inside}
 use Rattle.limit_law.proofs.Pages.{IsPage, pages_there}
 use Rattle.limit_law.proofs.Runs.{runs_keep_limits}
 use Rattle.chain_law.proofs.Zeros.{settle_fresh, offer_offered}
 use Rattle.frozen_law.specs.Violations.{NamesPageOf, IsViolationOf, EndsAreInRange}
 use Rattle.frozen_law.proofs.Counts.{are_counted}
-use Rattle.frozen_law.proofs.Memories.{InWorld}
+use Rattle.chain_law.proofs.ZeroWorlds.{InWorld}
 
 -- The first steps of a run are a run.
 
@@ -192,21 +193,21 @@ module _ (b : Bundle) (from : Beginning) (budget : ℕ) (r : Run) (grammar : IsI
         let counted = are_counted b from budget r runs before in
         let at = asks_frames n s.domain s.context (world_inside (moment_at b r before) s) p.va p.kind (Cloaked p.at) p.asks
         counted.frames in
-        let found = subst (λ (t : Told (Result ℕ ℕ)). HasFrames n t.world) p.finds.leads
-        ((keeps_inside_address Frames (opens_of Frames changes) p.va p.kind (Cloaked p.at)).by n at) in
-        let led = ((leads_inside p.va p.kind (Cloaked p.at)).inside p.finds.pa
-        (ap (λ (t : Told (Result ℕ ℕ)). t.answer) p.finds.leads)).0 in
-        let inside : is_in_ram p.finds.found.memory.ram p.finds.pa ≡ true =
-        subst (λ (t : Told (Result ℕ ℕ)). is_in_ram (ram_of t.world) p.finds.pa ≡ true) p.finds.leads led in
-        let parts = and_parts (nat_le ram_start p.finds.pa)
-        (nat_lt (frame_of p.finds.pa) (length p.finds.found.memory.ram)) inside in
+        let pa : ℕ = p.finds.walked.pa in
+        let found = subst (λ (t : Told Walk). HasFrames n t.world) p.finds.leads
+        ((keeps_led_inside Frames (opens_of Frames changes) p.va p.kind (Cloaked p.at)).by n at) in
+        let led = ((leads_inside p.va p.kind (Cloaked p.at)).inside p.finds.walked
+        (ap (λ (t : Told Walk). t.answer) p.finds.leads)).0 in
+        let inside : is_in_ram p.finds.found.memory.ram pa ≡ true =
+        subst (λ (t : Told Walk). is_in_ram (ram_of t.world) pa ≡ true) p.finds.leads led in
+        let parts = and_parts (nat_le ram_start pa) (nat_lt (frame_of pa) (length p.finds.found.memory.ram)) inside in
         record {
           domain = own;
           resource = page.resource;
           page = page.page;
           frame = subst (λ (k : ℕ). k < n) p.finds.frame
-              (subst (λ (k : ℕ). frame_of p.finds.pa < k) found
-              (ltb-true (frame_of p.finds.pa) (length p.finds.found.memory.ram) parts.1));
+              (subst (λ (k : ℕ). frame_of pa < k) found
+              (ltb-true (frame_of pa) (length p.finds.found.memory.ram) parts.1));
         }
 
     end_in_range : (d : ℕ) (v : Violation) → EndIsPresented b r d v → IsViolationOf b.kernel.frames d v

@@ -19,10 +19,11 @@ use Rattle.frozen_state.specs.declared.fault.FrozenFault.TheVariants.{Form}
 use Rattle.frozen_state.specs.FrozenState.{maybe_word, meta_bytes, violation_bytes, page_words}
 use Rattle.frozen_state.specs.Ranges.{has_only, is_word_in_ram, IsPage, IsViolationOf}
 use Rattle.frozen_state.specs.FrozenFault.{FrozenField, any_in, ruled_in, byte_below, word_below, maybe_fields, after_maybe, mark_fields, violation_fields, after_violation, csr_fields, page_at, page_fields}
+use Rattle.field_facts.proofs.Firsts.{first_in-append, holds, whole_is, two}
+use Rattle.field_facts.proofs.Stands.{behind}
+use Rattle.field_facts.proofs.Again.{after_text, byte_again, is_left, number_again, piece_again}
 use Rattle.frozen_run.specs.Reading.{values, after_word, maybe_in, meta_in, violation_in}
 use Rattle.frozen_run.specs.Shapes.{HasMetaShape, HasPageShape, HasViolationShape}
-use Rattle.frozen_run.proofs.Firsts.{first_in-append}
-use Rattle.frozen_run.proofs.Stands.{behind}
 use Rattle.frozen_run.proofs.PageFields.{number_fields, meta_fields, page_split}
 
 -- Fields without a fault, whose value is v, and which end after this text.
@@ -32,47 +33,6 @@ pub record Again {A : Type 0} (body : List ℕ) (fields : List FrozenField) (at 
   pub ends : next ≡ at + length text
 
 -- ---- fields that are whole and keep their rules
-
-pub is_left : (body : List ℕ) (at : ℕ) (text rest : List ℕ) (n : ℕ) → drop at body ≡ text ++ rest → length text ≡ n →
-    ltb (length body - at) n ≡ false
-is_left body at text rest n e size =
-    let all : length (drop at body) ≡ length (text ++ rest) = ap length e in
-    le-ltb (length body - at) n (omega (arith, length-drop at body, length-append text rest))
-
-pub number_again : (body : List ℕ) (at n : ℕ) (rest : List ℕ) → n < 2 ^ 32 → drop at body ≡ word n ++ rest →
-    number body at ≡ n
-number_again body at n rest lt e =
-    ap (λ t. from_le_bytes w32 (take 4 t)) e ∙ ap (from_le_bytes w32) (take_at (word n) rest 4 refl)
-    ∙ from_le_bytes-to_le_bytes_4 n lt
-
-pub piece_again : (body : List ℕ) (at : ℕ) (text rest : List ℕ) (n : ℕ) → drop at body ≡ text ++ rest →
-    length text ≡ n → take n (drop at body) ≡ text
-piece_again body at text rest n e size = ap (take n) e ∙ take_at text rest n size
-
--- what stands after a text, at another name of the place
-pub after_text : (body : List ℕ) (at : ℕ) (text rest : List ℕ) (next : ℕ) → drop at body ≡ text ++ rest →
-    next ≡ at + length text → drop next body ≡ rest
-after_text body at text rest next e is = ap (λ (k : ℕ). drop k body) is ∙ behind body at text rest e
-
--- a field that is whole and keeps its rule has no fault
-pub holds : (cut rule : Bool) (e f : FrozenFault) → cut ≡ false → rule ≡ true →
-    cond cut (Some e) (cond rule None (Some f)) ≡ None
-holds true rule e f whole right = absurd cc
-holds false true e f whole right = refl
-holds false false e f whole right = absurd cc
-
-pub whole_is : (cut : Bool) (e : FrozenFault) → cut ≡ false → cond cut (Some e) None ≡ None
-whole_is true e whole = absurd cc
-whole_is false e whole = refl
-
-pub two : (a b : Option FrozenFault) → a ≡ None → b ≡ None → first_of a b ≡ None
-two None b first second = second
-two (Some f) b first second = absurd cc
-
-pub byte_again : (body : List ℕ) (at b : ℕ) (rest : List ℕ) → drop at body ≡ b ∷ rest → get_or body at 0 ≡ b
-byte_again body at b rest e =
-    let first : get_or body (at + 0) 0 ≡ b = sym (get_or-drop at body 0 0) ∙ ap (λ t. get_or t 0 0) e in
-    rw add-zero at first
 
 pub any_again : (body : List ℕ) (at : ℕ) (text rest : List ℕ) (n : ℕ) → drop at body ≡ text ++ rest →
     length text ≡ n → fault_in body (any_in body at n) ≡ None

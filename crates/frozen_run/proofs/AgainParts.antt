@@ -25,14 +25,15 @@ use Rattle.frozen_state.specs.FrozenState.{maybe_word, meta_bytes, violation_byt
 use Rattle.frozen_state.specs.Ranges.{kept_bits, IsFrozenHart, IsPage, IsViolationOf, owed_page, Rises}
 use Rattle.frozen_state.specs.Limits.{IsOnce}
 use Rattle.frozen_state.specs.FrozenFault.{FrozenField, any_in, ruled_in, maybe_fields, after_maybe, mark_fields, violation_fields, after_violation, page_from, domain_fields, after_domain, csr_fields, regs_from, csrs_from, mark_from, hart_fields, after_hart, page_at, page_fields, after_frame, frames_fields, rises, recorded_fields}
+use Rattle.field_facts.proofs.Firsts.{first_in-append, holds, two}
+use Rattle.field_facts.proofs.Stands.{behind}
+use Rattle.field_facts.proofs.Again.{is_left, number_again, piece_again, after_text, byte_again}
 use Rattle.frozen_run.specs.Reading.{values, after_word, maybe_in, meta_in, domain_in, domains_in, mode_in, hart_in, frame_in, frame_fields, seen_after, recorded_in, after_recorded}
 use Rattle.frozen_run.specs.Shapes.{HasPageShape, HasDomainShape, HasHartShape, HasFrameShape, HasRecordedShape}
-use Rattle.frozen_run.proofs.Firsts.{first_in-append}
-use Rattle.frozen_run.proofs.Stands.{behind}
 use Rattle.frozen_run.proofs.Parts.{IsRightAt, after_words}
 use Rattle.frozen_run.proofs.Frames.{AreNew, frames_step}
 use Rattle.frozen_run.proofs.Recorded.{AreAfter, recorded_step}
-use Rattle.frozen_run.proofs.Again.{Again, is_left, number_again, piece_again, after_text, holds, two, byte_again, any_again, ruled_again, maybe_again, mark_again, row_again, word_again, meta_again, page_again, violation_again, csrs_again}
+use Rattle.frozen_run.proofs.Again.{Again, any_again, ruled_again, maybe_again, mark_again, row_again, word_again, meta_again, page_again, violation_again, csrs_again}
 
 three : (a b c : Option FrozenFault) → first_of a (first_of b None) ≡ None → c ≡ None →
     first_of a (first_of b (first_of c None)) ≡ None

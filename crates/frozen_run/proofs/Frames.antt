@@ -15,10 +15,10 @@ use Rattle.frozen_state.specs.Limits.{IsOnce}
 use Rattle.frozen_state.specs.FrozenState.{meta_bytes, page_words, frame_bytes}
 use Rattle.frozen_state.specs.Ranges.{IsPage, owed_page}
 use Rattle.frozen_state.specs.FrozenFault.{any_in, byte_below, page_at, page_fields, owes_page, after_frame, frames_fields}
+use Rattle.field_facts.proofs.Firsts.{first_of-assoc, first_in-append, none_parts, field_holds}
+use Rattle.field_facts.proofs.Stands.{AreBytes, Stands, Stands-then, piece_stands, byte_stands}
 use Rattle.frozen_run.specs.Reading.{values, meta_in, frame_in, frame_fields, seen_after}
-use Rattle.frozen_run.proofs.Firsts.{first_of-assoc, first_in-append}
-use Rattle.frozen_run.proofs.Stands.{AreBytes, none_parts, field_holds, Stands, Stands-then, piece_stands}
-use Rattle.frozen_run.proofs.Spelled.{ends_at, byte_stands, byte_then, page_holds, zero_below_2}
+use Rattle.frozen_run.proofs.Spelled.{ends_at, byte_then, page_holds, zero_below_2}
 
 -- ---- one more frame
 

@@ -26,14 +26,15 @@ use Rattle.frozen_state.specs.declared.frozen.FrozenHart.{FrozenHart}
 use Rattle.frozen_state.specs.FrozenState.{domain_bytes, hart_bytes, frame_bytes, recorded_bytes, frozen_magic, body_bytes, frozen_bytes}
 use Rattle.frozen_state.specs.Ranges.{IsFrozenHart, IsPage, IsInRange, IsFrozen, owed_page}
 use Rattle.frozen_state.specs.FrozenFault.{FrozenField, any_in, domain_fields, after_domain, hart_fields, after_hart, frames_fields, recorded_fields, harts_from, disk_from, frames_from, count_at, fields_end, frozen_fields, form_fault, is_other_bundle, frozen_fault}
+use Rattle.field_facts.proofs.Firsts.{first_in-append, holds, two}
+use Rattle.field_facts.proofs.Stands.{behind}
+use Rattle.field_facts.proofs.Again.{number_again, piece_again, after_text}
 use Rattle.frozen_run.specs.Reading.{values, hart_in, recorded_in, after_recorded, frozen_in}
 use Rattle.frozen_run.specs.Shapes.{HasDomainShape, HasHartShape, HasFrameShape, HasRecordedShape, HasShape}
 use Rattle.frozen_run.specs.Laws.{SpellsOne, HasFaultOrState}
-use Rattle.frozen_run.proofs.Firsts.{first_in-append}
-use Rattle.frozen_run.proofs.Stands.{behind}
 use Rattle.frozen_run.proofs.Parts.{IsRightAt}
 use Rattle.frozen_run.proofs.Whole.{after_records, is_frozen}
-use Rattle.frozen_run.proofs.Again.{number_again, piece_again, after_text, holds, two, any_again, ruled_again, row_again}
+use Rattle.frozen_run.proofs.Again.{any_again, ruled_again, row_again}
 use Rattle.frozen_run.proofs.AgainParts.{domains_again, hart_again, frames_again, recorded_again}
 
 long_again : (body : List ℕ) (at n : ℕ) (rest : List ℕ) → n < 2 ^ 64 → drop at body ≡ long n ++ rest → long_at body at ≡ n

@@ -1,6 +1,4 @@
-pub mod Firsts
 pub mod Rows
-pub mod Stands
 pub mod Spelled
 pub mod Parts
 pub mod Frames

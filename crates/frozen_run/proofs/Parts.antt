@@ -12,9 +12,9 @@ use Rattle.frozen_state.specs.declared.frozen.FrozenDomain.{FrozenDomain}
 use Rattle.frozen_state.specs.FrozenState.{maybe_word, meta_bytes, violation_bytes, domain_bytes, mode_byte, hart_bytes}
 use Rattle.frozen_state.specs.Ranges.{kept_bits, is_word_in_ram, IsViolationOf, IsFrozenHart}
 use Rattle.frozen_state.specs.FrozenFault.{FrozenField, any_in, ruled_in, byte_below, maybe_fields, after_maybe, violation_fields, after_violation, page_from, domain_fields, after_domain, csr_fields, mark_fields, regs_from, csrs_from, mark_from, hart_fields, after_hart}
+use Rattle.field_facts.proofs.Firsts.{first_in-append, none_parts, field_holds}
+use Rattle.field_facts.proofs.Stands.{AreBytes, Stands, Stands-then, piece_stands, number_stands}
 use Rattle.frozen_run.specs.Reading.{values, after_word, maybe_in, meta_in, violation_in, domain_in, domains_in, mode_in, hart_in}
-use Rattle.frozen_run.proofs.Firsts.{first_in-append}
-use Rattle.frozen_run.proofs.Stands.{AreBytes, none_parts, field_holds, Stands, Stands-then, piece_stands, number_stands}
 use Rattle.frozen_run.proofs.Spelled.{any_whole, ends_at, byte_then, maybe_by, maybe_stands_by, maybe_stands, values_stand, word_stands, ruled_holds, meta_stands, violation_holds, csrs_stand, csrs_kept}
 
 -- ---- domains

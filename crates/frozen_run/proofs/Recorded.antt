@@ -10,9 +10,9 @@ use Rattle.frozen_state.specs.declared.frozen.FrozenPage.{FrozenPage}
 use Rattle.frozen_state.specs.FrozenState.{recorded_bytes}
 use Rattle.frozen_state.specs.Ranges.{IsPage, precedes, Rises}
 use Rattle.frozen_state.specs.FrozenFault.{page_at, page_fields, rises, recorded_fields}
+use Rattle.field_facts.proofs.Firsts.{first_in-append, none_parts}
+use Rattle.field_facts.proofs.Stands.{AreBytes, Stands, Stands-then}
 use Rattle.frozen_run.specs.Reading.{values, recorded_in, after_recorded}
-use Rattle.frozen_run.proofs.Firsts.{first_in-append}
-use Rattle.frozen_run.proofs.Stands.{AreBytes, none_parts, Stands, Stands-then}
 use Rattle.frozen_run.proofs.Spelled.{page_holds}
 
 -- ---- one more page

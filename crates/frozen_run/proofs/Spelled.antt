@@ -16,9 +16,9 @@ use Rattle.frozen_state.specs.declared.fault.FrozenFault.TheVariants.{Form}
 use Rattle.frozen_state.specs.FrozenState.{maybe_word, meta_bytes, violation_bytes, page_words}
 use Rattle.frozen_state.specs.Ranges.{has_only, IsPage, IsViolationOf}
 use Rattle.frozen_state.specs.FrozenFault.{FrozenField, any_in, ruled_in, byte_below, word_below, maybe_fields, after_maybe, violation_fields, after_violation, csr_fields, page_at, page_fields}
+use Rattle.field_facts.proofs.Firsts.{first_in-append, none_parts, not_so, field_holds}
+use Rattle.field_facts.proofs.Stands.{AreBytes, Stands, Stands-then, piece_stands, number_stands, byte_stands}
 use Rattle.frozen_run.specs.Reading.{values, after_word, maybe_in, meta_in, violation_in}
-use Rattle.frozen_run.proofs.Firsts.{first_in-append}
-use Rattle.frozen_run.proofs.Stands.{AreBytes, none_parts, not_so, field_holds, Stands, Stands-then, piece_stands, number_stands}
 
 -- ---- fields
 
@@ -28,12 +28,6 @@ any_whole body at n h = ltb-false _ _ (not_so (ltb (length body - at) n) (Form (
 -- a text that ends at another name of its end
 pub ends_at : (body : List ℕ) (at : ℕ) (text : List ℕ) (b c : ℕ) → b ≡ c → Stands body at text b → Stands body at text c
 ends_at body at text b c e s = subst (λ (k : ℕ). Stands body at text k) e s
-
-pub byte_stands : (body : List ℕ) (at b : ℕ) → 1 ≤ length body - at → get_or body at 0 ≡ b →
-    Stands body at (b ∷ []) (at + 1)
-byte_stands body at b le is = record {
-  parts = drop_more body at 0 (omega arith) ∙ ap (λ (k : ℕ). k ∷ drop (at + 1) body) is;
-}
 
 -- a byte and a text after it
 pub byte_then : (body : List ℕ) (at b : ℕ) (text : List ℕ) (next : ℕ) → 1 ≤ length body - at → get_or body at 0 ≡ b →

@@ -7,8 +7,8 @@ use Rattle.frozen_state.specs.declared.fault.FrozenFault.{FrozenFault}
 use Rattle.frozen_state.specs.declared.fault.FrozenFault.TheVariants.{Form, NoMemory}
 use Rattle.frozen_state.specs.Ranges.{kept_bits}
 use Rattle.frozen_state.specs.FrozenFault.{FrozenField, any_in, ruled_in, byte_below, header, maybe_fields, after_maybe, violation_fields, after_violation, page_from, domain_fields, after_domain, csr_fields, mark_fields, regs_from, csrs_from, mark_from, hart_fields, after_hart, frames_fields, after_frame, recorded_fields, harts_from, disk_from, frames_from, count_at, frozen_fields, form_fault}
+use Rattle.field_facts.proofs.Firsts.{first_of-none, first_in-append, no_fault}
 use Rattle.frozen_run.specs.Reading.{after_word}
-use Rattle.frozen_run.proofs.Firsts.{first_of-none, first_in-append, no_fault}
 use Rattle.frozen_run.proofs.PageFields.{meta_fields}
 
 -- ---- a domain

@@ -20,10 +20,10 @@ use Rattle.frozen_state.specs.declared.frozen.FrozenPage.{FrozenPage}
 use Rattle.frozen_state.specs.FrozenState.{domain_bytes, hart_bytes, frame_bytes, recorded_bytes, frozen_magic, body_bytes, frozen_bytes}
 use Rattle.frozen_state.specs.Ranges.{IsFrozenHart, IsPage, IsInRange, IsFrozen, owed_page}
 use Rattle.frozen_state.specs.FrozenFault.{FrozenField, any_in, ruled_in, domain_fields, after_domain, hart_fields, after_hart, frames_fields, after_frame, recorded_fields, header, harts_from, disk_from, frames_from, count_at, fields_end, frozen_fields, form_fault, is_other_bundle, frozen_fault}
+use Rattle.field_facts.proofs.Firsts.{first_in-append, none_parts, not_so, kept, field_holds}
+use Rattle.field_facts.proofs.Stands.{AreBytes, piece_bytes, piece_length, Stands, Stands-then, piece_stands, number_stands, long_is}
 use Rattle.frozen_run.specs.Reading.{values, hart_in, frame_in, recorded_in, after_recorded, domains_in, frozen_in}
-use Rattle.frozen_run.proofs.Firsts.{first_in-append}
 use Rattle.frozen_run.proofs.Rows.{length-values, length-domains_in}
-use Rattle.frozen_run.proofs.Stands.{AreBytes, none_parts, not_so, kept, field_holds, piece_bytes, piece_length, Stands, Stands-then, piece_stands, number_stands, long_is}
 use Rattle.frozen_run.proofs.Spelled.{any_whole, ends_at, values_stand, values_all, ruled_holds}
 use Rattle.frozen_run.proofs.Parts.{IsRightAt, domains_hold, hart_holds}
 use Rattle.frozen_run.proofs.Frames.{frames_hold}

@@ -3,7 +3,7 @@
 use Rattle.std.specs.Prelude.{ℕ, ◌≡◌, ◌-◌, false, List, [], ◌∷◌, ◌++◌, length, replicate, Option, Some, None}
 use Rattle.std.specs.List.{flat_map, AllByRecursion}
 use Rattle.cloak_model.specs.Bits.{word}
-use Rattle.cloak_model.specs.declared.context.WordPlace.{WordPlace}
+use Rattle.cloak_model.specs.declared.context.PageWord.{PageWord}
 use Rattle.cloak_model.specs.Contexts.{Context}
 use Rattle.cloak_model.specs.DomainState.{Control, state_bytes}
 use Rattle.frozen_state.specs.Limits.{KeepsLimits}
@@ -12,7 +12,7 @@ use Rattle.frozen_state.specs.Words.{HasSlotWords, AreFileWords}
 -- The page.
 
 -- nothing, or the place of a reserved word
-abbrev pub mark_bytes : Option WordPlace → List ℕ
+abbrev pub mark_bytes : Option PageWord → List ℕ
 mark_bytes None = 0 ∷ []
 mark_bytes (Some place) = 1 ∷ (word place.resource ++ (word place.page ++ word place.at))
 

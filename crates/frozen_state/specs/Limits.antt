@@ -7,7 +7,7 @@ use Rattle.cloak_base.specs.declared.names.PageId.{PageId}
 use Rattle.cloak_base.specs.declared.names.SpaceId.{SpaceId}
 use Rattle.cloak_model.specs.declared.context.Phase.{Phase}
 use Rattle.cloak_model.specs.declared.context.Phase.TheVariants.{Plain, CopyIn, Waiting, CopyOut}
-use Rattle.cloak_model.specs.declared.context.WordPlace.{WordPlace}
+use Rattle.cloak_model.specs.declared.context.PageWord.{PageWord}
 use Rattle.cloak_model.specs.declared.resource.Region.{Region}
 use Rattle.cloak_model.specs.Contexts.{Context, context_at}
 use Rattle.cloak_model.specs.DomainState.{Control, Domain}
@@ -51,13 +51,12 @@ WaitsOnNoHart (CopyIn done) on = Unit {0}
 WaitsOnNoHart Waiting on = on ≡ None
 WaitsOnNoHart (CopyOut done total) on = Unit {0}
 
--- The place of a word in a page that a program can have: there are 16 numbers of resources, and a resource has 1024
--- pages at most.
-pub record IsWordPlace (place : WordPlace) : Type 0 where
-  pub resource : place.resource < 16
-  pub page : place.page < 1024
-  pub inside : place.at < 4096
-  pub aligned : place.at % 4 ≡ 0
+-- A word of a page that a program can have: there are 16 numbers of resources, and a resource has 1024 pages at most.
+pub record IsPageWord (word : PageWord) : Type 0 where
+  pub resource : word.resource < 16
+  pub page : word.page < 1024
+  pub inside : word.at < 4096
+  pub aligned : word.at % 4 ≡ 0
 
 -- A context, whatever its hart and its space are: 32 registers, of which register 0 is 0, a program counter that is a
 -- multiple of 4, a phase that has the registers that it needs, and, if it has reserved a word, such a place of that.
@@ -66,7 +65,7 @@ pub record IsSteady (c : Context) : Type 0 where
   pub zero_register : register c.regs 0 ≡ 0
   pub aligned : c.pc % 4 ≡ 0
   pub phase : IsPhase c.regs c.phase
-  pub mark : IfSome c.mark IsWordPlace
+  pub mark : IfSome c.mark IsPageWord
 
 -- A context of a program. If it runs, its hart is one of four. Its space is in use.
 pub record IsContext (r : Resources) (c : Context) : Type 0 where

@@ -9,21 +9,17 @@ use Rattle.std.proofs.lemmas.List.{take_at, get_or-drop}
 use Rattle.std.proofs.lemmas.List.Concat.{flat_map-cons}
 use Rattle.std.proofs.lemmas.Nat.{from_le_bytes-to_le_bytes_4}
 use Rattle.cloak_model.specs.Bits.{word}
+use Rattle.cloak_model.specs.Bundle.{Range, frame_counts, page_counts, key_numbers}
 use Rattle.cloak_model.specs.Bundle.{segment_bytes, program_bytes, IsSegmentIn, IsProgramIn}
 use Rattle.cloak_model.specs.declared.image.Segment.{Segment}
 use Rattle.cloak_model.specs.declared.image.Program.{Program}
 use Rattle.cloak_model.specs.declared.fault.BundleFault.{BundleFault}
+use Rattle.field_facts.proofs.Again.{is_left}
+use Rattle.field_facts.proofs.Stands.{behind}
 use Rattle.guest_bundle.specs.Fields.{bytes_at, pages_at, number_at, count_at, entry_at}
 use Rattle.guest_bundle.specs.Reading.{turn_at, segment_at, place_at, base_at, key_at, program_at, parts_at}
 use Rattle.guest_bundle.specs.Places.{key_size}
-use Rattle.guest_bundle.proofs.Steps.{behind, KeyFits, key_text, key_text-length}
-
--- n bytes are left
-is_left : (file : List ℕ) (at : ℕ) (text rest : List ℕ) (n : ℕ) → drop at file ≡ text ++ rest → length text ≡ n →
-    ltb (length file - at) n ≡ false
-is_left file at text rest n e len =
-    let long : length (drop at file) ≡ length (text ++ rest) = ap length e in
-    le-ltb (length file - at) n (omega (arith, length-drop at file, length-append text rest))
+use Rattle.guest_bundle.proofs.Steps.{KeyFits, key_text, key_text-length}
 
 read_again : (file : List ℕ) (at n : ℕ) (rest : List ℕ) → drop at file ≡ word n ++ rest →
     number_at file at ≡ Ok (from_le_bytes w32 (word n))
@@ -42,11 +38,11 @@ pub pages_again : (file : List ℕ) (at n : ℕ) (text rest : List ℕ) → drop
 pages_again file at n text rest e len =
     rw (is_left file at text rest (4096 * n) e len, e, take_at text rest (4096 * n) len) refl
 
-pub count_again : (file : List ℕ) (at low high n : ℕ) (rest : List ℕ) → high < 2 ^ 32 → low ≤ n → n ≤ high →
-    drop at file ≡ word n ++ rest → count_at file at low high ≡ Ok n
+pub count_again : (file : List ℕ) (at : ℕ) (range : Range) (n : ℕ) (rest : List ℕ) → range.high < 2 ^ 32 →
+    range.low ≤ n → n ≤ range.high → drop at file ≡ word n ++ rest → count_at file at range ≡ Ok n
 unfolding count_at
-count_again file at low high n rest lt least most e =
-    rw (number_again file at n rest (omega arith) e, le-ltb n low least, le-ltb high n most) refl
+count_again file at range n rest lt least most e =
+    rw (number_again file at n rest (omega arith) e, le-ltb n range.low least, le-ltb range.high n most) refl
 
 pub entry_again : (file : List ℕ) (at n : ℕ) (rest : List ℕ) → n % 4 ≡ 0 → n < 2 ^ 32 → drop at file ≡ word n ++ rest →
     entry_at file at ≡ Ok n
@@ -62,7 +58,7 @@ turn_again harts file at n rest lt e =
     let is : get_or file at 0 ≡ n = rw add-zero at first in
     rw (is_left file at (n ∷ []) rest 1 e refl, is, lt-ltb n harts lt) refl
 
-pub segment_again : (frames : ℕ) (file : List ℕ) (at : ℕ) (s : Segment) (rest : List ℕ) → frames ≤ 4096 →
+pub segment_again : (frames : ℕ) (file : List ℕ) (at : ℕ) (s : Segment) (rest : List ℕ) → frames ≤ frame_counts.high →
     IsSegmentIn frames s → drop at file ≡ segment_bytes s ++ rest → segment_at frames file at ≡ Ok s
 unfolding segment_at
 segment_again frames file at s rest few inside e =
@@ -79,7 +75,7 @@ segment_again frames file at s rest few inside e =
     let to_end : leb (s.address + length s.bytes) (0x80000000 + 4096 * frames) ≡ true = le-leb _ _ inside.to_end in
     rw (address, size, from_start, to_end, bytes_again file (at + 8) (length s.bytes) s.bytes rest e8 refl) refl
 
-pub place_again : (frames pages : ℕ) (file : List ℕ) (at n : ℕ) (rest : List ℕ) → frames ≤ 4096 → n + pages ≤ frames →
+pub place_again : (frames pages : ℕ) (file : List ℕ) (at n : ℕ) (rest : List ℕ) → frames ≤ frame_counts.high → n + pages ≤ frames →
     drop at file ≡ word n ++ rest → place_at frames pages file at ≡ Ok n
 unfolding place_at
 place_again frames pages file at n rest few fits e =
@@ -95,10 +91,10 @@ base_again pages file at n rest some multiple top e =
 key_again : (keys : Bool) (file : List ℕ) (at key : ℕ) (rest : List ℕ) → KeyFits keys key →
     drop at file ≡ key_text keys key ++ rest → key_at keys file at ≡ Ok key
 unfolding key_at
-key_again true file at key rest fits e = count_again file at 0 3 key rest (omega arith) (omega arith) (omega arith) e
+key_again true file at key rest fits e = count_again file at key_numbers key rest (omega arith) (omega arith) (omega arith) e
 key_again false file at key rest fits e = ap (λ k. Ok k) (sym fits)
 
-pub program_again : (version frames : ℕ) (file : List ℕ) (at : ℕ) (p : Program) (rest : List ℕ) → frames ≤ 4096 →
+pub program_again : (version frames : ℕ) (file : List ℕ) (at : ℕ) (p : Program) (rest : List ℕ) → frames ≤ frame_counts.high →
     IsProgramIn frames p × KeyFits (eqb version 2) p.key → drop at file ≡ program_bytes version p ++ rest →
     program_at (eqb version 2) frames file at ≡ Ok p
 unfolding program_at
@@ -123,8 +119,8 @@ program_again version frames file at p rest few inside e =
     let e24 : drop (at + 20 + key_size keys) file ≡ r24 =
     ap (λ n. drop (at + 20 + n) file) (sym (key_text-length keys p.key))
     ∙ behind file (at + 20) (key_text keys p.key) r24 e20 in
-    let pages : count_at file at 1 1024 ≡ Ok x.pages =
-    count_again file at 1 1024 x.pages r4 (omega arith) fits.some_pages fits.few_pages e0 in
+    let pages : count_at file at page_counts ≡ Ok x.pages =
+    count_again file at page_counts x.pages r4 (omega arith) fits.some_pages fits.few_pages e0 in
     let place = place_again frames x.pages file (at + 4) p.place r8 few fits.place e4 in
     let base = base_again x.pages file (at + 8) x.base r12 fits.some_pages fits.base fits.top e8 in
     let entry = entry_again file (at + 12) x.entry r16 fits.entry fits.entry_fits e12 in

@@ -14,7 +14,8 @@ use Rattle.guest_bundle.specs.Fields.{◌>>=◌, bytes_at, pages_at, number_at, 
 use Rattle.guest_bundle.specs.Reading.{version_at, header_at, turn_at, segment_at, segment_size, place_at, base_at}
 use Rattle.guest_bundle.specs.Reading.{key_at, program_at, program_size, parts_at, bundle_of, bundle_at}
 use Rattle.guest_bundle.specs.Places.{key_size}
-use Rattle.cloak_model.specs.Bundle.{is_version}
+use Rattle.cloak_model.specs.Bundle.{is_version, frame_counts, hart_counts, schedule_lengths, segment_counts}
+use Rattle.cloak_model.specs.Bundle.{block_counts, program_counts, page_counts, key_numbers}
 use Rattle.cloak_model.specs.BundleFault.{lies_in_ram, is_base_of}
 use Rattle.cloak_model.specs.BundleFault as format
 use Rattle.cloak_model.specs.Fields as grammar
@@ -77,14 +78,14 @@ after_segment_is file frames at s e =
 
 -- the fields of a key
 abbrev key_fields : List ℕ → ℕ → Bool → List BundleField
-key_fields file at keys = cond keys (format.count file at 0 3 ∷ []) []
+key_fields file at keys = cond keys (format.count file at key_numbers ∷ []) []
 
 key_tells : (keys : Bool) (file : List ℕ) (at : ℕ) →
     Tells (key_at keys file at) (first_in file (key_fields file at keys))
 unfolding key_at
 key_tells true file at =
-    let field = fault_in file (format.count file at 0 3) in
-    subst (Tells (count_at file at 0 3)) (sym (first_of-none field)) (count_tells file at 0 3)
+    let field = fault_in file (format.count file at key_numbers) in
+    subst (Tells (count_at file at key_numbers)) (sym (first_of-none field)) (count_tells file at key_numbers)
 key_tells false file at = refl
 
 -- what stands before the bytes of a program's pages
@@ -154,11 +155,11 @@ program_tells file keys frames at has is =
     (λ place _. t2 pages place) in
     let rest : Bool → ℕ → ℕ → Option BundleFault =
     λ k f pages. first_in file (f1 f pages ∷ f2 pages ∷ f3 ∷ f4 ∷ tail k pages) in
-    bind_tells (count_at file at 1 1024) k1 (fault_in file (format.count file at 1 1024))
-    (rest (format.has_keys file) (number file 12) (number file at)) (count_tells file at 1 1024) (λ pages e.
+    bind_tells (count_at file at page_counts) k1 (fault_in file (format.count file at page_counts))
+    (rest (format.has_keys file) (number file 12) (number file at)) (count_tells file at page_counts) (λ pages e.
     subst (λ k. Tells (k1 pages) (rest k (number file 12) (number file at))) (sym has)
     (subst (λ f. Tells (k1 pages) (rest keys f (number file at))) (sym is)
-    (subst (λ n. Tells (k1 pages) (rest keys frames n)) (sym (count_is file at 1 1024 pages e)) (t1 pages))))
+    (subst (λ n. Tells (k1 pages) (rest keys frames n)) (sym (count_is file at page_counts pages e)) (t1 pages))))
 
 pub after_program_is : (file : List ℕ) (keys : Bool) (frames at : ℕ) (p : Program) → format.has_keys file ≡ keys →
     program_at keys frames file at ≡ Ok p → format.after_program file at ≡ at + program_size keys p
@@ -166,7 +167,7 @@ after_program_is file keys frames at p has e =
     let s = program_steps keys frames file at p e in
     let bytes = pages_take file (at + 20 + key_size keys) p.start.pages p.bytes s.bytes in
     let header : format.program_header file ≡ 20 + key_size keys = ap (λ k. cond k 24 20) has ∙ header_is keys in
-    omega (arith, header, count_is file at 1 1024 p.start.pages s.pages, bytes.1)
+    omega (arith, header, count_is file at page_counts p.start.pages s.pages, bytes.1)
 
 -- ---- the header
 
@@ -221,20 +222,20 @@ unfolding header_at header_from format.header
 header_tells file =
     let m : BundleField = ruled_at 0 8 (bytes_eq (take 8 file) (codes "CLOAKBND")) BadMagic in
     let v : BundleField = ruled_at 8 4 (is_version (number file 8)) (BadVersion (number file 8)) in
-    let c1 = format.count file 12 64 4096 in
-    let c2 = format.count file 16 1 4 in
-    let c3 = format.count file 20 1 64 in
+    let c1 = format.count file 12 frame_counts in
+    let c2 = format.count file 16 hart_counts in
+    let c3 = format.count file 20 schedule_lengths in
     let c4 : BundleField = ruled_at 24 4 (eqb (number file 24 % 4) 0) (BadRange 24) in
-    let c5 = format.count file 28 0 16 in
-    let c6 = format.count file 32 0 4096 in
-    let c7 = format.count file 36 0 4 in
-    let steps = header_from_tells (version_at file) (count_at file 12 64 4096) (count_at file 16 1 4)
-    (count_at file 20 1 64) (entry_at file 24) (count_at file 28 0 16) (count_at file 32 0 4096)
-    (count_at file 36 0 4)
+    let c5 = format.count file 28 segment_counts in
+    let c6 = format.count file 32 block_counts in
+    let c7 = format.count file 36 program_counts in
+    let steps = header_from_tells (version_at file) (count_at file 12 frame_counts) (count_at file 16 hart_counts)
+    (count_at file 20 schedule_lengths) (entry_at file 24) (count_at file 28 segment_counts) (count_at file 32 block_counts)
+    (count_at file 36 program_counts)
     (first_in file (m ∷ v ∷ [])) (fault_in file c1) (fault_in file c2) (fault_in file c3) (fault_in file c4)
     (fault_in file c5) (fault_in file c6) (fault_in file c7)
-    (version_tells file) (count_tells file 12 64 4096) (count_tells file 16 1 4) (count_tells file 20 1 64)
-    (entry_tells file 24) (count_tells file 28 0 16) (count_tells file 32 0 4096) (count_tells file 36 0 4) in
+    (version_tells file) (count_tells file 12 frame_counts) (count_tells file 16 hart_counts) (count_tells file 20 schedule_lengths)
+    (entry_tells file 24) (count_tells file 28 segment_counts) (count_tells file 32 block_counts) (count_tells file 36 program_counts) in
     subst (Tells (header_at file)) (sym (first_in-append file (m ∷ v ∷ []) (c1 ∷ c2 ∷ c3 ∷ c4 ∷ c5 ∷ c6 ∷ c7 ∷ [])))
     steps
 
@@ -264,18 +265,18 @@ record NumbersAre (file : List ℕ) (h : Header) : Type 0 where
 numbers_are : (file : List ℕ) (h : Header) → header_at file ≡ Ok h → NumbersAre file h
 unfolding header_at header_from
 numbers_are file h e =
-    let s = header_steps (version_at file) (count_at file 12 64 4096) (count_at file 16 1 4) (count_at file 20 1 64)
-    (entry_at file 24) (count_at file 28 0 16) (count_at file 32 0 4096) (count_at file 36 0 4) h e in
+    let s = header_steps (version_at file) (count_at file 12 frame_counts) (count_at file 16 hart_counts) (count_at file 20 schedule_lengths)
+    (entry_at file 24) (count_at file 28 segment_counts) (count_at file 32 block_counts) (count_at file 36 program_counts) h e in
     let version : number file 8 ≡ s.version.0 =
     number_is file 8 s.version.0 (version_steps file s.version.0 s.version.1).number in
     record {
       keys = ap (λ n. eqb n 2) version ∙ sym s.version.2;
-      frames = count_is file 12 64 4096 h.frames s.frames;
-      harts = count_is file 16 1 4 h.harts s.harts;
-      turns = count_is file 20 1 64 h.turns s.turns;
-      segments = count_is file 28 0 16 h.segments s.segments;
-      blocks = count_is file 32 0 4096 h.blocks s.blocks;
-      programs = count_is file 36 0 4 h.programs s.programs;
+      frames = count_is file 12 frame_counts h.frames s.frames;
+      harts = count_is file 16 hart_counts h.harts s.harts;
+      turns = count_is file 20 schedule_lengths h.turns s.turns;
+      segments = count_is file 28 segment_counts h.segments s.segments;
+      blocks = count_is file 32 block_counts h.blocks s.blocks;
+      programs = count_is file 36 program_counts h.programs s.programs;
     }
 
 -- what is read after the disk, after the segments, after the schedule and after the header

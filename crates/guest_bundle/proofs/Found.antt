@@ -11,17 +11,19 @@ use Rattle.std.proofs.lemmas.List.Elements.{All-from_recursion}
 use Rattle.cloak_model.specs.Bits.{word}
 use Rattle.cloak_model.specs.Bundle.{segment_bytes, program_bytes, bundle_bytes, IsSegmentIn, IsProgramIn, IsInGrammar}
 use Rattle.cloak_base.specs.Constants.{largest_bundle}
-use Rattle.cloak_model.specs.Bundle.{is_version, IsOfVersion, IsBundle}
+use Rattle.cloak_model.specs.Bundle.{is_version, IsOfVersion, IsBundle, frame_counts, hart_counts, schedule_lengths}
+use Rattle.cloak_model.specs.Bundle.{segment_counts, block_counts, program_counts}
 use Rattle.cloak_model.specs.declared.image.Segment.{Segment}
 use Rattle.cloak_model.specs.declared.image.Program.{Program}
 use Rattle.cloak_model.specs.declared.image.Bundle.{Bundle}
 use Rattle.cloak_model.specs.declared.fault.BundleFault.{BundleFault}
 use Rattle.cloak_model.specs.declared.fault.BundleFault.TheVariants.{BadMagic, BadVersion, TooLarge, Extra}
+use Rattle.field_facts.proofs.Stands.{Stands, Stands-then}
 use Rattle.guest_bundle.specs.declared.header.Header.{Header}
 use Rattle.guest_bundle.specs.Fields.{◌>>=◌, bytes_at, pages_at, number_at, count_at, entry_at}
 use Rattle.guest_bundle.specs.Reading.{version_at, header_at, turn_at, segment_at, segment_size, program_at}
 use Rattle.guest_bundle.specs.Reading.{program_size, parts_at, bundle_of, bundle_at}
-use Rattle.guest_bundle.proofs.Steps.{bind_ok, refused_not, passed, ok_is, IsBytes, Stands, Stands-then, KeyFits}
+use Rattle.guest_bundle.proofs.Steps.{bind_ok, refused_not, passed, ok_is, IsBytes, KeyFits}
 use Rattle.guest_bundle.proofs.Lengths.{first_shortest}
 use Rattle.guest_bundle.proofs.Takes.{bytes_take, pages_take, number_takes, count_takes, entry_takes, turn_takes}
 use Rattle.guest_bundle.proofs.Takes.{segment_takes, program_takes, parts_take}
@@ -131,17 +133,17 @@ header_text h = word h.frames ++
 
 -- the numbers of a header in their ranges
 pub record HeaderFits (h : Header) : Type 0 where
-  pub some_frames : 64 ≤ h.frames
-  pub few_frames : h.frames ≤ 4096
-  pub some_harts : 1 ≤ h.harts
-  pub few_harts : h.harts ≤ 4
-  pub some_turns : 1 ≤ h.turns
-  pub few_turns : h.turns ≤ 64
+  pub some_frames : frame_counts.low ≤ h.frames
+  pub few_frames : h.frames ≤ frame_counts.high
+  pub some_harts : hart_counts.low ≤ h.harts
+  pub few_harts : h.harts ≤ hart_counts.high
+  pub some_turns : schedule_lengths.low ≤ h.turns
+  pub few_turns : h.turns ≤ schedule_lengths.high
   pub entry : h.entry % 4 ≡ 0
   pub entry_fits : h.entry < 2 ^ 32
-  pub few_segments : h.segments ≤ 16
-  pub few_blocks : h.blocks ≤ 4096
-  pub few_programs : h.programs ≤ 4
+  pub few_segments : h.segments ≤ segment_counts.high
+  pub few_blocks : h.blocks ≤ block_counts.high
+  pub few_programs : h.programs ≤ program_counts.high
 
 -- what a header that was read says, beside its numbers
 record HeaderStands (file : List ℕ) (h : Header) : Type 0 where
@@ -154,17 +156,17 @@ record HeaderStands (file : List ℕ) (h : Header) : Type 0 where
 header_takes : (file : List ℕ) (h : Header) → IsBytes file → header_at file ≡ Ok h → HeaderStands file h
 unfolding header_at header_from header_text
 header_takes file h fits e =
-    let s = header_steps (version_at file) (count_at file 12 64 4096) (count_at file 16 1 4) (count_at file 20 1 64)
-    (entry_at file 24) (count_at file 28 0 16) (count_at file 32 0 4096) (count_at file 36 0 4) h e in
+    let s = header_steps (version_at file) (count_at file 12 frame_counts) (count_at file 16 hart_counts) (count_at file 20 schedule_lengths)
+    (entry_at file 24) (count_at file 28 segment_counts) (count_at file 32 block_counts) (count_at file 36 program_counts) h e in
     let v = s.version.0 in
     let version = version_steps file v s.version.1 in
-    let frames = count_takes file 12 64 4096 h.frames fits s.frames in
-    let harts = count_takes file 16 1 4 h.harts fits s.harts in
-    let turns = count_takes file 20 1 64 h.turns fits s.turns in
+    let frames = count_takes file 12 frame_counts h.frames fits s.frames in
+    let harts = count_takes file 16 hart_counts h.harts fits s.harts in
+    let turns = count_takes file 20 schedule_lengths h.turns fits s.turns in
     let entry = entry_takes file 24 h.entry fits s.entry in
-    let segments = count_takes file 28 0 16 h.segments fits s.segments in
-    let blocks = count_takes file 32 0 4096 h.blocks fits s.blocks in
-    let programs = count_takes file 36 0 4 h.programs fits s.programs in
+    let segments = count_takes file 28 segment_counts h.segments fits s.segments in
+    let blocks = count_takes file 32 block_counts h.blocks fits s.blocks in
+    let programs = count_takes file 36 program_counts h.programs fits s.programs in
     let text = Stands-then file 0 (codes "CLOAKBND" ++ word v) 12 (header_text h) 40 (version_takes file v fits version)
     (Stands-then file 12 (word h.frames) 16
     (word h.harts ++ (word h.turns ++ (word h.entry ++ (word h.segments ++ (word h.blocks ++ word h.programs))))) 40

@@ -7,14 +7,16 @@ use Rattle.std.proofs.lemmas.List.{append-nil}
 use Rattle.std.proofs.lemmas.List.Elements.{recursion_from_All}
 use Rattle.cloak_model.specs.Bits.{word}
 use Rattle.cloak_model.specs.Bundle.{segment_bytes, is_version, program_bytes, bundle_bytes, IsSegmentIn, IsProgramIn}
-use Rattle.cloak_model.specs.Bundle.{IsBundleIn, IsBundle}
+use Rattle.cloak_model.specs.Bundle.{IsBundleIn, IsBundle, frame_counts, hart_counts, schedule_lengths}
+use Rattle.cloak_model.specs.Bundle.{segment_counts, block_counts, program_counts}
 use Rattle.cloak_model.specs.declared.image.Program.{Program}
 use Rattle.cloak_base.specs.Constants.{largest_bundle}
 use Rattle.cloak_model.specs.declared.image.Bundle.{Bundle}
+use Rattle.field_facts.proofs.Stands.{behind}
 use Rattle.guest_bundle.specs.declared.header.Header.{Header}
 use Rattle.guest_bundle.specs.Reading.{version_at, header_at, turn_at, segment_at, segment_size, program_at}
 use Rattle.guest_bundle.specs.Reading.{program_size, parts_at, bundle_at}
-use Rattle.guest_bundle.proofs.Steps.{behind, ok_is, KeyFits}
+use Rattle.guest_bundle.proofs.Steps.{ok_is, KeyFits}
 use Rattle.guest_bundle.proofs.Lengths.{program_bytes-length, bundle_bytes-length}
 use Rattle.guest_bundle.proofs.Found.{HeaderFits, joined}
 use Rattle.guest_bundle.proofs.Again.{number_again, bytes_again, pages_again, count_again, entry_again, turn_again}
@@ -70,13 +72,13 @@ header_again version file rest h known keys fits e =
     rw (
       keys,
       version_again version file r12 known e,
-      count_again file 12 64 4096 h.frames r16 (omega arith) fits.some_frames fits.few_frames e12,
-      count_again file 16 1 4 h.harts r20 (omega arith) fits.some_harts fits.few_harts e16,
-      count_again file 20 1 64 h.turns r24 (omega arith) fits.some_turns fits.few_turns e20,
+      count_again file 12 frame_counts h.frames r16 (omega arith) fits.some_frames fits.few_frames e12,
+      count_again file 16 hart_counts h.harts r20 (omega arith) fits.some_harts fits.few_harts e16,
+      count_again file 20 schedule_lengths h.turns r24 (omega arith) fits.some_turns fits.few_turns e20,
       entry_again file 24 h.entry r28 fits.entry fits.entry_fits e24,
-      count_again file 28 0 16 h.segments r32 (omega arith) (omega arith) fits.few_segments e28,
-      count_again file 32 0 4096 h.blocks r36 (omega arith) (omega arith) fits.few_blocks e32,
-      count_again file 36 0 4 h.programs rest (omega arith) (omega arith) fits.few_programs e36,
+      count_again file 28 segment_counts h.segments r32 (omega arith) (omega arith) fits.few_segments e28,
+      count_again file 32 block_counts h.blocks r36 (omega arith) (omega arith) fits.few_blocks e32,
+      count_again file 36 program_counts h.programs rest (omega arith) (omega arith) fits.few_programs e36,
     ) refl
 
 -- the key of each program, in a file with keys and in one without

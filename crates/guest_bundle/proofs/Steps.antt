@@ -1,10 +1,11 @@
 -- Steps of reading that did not fail.
-use Rattle.std.proofs.Common.{◌≡◌, ℕ, ◌+◌, ◌<◌, Bool, true, false, cond, List, [], ◌++◌, length, get_or, take, drop, Result}
+use Rattle.std.proofs.Common.{◌≡◌, ℕ, ◌+◌, ◌<◌, ◌≤◌, Bool, true, false, cond, List, [], ◌++◌, length, get_or, take, drop, Result}
 use Rattle.std.proofs.Common.{Ok, Err, refl, sym, ap, ◌∙◌, arith, inl, inr}
 use Rattle.std.proofs.lemmas.Bool.{cases_lt}
-use Rattle.std.proofs.lemmas.List.{drop-drop, drop_at, length-take, get_or-drop, get_or-take, get_or_past, append_assoc}
+use Rattle.std.proofs.lemmas.List.{length-take, get_or-drop, get_or-take, get_or_past}
 use Rattle.cloak_model.specs.declared.fault.BundleFault.{BundleFault}
 use Rattle.cloak_model.specs.Bits.{word}
+use Rattle.cloak_model.specs.Bundle.{key_numbers}
 use Rattle.guest_bundle.specs.Fields.{◌>>=◌}
 use Rattle.guest_bundle.specs.Places.{key_size}
 
@@ -50,10 +51,10 @@ IsBytes-take n bytes h i =
 
 -- what is known of a key, in a file with keys and in one without
 abbrev pub KeyFits : Bool → ℕ → Type 0
-KeyFits true key = key < 4
+KeyFits true key = key ≤ key_numbers.high
 KeyFits false key = key ≡ 0
 
-pub key_small : (keys : Bool) (key : ℕ) → KeyFits keys key → key < 4
+pub key_small : (keys : Bool) (key : ℕ) → KeyFits keys key → key ≤ key_numbers.high
 key_small true key h = h
 key_small false key h = omega arith
 
@@ -64,20 +65,3 @@ key_text keys key = cond keys (word key) []
 pub key_text-length : (keys : Bool) (key : ℕ) → length (key_text keys key) ≡ key_size keys
 key_text-length true key = refl
 key_text-length false key = refl
-
--- ---- texts
-
--- a text stands in the file from one offset to another
-pub record Stands (file : List ℕ) (at : ℕ) (text : List ℕ) (next : ℕ) : Type 0 where
-  pub parts : drop at file ≡ text ++ drop next file
-
-pub Stands-then : (file : List ℕ) (a : ℕ) (x : List ℕ) (b : ℕ) (y : List ℕ) (c : ℕ) → Stands file a x b →
-    Stands file b y c → Stands file a (x ++ y) c
-Stands-then file a x b y c p q =
-    record { parts = p.parts ∙ ap (λ t. x ++ t) q.parts ∙ sym (append_assoc x y (drop c file)) }
-
--- what stands after a text
-pub behind : (file : List ℕ) (at : ℕ) (text rest : List ℕ) → drop at file ≡ text ++ rest →
-    drop (at + length text) file ≡ rest
-behind file at text rest e = sym (drop-drop (length text) at file) ∙ ap (drop (length text)) e
-    ∙ drop_at text rest (length text) refl

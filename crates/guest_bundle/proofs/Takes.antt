@@ -4,29 +4,25 @@ use Rattle.std.proofs.Common.{drop-cons, length-drop, cond, ltb, leb, eqb, List,
 use Rattle.std.proofs.Common.{drop, Result, Ok, Err, refl, sym, ap, subst, ◌∙◌, arith}
 use Rattle.std.specs.Int.{w32, from_le_bytes}
 use Rattle.std.specs.List.{flat_map, AllByRecursion}
-use Rattle.std.proofs.lemmas.Bool.{ltb-false, ltb-true, leb-true, eqb-true}
-use Rattle.std.proofs.lemmas.List.{take-append-drop, drop-drop, length-take}
+use Rattle.std.proofs.lemmas.Bool.{and_parts, ltb-false, ltb-true, leb-true, eqb-true}
+use Rattle.std.proofs.lemmas.List.{length-take}
 use Rattle.std.proofs.lemmas.List.Concat.{flat_map-cons}
 use Rattle.std.proofs.lemmas.Nat.{le_bytes_4}
 use Rattle.cloak_model.specs.Bits.{word}
+use Rattle.cloak_model.specs.Bundle.{Range, key_numbers, page_counts}
 use Rattle.cloak_model.specs.Bundle.{segment_bytes, program_bytes, IsSegmentIn, IsProgramIn}
 use Rattle.cloak_model.specs.declared.image.Segment.{Segment}
 use Rattle.cloak_model.specs.declared.image.Program.{Program}
 use Rattle.cloak_model.specs.declared.fault.BundleFault.{BundleFault}
 use Rattle.cloak_model.specs.declared.fault.BundleFault.TheVariants.{Short, BadCount, TooLarge, BadRange}
+use Rattle.field_facts.proofs.Stands.{Stands, Stands-then, piece_stands}
 use Rattle.guest_bundle.specs.Fields.{◌>>=◌, bytes_at, pages_at, number_at, count_at, entry_at}
 use Rattle.guest_bundle.specs.Reading.{turn_at, segment_at, segment_size, place_at, base_at, key_at, program_at}
 use Rattle.guest_bundle.specs.Reading.{program_size, parts_at}
 use Rattle.guest_bundle.specs.Places.{key_size}
 use Rattle.cloak_model.specs.BundleFault.{lies_in_ram, is_base_of}
-use Rattle.guest_bundle.proofs.Steps.{bind_ok, refused_not, passed, ok_is, IsBytes, IsBytes-drop, IsBytes-take, Stands}
-use Rattle.guest_bundle.proofs.Steps.{Stands-then, KeyFits, key_small, key_text}
-
-front_stands : (file : List ℕ) (at n : ℕ) → Stands file at (take n (drop at file)) (at + n)
-front_stands file at n = record {
-  parts =
-      sym (take-append-drop n (drop at file)) ∙ ap (λ t. take n (drop at file) ++ t) (drop-drop n at file);
-}
+use Rattle.guest_bundle.proofs.Steps.{bind_ok, refused_not, passed, ok_is, IsBytes, IsBytes-drop, IsBytes-take}
+use Rattle.guest_bundle.proofs.Steps.{KeyFits, key_small, key_text}
 
 pub bytes_take : (file : List ℕ) (at n : ℕ) (x : List ℕ) → bytes_at file at n ≡ Ok x →
     Stands file at x (at + n) × (length x ≡ n)
@@ -35,7 +31,7 @@ bytes_take file at n x e =
     let long : n ≤ length file - at = ltb-false _ _ g.0 in
     let is : take n (drop at file) ≡ x = ok_is _ _ g.1 in
     let len : length (take n (drop at file)) ≡ n = omega (arith, length-take n (drop at file), length-drop at file) in
-    subst (λ t. Stands file at t (at + n) × (length t ≡ n)) is (front_stands file at n, len)
+    subst (λ t. Stands file at t (at + n) × (length t ≡ n)) is (piece_stands file at n, len)
 
 pub pages_take : (file : List ℕ) (at n : ℕ) (x : List ℕ) → pages_at file at n ≡ Ok x →
     Stands file at x (at + 4096 * n) × (length x ≡ 4096 * n)
@@ -45,7 +41,7 @@ pages_take file at n x e =
     let is : take (4096 * n) (drop at file) ≡ x = ok_is _ _ g.1 in
     let len : length (take (4096 * n) (drop at file)) ≡ 4096 * n =
     omega (arith, length-take (4096 * n) (drop at file), length-drop at file) in
-    subst (λ t. Stands file at t (at + 4096 * n) × (length t ≡ 4096 * n)) is (front_stands file at (4096 * n), len)
+    subst (λ t. Stands file at t (at + 4096 * n) × (length t ≡ 4096 * n)) is (piece_stands file at (4096 * n), len)
 
 pub record NumberStands (file : List ℕ) (at n : ℕ) : Type 0 where
   pub text : Stands file at (word n) (at + 4)
@@ -61,22 +57,22 @@ number_takes file at n fits e =
     let front : word n ≡ four = le_bytes_4 four n (omega (arith, length-take 4 (drop at file), length-drop at file))
     are_bytes (sym n_is) in
     record {
-      text = subst (λ t. Stands file at t (at + 4)) (sym front) (front_stands file at 4);
+      text = subst (λ t. Stands file at t (at + 4)) (sym front) (piece_stands file at 4);
       small = rw (← n_is) (omega (arith, are_bytes 0, are_bytes 1, are_bytes 2, are_bytes 3));
     }
 
-pub count_takes : (file : List ℕ) (at low high n : ℕ) → IsBytes file → count_at file at low high ≡ Ok n →
-    NumberStands file at n × (low ≤ n) × (n ≤ high)
+pub count_takes : (file : List ℕ) (at : ℕ) (range : Range) (n : ℕ) → IsBytes file → count_at file at range ≡ Ok n →
+    NumberStands file at n × (range.low ≤ n) × (n ≤ range.high)
 unfolding count_at
-count_takes file at low high n fits e =
+count_takes file at range n fits e =
     let b = bind_ok (number_at file at)
-    (λ m. cond (ltb m low) (Err (BadCount at)) (cond (ltb high m) (Err (TooLarge at)) (Ok m))) n e in
-    let above = refused_not (ltb b.0 low) (BadCount at) (cond (ltb high b.0) (Err (TooLarge at)) (Ok b.0)) n b.2 in
-    let below = refused_not (ltb high b.0) (TooLarge at) (Ok b.0) n above.1 in
+    (λ m. cond (ltb m range.low) (Err (BadCount at)) (cond (ltb range.high m) (Err (TooLarge at)) (Ok m))) n e in
+    let above = refused_not (ltb b.0 range.low) (BadCount at) (cond (ltb range.high b.0) (Err (TooLarge at)) (Ok b.0)) n b.2 in
+    let below = refused_not (ltb range.high b.0) (TooLarge at) (Ok b.0) n above.1 in
     let is : b.0 ≡ n = ok_is _ _ below.1 in
-    let least : low ≤ b.0 = ltb-false _ _ above.0 in
-    let most : b.0 ≤ high = ltb-false _ _ below.0 in
-    subst (λ m. NumberStands file at m × (low ≤ m) × (m ≤ high)) is (number_takes file at b.0 fits b.1, least, most)
+    let least : range.low ≤ b.0 = ltb-false _ _ above.0 in
+    let most : b.0 ≤ range.high = ltb-false _ _ below.0 in
+    subst (λ m. NumberStands file at m × (range.low ≤ m) × (m ≤ range.high)) is (number_takes file at b.0 fits b.1, least, most)
 
 pub entry_takes : (file : List ℕ) (at n : ℕ) → IsBytes file → entry_at file at ≡ Ok n →
     NumberStands file at n × (n % 4 ≡ 0)
@@ -100,10 +96,6 @@ turn_takes harts file at n e =
     subst (λ m. Stands file at (m ∷ []) (at + 1) × (m < harts)) (ok_is _ _ g.1)
     (first_stands file at inside, ltb-true _ _ g.0)
 
-both : (a b : Bool) → (a && b) ≡ true → (a ≡ true) × (b ≡ true)
-both true b e = (refl, e)
-both false b e = absurd cc
-
 pub segment_takes : (frames : ℕ) (file : List ℕ) (at : ℕ) (s : Segment) → IsBytes file →
     segment_at frames file at ≡ Ok s → Stands file at (segment_bytes s) (at + segment_size s) × IsSegmentIn frames s
 unfolding segment_at
@@ -118,7 +110,7 @@ segment_takes frames file at s fits e =
     let c = bind_ok (cond (lies_in_ram frames a.0 b.0) (bytes_at file (at + 8) b.0) (Err (BadRange at)))
     (λ bytes. Ok (made a.0 bytes)) s b.2 in
     let g = passed (lies_in_ram frames a.0 b.0) (BadRange at) (bytes_at file (at + 8) b.0) c.0 c.1 in
-    let ram = both (leb 0x80000000 a.0) (leb (a.0 + b.0) (0x80000000 + 4096 * frames)) g.0 in
+    let ram = and_parts (leb 0x80000000 a.0) (leb (a.0 + b.0) (0x80000000 + 4096 * frames)) g.0 in
     let t0 = number_takes file at a.0 fits a.1 in
     let t1 = number_takes file (at + 4) b.0 fits b.1 in
     let t2 = bytes_take file (at + 8) b.0 c.0 g.1 in
@@ -150,7 +142,7 @@ unfolding base_at
 base_takes pages file at n fits e =
     let b = bind_ok (number_at file at) (λ m. cond (is_base_of pages m) (Ok m) (Err (BadRange at))) n e in
     let g = passed (is_base_of pages b.0) (BadRange at) (Ok b.0) n b.2 in
-    let tests = both (eqb (b.0 % 4096) 0) (leb (b.0 + 4096 * pages) (2 ^ 32)) g.0 in
+    let tests = and_parts (eqb (b.0 % 4096) 0) (leb (b.0 + 4096 * pages) (2 ^ 32)) g.0 in
     subst (λ m. NumberStands file at m × (m % 4096 ≡ 0) × (m + 4096 * pages ≤ 2 ^ 32)) (ok_is _ _ g.1)
     (number_takes file at b.0 fits b.1, eqb-true _ _ tests.0, leb-true _ _ tests.1)
 
@@ -158,14 +150,14 @@ key_takes : (keys : Bool) (file : List ℕ) (at key : ℕ) → IsBytes file → 
     Stands file at (key_text keys key) (at + key_size keys) × KeyFits keys key
 unfolding key_at
 key_takes true file at key fits e =
-    let n = count_takes file at 0 3 key fits e in (n.0.text, omega (arith, n.2))
+    let n = count_takes file at key_numbers key fits e in (n.0.text, n.2)
 key_takes false file at key fits e =
     let none : Stands file at [] (at + 0) = record { parts = rw add-zero refl } in
     (none, sym (ok_is 0 key e))
 
 -- what a program that was read says of its fields
 pub record ProgramSteps (keys : Bool) (frames : ℕ) (file : List ℕ) (at : ℕ) (p : Program) : Type 0 where
-  pub pages : count_at file at 1 1024 ≡ Ok p.start.pages
+  pub pages : count_at file at page_counts ≡ Ok p.start.pages
   pub place : place_at frames p.start.pages file (at + 4) ≡ Ok p.place
   pub base : base_at p.start.pages file (at + 8) ≡ Ok p.start.base
   pub entry : entry_at file (at + 12) ≡ Ok p.start.entry
@@ -191,7 +183,7 @@ program_steps keys frames file at p e =
     let k3 = λ (pages place base : ℕ). entry_at file (at + 12) >>= k4 pages place base in
     let k2 = λ (pages place : ℕ). base_at pages file (at + 8) >>= k3 pages place in
     let k1 = λ (pages : ℕ). place_at frames pages file (at + 4) >>= k2 pages in
-    let a = bind_ok (count_at file at 1 1024) k1 p e in
+    let a = bind_ok (count_at file at page_counts) k1 p e in
     let b = bind_ok (place_at frames a.0 file (at + 4)) (k2 a.0) p a.2 in
     let c = bind_ok (base_at a.0 file (at + 8)) (k3 a.0 b.0) p b.2 in
     let d = bind_ok (entry_at file (at + 12)) (k4 a.0 b.0 c.0) p c.2 in
@@ -210,7 +202,7 @@ program_takes version frames file at p fits e =
     let keys = eqb version 2 in
     let x = p.start in
     let s = program_steps keys frames file at p e in
-    let pages = count_takes file at 1 1024 x.pages fits s.pages in
+    let pages = count_takes file at page_counts x.pages fits s.pages in
     let place = place_takes frames x.pages file (at + 4) p.place fits s.place in
     let base = base_takes x.pages file (at + 8) x.base fits s.base in
     let entry = entry_takes file (at + 12) x.entry fits s.entry in

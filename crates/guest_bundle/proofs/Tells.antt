@@ -3,6 +3,7 @@ use Rattle.std.proofs.Common.{◌≡◌, ℕ, zero, suc, ◌+◌, ◌-◌, ◌*�
 use Rattle.std.proofs.Common.{[], ◌∷◌, ◌++◌, length, get_or, take, drop, Option, Some, None, Result, Ok, Err, refl, sym}
 use Rattle.std.proofs.Common.{ap, subst, ◌∙◌, arith, inl, inr}
 use Rattle.std.proofs.lemmas.Bool.{lt-ltb, le-ltb, cases_lt}
+use Rattle.cloak_model.specs.Bundle.{Range}
 use Rattle.cloak_model.specs.declared.fault.BundleFault.{BundleFault}
 use Rattle.cloak_model.specs.declared.fault.BundleFault.TheVariants.{Short, BadCount, TooLarge, BadRange}
 use Rattle.guest_bundle.specs.Fields.{◌>>=◌, bytes_at, pages_at, number_at, count_at, entry_at}
@@ -105,26 +106,26 @@ pub ruled_tells : {A : Type 0} (b : Bool) (e : BundleFault) (x : A) →
 ruled_tells true e x = refl
 ruled_tells false e x = refl
 
-pub count_tells : (file : List ℕ) (at low high : ℕ) →
-    Tells (count_at file at low high) (fault_in file (count file at low high))
+pub count_tells : (file : List ℕ) (at : ℕ) (range : Range) →
+    Tells (count_at file at range) (fault_in file (count file at range))
 unfolding count_at
-count_tells file at low high =
+count_tells file at range =
     let k : ℕ → Result ℕ BundleFault =
-    λ n. cond (ltb n low) (Err (BadCount at)) (cond (ltb high n) (Err (TooLarge at)) (Ok n)) in
+    λ n. cond (ltb n range.low) (Err (BadCount at)) (cond (ltb range.high n) (Err (TooLarge at)) (Ok n)) in
     let wrong : ℕ → Option BundleFault =
-    λ n. cond (ltb n low) (Some (BadCount at)) (cond (ltb high n) (Some (TooLarge at)) None) in
-    tested_tells file (count file at low high) (number_at file at) k (number_tells file at) (λ n e.
+    λ n. cond (ltb n range.low) (Some (BadCount at)) (cond (ltb range.high n) (Some (TooLarge at)) None) in
+    tested_tells file (count file at range) (number_at file at) k (number_tells file at) (λ n e.
     subst (λ m. Tells (k n) (wrong m)) (sym (number_is file at n e))
-    (refused_tells (ltb n low) (BadCount at) (cond (ltb high n) (Err (TooLarge at)) (Ok n))
-    (cond (ltb high n) (Some (TooLarge at)) None) (refused_tells (ltb high n) (TooLarge at) (Ok n) None refl)))
+    (refused_tells (ltb n range.low) (BadCount at) (cond (ltb range.high n) (Err (TooLarge at)) (Ok n))
+    (cond (ltb range.high n) (Some (TooLarge at)) None) (refused_tells (ltb range.high n) (TooLarge at) (Ok n) None refl)))
 
-pub count_is : (file : List ℕ) (at low high n : ℕ) → count_at file at low high ≡ Ok n → number file at ≡ n
+pub count_is : (file : List ℕ) (at : ℕ) (range : Range) (n : ℕ) → count_at file at range ≡ Ok n → number file at ≡ n
 unfolding count_at
-count_is file at low high n e =
+count_is file at range n e =
     let b = bind_ok (number_at file at)
-    (λ m. cond (ltb m low) (Err (BadCount at)) (cond (ltb high m) (Err (TooLarge at)) (Ok m))) n e in
-    let above = refused_not (ltb b.0 low) (BadCount at) (cond (ltb high b.0) (Err (TooLarge at)) (Ok b.0)) n b.2 in
-    let below = refused_not (ltb high b.0) (TooLarge at) (Ok b.0) n above.1 in
+    (λ m. cond (ltb m range.low) (Err (BadCount at)) (cond (ltb range.high m) (Err (TooLarge at)) (Ok m))) n e in
+    let above = refused_not (ltb b.0 range.low) (BadCount at) (cond (ltb range.high b.0) (Err (TooLarge at)) (Ok b.0)) n b.2 in
+    let below = refused_not (ltb range.high b.0) (TooLarge at) (Ok b.0) n above.1 in
     number_is file at b.0 b.1 ∙ ok_is _ _ below.1
 
 -- a number with one rule

@@ -2,6 +2,7 @@
 use Rattle.std.specs.Prelude.{◌≡◌, ℕ, ◌+◌, ◌-◌, ◌*◌, ◌/◌, ◌%◌, ◌==◌, List, length, take, drop, Result, Ok, Err}
 use Rattle.std.specs.Prelude.{MatchResult, nat_lt, if◌then◌else◌}
 use Rattle.std.specs.Int.{w32, from_le_bytes}
+use Rattle.cloak_model.specs.Bundle.{Range}
 use Rattle.cloak_model.specs.declared.fault.BundleFault.{BundleFault}
 use Rattle.cloak_model.specs.declared.fault.BundleFault.TheVariants.{Short, BadMagic, BadVersion, BadCount, TooLarge}
 use Rattle.cloak_model.specs.declared.fault.BundleFault.TheVariants.{BadRange, Extra, NoMemory}
@@ -46,11 +47,11 @@ abbrev pub number_at : List ℕ → ℕ → Result ℕ BundleFault
 number_at file at =
     if nat_lt (length file - at) 4 then Err (Short at) else Ok (from_le_bytes w32 (take 4 (drop at file)))
 
--- a number from low to high
-unfoldable pub count_at : List ℕ → ℕ → ℕ → ℕ → Result ℕ BundleFault
-count_at file at low high = do
+-- a number of a range
+unfoldable pub count_at : List ℕ → ℕ → Range → Result ℕ BundleFault
+count_at file at range = do
   n ← number_at file at
-  if nat_lt n low then Err (BadCount at) else if nat_lt high n then Err (TooLarge at) else Ok n
+  if nat_lt n range.low then Err (BadCount at) else if nat_lt range.high n then Err (TooLarge at) else Ok n
 
 -- a multiple of 4
 unfoldable pub entry_at : List ℕ → ℕ → Result ℕ BundleFault

@@ -3,7 +3,8 @@ use Rattle.std.specs.Prelude.{ℕ, zero, suc, ◌+◌, ◌-◌, ◌==◌, Bool, 
 use Rattle.std.specs.Prelude.{codes, Result, Ok, Err, nat_lt, nat_le, if◌then◌else◌}
 use Rattle.std.specs.Str.{bytes_eq}
 use Rattle.cloak_base.specs.Constants.{largest_bundle}
-use Rattle.cloak_model.specs.Bundle.{is_version}
+use Rattle.cloak_model.specs.Bundle.{is_version, frame_counts, hart_counts, schedule_lengths, segment_counts}
+use Rattle.cloak_model.specs.Bundle.{block_counts, program_counts, page_counts, key_numbers}
 use Rattle.cloak_model.specs.declared.image.Segment.{Segment}
 use Rattle.cloak_model.specs.declared.image.KernelImage.{KernelImage}
 use Rattle.cloak_model.specs.declared.image.Program.{Program}
@@ -34,13 +35,13 @@ version_at file = do
 unfoldable pub header_at : List ℕ → Result Header BundleFault
 header_at file = do
   version ← version_at file
-  frames ← count_at file 12 64 4096
-  harts ← count_at file 16 1 4
-  turns ← count_at file 20 1 64
+  frames ← count_at file 12 frame_counts
+  harts ← count_at file 16 hart_counts
+  turns ← count_at file 20 schedule_lengths
   entry ← entry_at file 24
-  segments ← count_at file 28 0 16
-  blocks ← count_at file 32 0 4096
-  programs ← count_at file 36 0 4
+  segments ← count_at file 28 segment_counts
+  blocks ← count_at file 32 block_counts
+  programs ← count_at file 36 program_counts
   Ok (record {
     keys = version == 2;
     frames = frames;
@@ -82,12 +83,12 @@ base_at pages file at = do
 
 -- the number of a key, which is 0 in a file without keys
 unfoldable pub key_at : Bool → List ℕ → ℕ → Result ℕ BundleFault
-key_at keys file at = if keys then count_at file at 0 3 else Ok 0
+key_at keys file at = if keys then count_at file at key_numbers else Ok 0
 
 -- a program of a file with keys, or without
 unfoldable pub program_at : Bool → ℕ → List ℕ → ℕ → Result Program BundleFault
 program_at keys frames file at = do
-  pages ← count_at file at 1 1024
+  pages ← count_at file at page_counts
   place ← place_at frames pages file (at + 4)
   base ← base_at pages file (at + 8)
   entry ← entry_at file (at + 12)

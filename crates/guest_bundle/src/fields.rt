@@ -46,7 +46,7 @@ pub fn number(file: &[u8], at: usize) -> Result<u32, BundleFault>
 #[tactic(auto, unfolding(crate::specs::Fields::count_at))]
 pub fn count(file: &[u8], at: usize, low: u32, high: u32) -> Result<u32, BundleFault>
     requires { at ≤ length file.now }
-    ensures field { result ≡ count_at file.now at low high }
+    ensures field { result ≡ count_at file.now at (record { low = low; high = high }) }
     ensures whole { OnOk result (at + 4 ≤ length file.now) }
 {
     let n = number(file, at)?;

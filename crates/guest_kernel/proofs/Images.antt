@@ -10,7 +10,7 @@ use Rattle.cloak_model.specs.declared.image.Segment.{Segment}
 use Rattle.cloak_model.specs.declared.image.KernelImage.{KernelImage}
 use Rattle.cloak_model.specs.declared.image.Program.{Program}
 use Rattle.cloak_model.specs.declared.image.Bundle.{Bundle}
-use Rattle.cloak_model.specs.Bundle.{segment_bytes, program_bytes, bundle_bytes, IsSegmentIn, IsKernelImage, IsProgramIn, IsInGrammar}
+use Rattle.cloak_model.specs.Bundle.{segment_bytes, program_bytes, bundle_bytes, key_numbers, IsSegmentIn, IsKernelImage, IsProgramIn, IsInGrammar}
 use Rattle.guest_kernel.specs.Layout.{kernel_words, kernel_address, boot_table_address, demo_frame}
 use Rattle.guest_kernel.specs.Drawing.{hart_count, program_count, hart_of_turn, schedule_of, rounds_of}
 use Rattle.guest_kernel.specs.Generated.{words_segment, boot_table, segments_of, demo_program, demo_programs, generated}
@@ -111,7 +111,7 @@ segments_in n =
     All-cons (IsSegmentIn 256) kernel (table ∷ []) kernel_in
     (All-cons (IsSegmentIn 256) table [] table_in (All-nil (IsSegmentIn 256)))
 
-demo_program_in : (d rounds : ℕ) → d < 4 → IsProgramIn 256 (demo_program d rounds)
+demo_program_in : (d rounds : ℕ) → d ≤ key_numbers.high → IsProgramIn 256 (demo_program d rounds)
 unfolding demo_program
 demo_program_in d rounds few = record {
   some_pages = lit≤ tt;

@@ -4,7 +4,7 @@ use Rattle.std.specs.Prelude.{IfSome, is_some}
 use Rattle.cloak_base.specs.declared.names.HartId.{HartId}
 use Rattle.cloak_model.specs.declared.context.ResumeFault.TheVariants.{Busy}
 use Rattle.cloak_model.specs.Contexts.{Context, Resumed, context_at, with_context, end_at, started_contexts, is_reserved, unless_reserved, resume_if, resume_at}
-use Rattle.cloak_model.specs.declared.context.WordPlace.{WordPlace}
+use Rattle.cloak_model.specs.declared.context.PageWord.{PageWord}
 use Rattle.cloak_model.specs.Resources.{Resources, started_resources}
 use Rattle.cloak_model.specs.DomainState.{Control}
 use Rattle.cloak_model.specs.Ending.{ended_control}
@@ -83,21 +83,21 @@ either_context : (P : Context → Type 0) (b : Bool) (c other : Context) → P c
 either_context P true c other holds holds_too = holds
 either_context P false c other holds holds_too = holds_too
 
-released : (P : Context → Type 0) (place : WordPlace) (o : Option Context) → ((c : Context) → P c → P (record c { mark = None })) → IfSome o P → IfSome (unless_reserved place o) P
-released P place None kept holds = tt
-released P place (Some c) kept holds = either_context P (is_reserved place c.mark) (record c { mark = None }) c (kept c holds) holds
+released : (P : Context → Type 0) (word : PageWord) (o : Option Context) → ((c : Context) → P c → P (record c { mark = None })) → IfSome o P → IfSome (unless_reserved word o) P
+released P word None kept holds = tt
+released P word (Some c) kept holds = either_context P (is_reserved word c.mark) (record c { mark = None }) c (kept c holds) holds
 
-released_each : (P : Context → Type 0) (place : WordPlace) (contexts : List (Option Context)) → ((c : Context) → P c → P (record c { mark = None })) → ((k : ℕ) → IfSome (context_at contexts k) P)
-    → (k : ℕ) → IfSome (context_at (map (unless_reserved place) contexts) k) P
-released_each P place [] kept each k = each k
-released_each P place (o ∷ rest) kept each zero = released P place o kept (each zero)
-released_each P place (o ∷ rest) kept each (suc k) = released_each P place rest kept (λ n. each (suc n)) k
+released_each : (P : Context → Type 0) (word : PageWord) (contexts : List (Option Context)) → ((c : Context) → P c → P (record c { mark = None })) → ((k : ℕ) → IfSome (context_at contexts k) P)
+    → (k : ℕ) → IfSome (context_at (map (unless_reserved word) contexts) k) P
+released_each P word [] kept each k = each k
+released_each P word (o ∷ rest) kept each zero = released P word o kept (each zero)
+released_each P word (o ∷ rest) kept each (suc k) = released_each P word rest kept (λ n. each (suc n)) k
 
-pub fits_written : (d : Control) (place : WordPlace) (contexts : List (Option Context)) → IsFitting d → contexts ≡ map (unless_reserved place) d.contexts → IsFitting (record d { contexts = contexts })
-fits_written d place contexts fits is = record {
+pub fits_written : (d : Control) (word : PageWord) (contexts : List (Option Context)) → IsFitting d → contexts ≡ map (unless_reserved word) d.contexts → IsFitting (record d { contexts = contexts })
+fits_written d word contexts fits is = record {
   number = fits.number;
-  spaces = subst (λ xs. AllInUse xs d.resources) (sym is) (released_each (λ c. IsInUse d.resources c.space) place d.contexts (λ c holds. holds) fits.spaces);
-  harts = subst AllOnHarts (sym is) (released_each (λ c. HasHart c.on) place d.contexts (λ c holds. holds) fits.harts);
+  spaces = subst (λ xs. AllInUse xs d.resources) (sym is) (released_each (λ c. IsInUse d.resources c.space) word d.contexts (λ c holds. holds) fits.spaces);
+  harts = subst AllOnHarts (sym is) (released_each (λ c. HasHart c.on) word d.contexts (λ c holds. holds) fits.harts);
 }
 
 -- a program as it begins

@@ -18,7 +18,7 @@ use Rattle.command_parts.specs.declared.status.Status.{Status}
 use Rattle.command_parts.specs.declared.status.Status.TheVariants as status
 use Rattle.run_command.specs.Running.{IsEndOf, status_of, unless_refused}
 use Rattle.cloak_model.specs.Run.{NoClash}
-use Rattle.run_command.proofs.EndFacts.{fixed_front}
+use Rattle.run_command.proofs.OutletFacts.{fixed_front}
 use Rattle.image_commands.specs.Demonstrating.{DemoAnswers, HasDemonstrated, demo_lines}
 use Rattle.image_commands.specs.Showing.{IsShownInPart}
 

@@ -15,7 +15,7 @@ ghost use Rattle.cloak_model.specs.Script.{played};
 
 use crate::instruction::{go_on_with, loaded};
 use cloak_base::{Kind, PageId};
-use cloak_model::{Answer, PageSide, Ran, WordPlace};
+use cloak_model::{Answer, PageSide, PageWord, Ran};
 use resource_map::{Resources, page_at};
 use rv_atomic::{Atomic, AtomicOp, combine, decode_atomic};
 use thread_context::{Context, is_reserved, word_of_page};
@@ -60,7 +60,7 @@ fn store_conditional<M: PageSide>(
     va: u32,
     operand: u32,
     m: &mut M,
-    wrote: &mut Option<WordPlace>,
+    wrote: &mut Option<PageWord>,
 ) -> Ran
     requires nothing_yet { wrote.old ≡ None }
     requires register { rd < 32 }
@@ -72,12 +72,12 @@ fn store_conditional<M: PageSide>(
     ensures unmarked { is_some c.old.mark ≡ false → is_some c.new.mark ≡ false }
     ensures side { SideStays M.PageSide IsAny m.old m.new }
 {
-    let place = word_of_page(q, va);
-    let reserved = is_reserved(place, c.mark);
+    let word = word_of_page(q, va);
+    let reserved = is_reserved(word, c.mark);
     c.mark = None;
     if reserved {
         m.write(q, va % 4096, 4, operand);
-        *wrote = Some(place);
+        *wrote = Some(word);
         go_on_with(c, rd, 0)
     } else {
         go_on_with(c, rd, 1)
@@ -95,7 +95,7 @@ fn operate<M: PageSide>(
     va: u32,
     operand: u32,
     m: &mut M,
-    wrote: &mut Option<WordPlace>,
+    wrote: &mut Option<PageWord>,
 ) -> Ran
     requires nothing_yet { wrote.old ≡ None }
     requires register { rd < 32 }
@@ -126,7 +126,7 @@ fn granted<M: PageSide>(
     va: u32,
     operand: u32,
     m: &mut M,
-    wrote: &mut Option<WordPlace>,
+    wrote: &mut Option<PageWord>,
     reserved: &mut bool,
 ) -> Ran
     requires nothing_yet { wrote.old ≡ None }
@@ -163,7 +163,7 @@ fn placed<M: PageSide>(
     va: u32,
     operand: u32,
     m: &mut M,
-    wrote: &mut Option<WordPlace>,
+    wrote: &mut Option<PageWord>,
     reserved: &mut bool,
 ) -> Ran
     requires nothing_yet { wrote.old ≡ None }
@@ -198,7 +198,7 @@ fn atomic_step<M: PageSide>(
     domain: u32,
     a: &Option<Atomic>,
     m: &mut M,
-    wrote: &mut Option<WordPlace>,
+    wrote: &mut Option<PageWord>,
     reserved: &mut bool,
 ) -> Ran
     requires nothing_yet { wrote.old ≡ None }
@@ -237,7 +237,7 @@ fn make_atomic<M: PageSide>(
     domain: u32,
     word: u32,
     m: &mut M,
-    wrote: &mut Option<WordPlace>,
+    wrote: &mut Option<PageWord>,
     reserved: &mut bool,
     ended: &mut Ran,
 )
@@ -262,7 +262,7 @@ pub(crate) fn atomic_word<M: PageSide>(
     domain: u32,
     word: u32,
     m: &mut M,
-    wrote: &mut Option<WordPlace>,
+    wrote: &mut Option<PageWord>,
     reserved: &mut bool,
 ) -> Ran
     requires nothing_yet { wrote.old ≡ None }
@@ -273,9 +273,9 @@ pub(crate) fn atomic_word<M: PageSide>(
     ensures tells { TellsMark reserved.old reserved.new c.old c.new }
     ensures side { SideStays M.PageSide (IsFree r.now) m.old m.new }
 {
-    let mut place = None;
+    let mut written = None;
     let mut ended = Ran::Stay;
-    make_atomic(c, r, domain, word, m, &mut place, reserved, &mut ended);
-    *wrote = place;
+    make_atomic(c, r, domain, word, m, &mut written, reserved, &mut ended);
+    *wrote = written;
     ended
 }

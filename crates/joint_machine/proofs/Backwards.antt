@@ -49,9 +49,6 @@ behind_back {A} rest n =
 pub record ArePagesLeft (back bytes : List ℕ) (i : ℕ) : Type 0 where
   pub left : back ≡ reverse (drop (4096 * i) bytes)
 
-pub all_left : (back bytes : List ℕ) → back ≡ reverse bytes → ArePagesLeft back bytes 0
-all_left back bytes e = record { left = e }
-
 -- there is a page yet
 pub page_there : (back bytes : List ℕ) (i pages : ℕ) → ArePagesLeft back bytes i → length bytes ≡ 4096 * pages →
     i < pages → 4096 ≤ length back

@@ -1,7 +1,5 @@
 -- Frames that are settled one after another, over plain variables.
-use Rattle.std.proofs.Common.{◌≡◌, ◌<◌, ◌≤◌, ◌+◌, ℕ, zero, suc, List, length, Option, None, Some, refl, ap, sym, ◌∙◌, subst, arith, add-one, inl, inr}
-use Rattle.std.proofs.lemmas.List.{get_or_past}
-use Rattle.std.proofs.lemmas.Bool.{cases_lt}
+use Rattle.std.proofs.Common.{◌≡◌, ◌<◌, ◌+◌, ℕ, zero, suc, List, length, Option, None, Some, refl, ap, sym, ◌∙◌, subst, arith, add-one, inl, inr}
 use Rattle.cloak_base.specs.declared.names.PageId.{PageId}
 use Rattle.cloak_base.specs.declared.names.SpaceId.{SpaceId}
 use Rattle.cloak_base.specs.Random.{Random}
@@ -14,9 +12,8 @@ use Rattle.cloak_model.specs.Parts as model
 use Rattle.cloak_model.specs.Run.{closing, settled_below}
 use Rattle.cloak_model.specs.World.{MidStep, cipher_items, settled_in}
 use Rattle.thread_context.specs.Recorded.{root_at}
-use Rattle.cloak_pager.specs.State.{PagerState, IsWholePager, page_of, held_in}
+use Rattle.cloak_pager.specs.State.{PagerState, page_of, held_in}
 use Rattle.cloak_pager.specs.Turns.{StaysBut}
-use Rattle.cloak_pager.specs.declared.frame_right.FrameRight.TheVariants.{Spent}
 use Rattle.cloak_pager.proofs.Pages.{same_or_not}
 use Rattle.cloaked_side.specs.Holding.{Holds, Settles}
 use Rattle.cloaked_side.specs.declared.memory.Memory.{Memory}
@@ -32,14 +29,6 @@ pub outside_next : (old new : PagerState) (i : ℕ) → ((k : ℕ) → k < i →
 outside_next old new i before stays here k below = elim (same_or_not k i) [
   | inl same ↦ subst (λ (n : ℕ). held_in new n ≡ None) (sym same) here
   | inr other ↦ ap page_of (stays.rights k other) ∙ before k (omega (arith, below, other))
-]
-
-pub outside_all : (p : PagerState) (i : ℕ) → IsWholePager p → ((k : ℕ) → k < i → held_in p k ≡ None) →
-    length p.frames ≤ i → (k : ℕ) → held_in p k ≡ None
-outside_all p i whole below end k = elim (cases_lt k i) [
-  | inl lt ↦ below k lt
-  | inr ge ↦
-      ap page_of (get_or_past p.rights k Spent (let count = whole.count in omega (arith, count, end, ge)))
 ]
 
 -- What is settled.

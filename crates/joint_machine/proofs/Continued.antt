@@ -1,5 +1,5 @@
 -- Pages that go on with contents of an earlier run, over plain variables.
-use Rattle.std.proofs.Common.{◌≡◌, ◌≢◌, ◌<◌, ◌≤◌, ◌+◌, ◌∙◌, ℕ, Bool, true, false, List, [], ◌∷◌, length, drop, map, slice_index_or, Option, None, Some, All, refl, ap, sym, subst, arith, suc, inl, inr}
+use Rattle.std.proofs.Common.{◌≡◌, ◌≢◌, ◌<◌, ◌≤◌, ◌+◌, ◌∙◌, ℕ, Bool, true, false, List, [], ◌∷◌, length, drop, map, slice_index_or, Option, None, Some, All, refl, ap, sym, subst, arith, inl, inr}
 use Rattle.std.specs.Prelude.{option_map}
 use Rattle.std.proofs.lemmas.List.{at_drop_more, at_drop_all, get_or-map, length-map}
 use Rattle.cloak_base.specs.declared.names.Meta.{Meta}
@@ -25,7 +25,7 @@ use Rattle.shadow_law.specs.Agreeing.{present}
 use Rattle.cloaked_side.specs.Holding.{Holds}
 use Rattle.cloaked_side.specs.declared.memory.Memory.{Memory}
 use Rattle.cloaked_side.proofs.Translating.{agrees_rights}
-use Rattle.joint_machine.specs.Filing.{KeepsOtherPages, StandsContinued, StandFiled}
+use Rattle.joint_machine.specs.Filing.{KeepsOtherPages, StandsContinued}
 
 -- The memory.
 

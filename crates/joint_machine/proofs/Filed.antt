@@ -1,8 +1,7 @@
 -- Files that are added to a machine one after another, over plain variables.
-use Rattle.std.proofs.Common.{◌≡◌, ◌≢◌, ◌<◌, ◌≤◌, ◌+◌, ◌∙◌, ℕ, zero, suc, Bool, true, false, cond, List, [], ◌∷◌, length, drop, map, slice_get, slice_set, slice_index_or, Option, None, Some, Result, Ok, Err, All, refl, ap, sym, subst, arith, ◌⊎◌, inl, inr}
+use Rattle.std.proofs.Common.{◌≡◌, ◌≢◌, ◌<◌, ◌≤◌, ◌+◌, ◌∙◌, ℕ, zero, suc, Bool, true, false, List, [], ◌∷◌, length, drop, map, slice_get, slice_set, slice_index_or, Option, None, Some, Result, Ok, Err, All, refl, ap, sym, subst, arith, ◌⊎◌, inl, inr}
 use Rattle.std.specs.Prelude.{option_map, position, is_none, nat_lt, if◌then◌else◌}
 use Rattle.std.specs.List.{position_or_len}
-use Rattle.std.specs.Option.{ForSome}
 use Rattle.std.proofs.lemmas.List.{at_drop_more, at_drop_all, get_or-set_same, get_or-set_other, get_or-map, get_or_default, set_past, length-map}
 use Rattle.std.proofs.lemmas.List.Sums.{position_or_len_is, passes_at_first}
 use Rattle.std.proofs.lemmas.Option.{cond_some}
@@ -10,16 +9,11 @@ use Rattle.std.proofs.lemmas.Bool.{cases_lt, ltb-true}
 use Rattle.std.proofs.lemmas.Bool.Decides.{Decides-eqb, nat_tests}
 use Rattle.cloak_base.proofs.Pages.{told, is_of-other}
 use Rattle.cloak_base.specs.declared.names.Meta.{Meta}
-use Rattle.cloak_base.specs.declared.names.PageId.{PageId}
-use Rattle.cloak_base.specs.declared.names.SpaceId.{SpaceId}
-use Rattle.cloak_base.specs.Pages.{is_of}
 use Rattle.cloak_model.specs.declared.resource.MapFault.{MapFault}
 use Rattle.cloak_model.specs.declared.resource.MapFault.TheVariants.{BadArg, Full}
-use Rattle.cloak_model.specs.declared.resource.Owner.{Owner}
-use Rattle.cloak_model.specs.declared.resource.Owner.TheVariants.{Space, File}
+use Rattle.cloak_model.specs.declared.resource.Owner.TheVariants.{File}
 use Rattle.cloak_model.specs.declared.resource.Resource.{Resource}
 use Rattle.cloak_model.specs.Beginning.{and_then, file_added, file_given, files_added, with_contents}
-use Rattle.cloak_model.specs.Cloaking.{CloakedMemory}
 use Rattle.cloak_model.specs.DomainState as model
 use Rattle.cloak_model.specs.DomainState.{with_resources}
 use Rattle.cloak_model.specs.Files.{file_resource, file_found, holds_file}
@@ -27,12 +21,10 @@ use Rattle.cloak_model.specs.Ledger.{Keys}
 use Rattle.cloak_model.specs.Opening.{Lack, NoRoom}
 use Rattle.cloak_model.specs.Parts.{Joint}
 use Rattle.cloak_model.specs.Resources.{Mapped, Resources, resource_at, refused, new_resource, made_at, first_free}
-use Rattle.cloak_model.specs.StoredFiles.{StoredFile, FileContents, PageContent, Precedes, Rise, HasSealedPages, meta_of, stored_file, table_of}
+use Rattle.cloak_model.specs.StoredFiles.{StoredFile, FileContents, Precedes, Rise, HasSealedPages, meta_of, stored_file, table_of}
 use Rattle.protect_meta.specs.FileTable.{file_at}
-use Rattle.protect_meta.specs.Table.{meta_at}
 use Rattle.cloak_pager.specs.State.{PagerState}
 use Rattle.cloak_pager.proofs.Pages.{same_or_not}
-use Rattle.cloaked_side.specs.Holding.{Holds}
 use Rattle.cloaked_side.specs.declared.memory.Memory.{Memory}
 use Rattle.hypercalls.specs.declared.domain.Domain.{Domain}
 use Rattle.hypercalls.specs.Standing.{StandsFor, control_of}

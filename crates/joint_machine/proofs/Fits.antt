@@ -1,19 +1,14 @@
 -- A program that is shown as a domain, over plain variables.
-use Rattle.std.proofs.Common.{◌≡◌, ◌∙◌, ◌<◌, ℕ, Bool, true, false, List, [], length, slice_get, slice_index_or, Option, Some, None, All, refl, ap, sym, subst, arith}
-use Rattle.std.specs.Prelude.{is_some, IfSome}
+use Rattle.std.proofs.Common.{◌≡◌, ◌∙◌, ℕ, Bool, false, List, [], refl, ap, sym, subst}
+use Rattle.std.specs.Prelude.{is_some}
 use Rattle.aes_block.specs.Bytes.{IsBytes}
 use Rattle.cloak_model.specs.Chain.{cbc}
 use Rattle.cloak_model.specs.DomainState as program
 use Rattle.cloak_model.specs.Ledger.{Keys, domain_key}
-use Rattle.cloak_model.specs.Resources.{Resources}
-use Rattle.resource_map.specs.Kept.{IsInUse}
 use Rattle.frozen_state.specs.DomainPage.{IsPageOf, IsProgram, domain_page}
-use Rattle.frozen_state.specs.Ranges.{owed_page}
-use Rattle.frozen_state.specs.Refusing.{IsProgramOf, LiesIn}
+use Rattle.frozen_state.specs.Refusing.{IsProgramOf}
 use Rattle.frozen_state.specs.declared.frozen.Frozen.{Frozen}
 use Rattle.frozen_state.specs.declared.frozen.FrozenDomain.{FrozenDomain}
-use Rattle.frozen_state.specs.declared.frozen.FrozenFrame.{FrozenFrame}
-use Rattle.frozen_state.specs.declared.frozen.FrozenPage.{FrozenPage}
 use Rattle.hypercalls.specs.Paging.{IsReadAs}
 use Rattle.hypercalls.specs.declared.domain.Domain.{Domain}
 use Rattle.hypercalls.specs.Standing.{StandsFor, control_of}

@@ -1,5 +1,5 @@
 -- What is made of frames, pages and programs that are frozen one after another, over plain variables.
-use Rattle.std.proofs.Common.{◌≡◌, ◌≢◌, ◌∙◌, ◌<◌, ◌≤◌, ◌+◌, ◌*◌, ℕ, zero, suc, Bool, true, false, List, [], ◌∷◌, ◌++◌, length, take, drop, map, slice_get, slice_index_or, slice_set, Option, Some, None, refl, ap, sym, subst, arith, add-one, append_assoc, append-nil, inl, inr}
+use Rattle.std.proofs.Common.{◌≡◌, ◌≢◌, ◌∙◌, ◌<◌, ◌≤◌, ◌+◌, ℕ, zero, suc, Bool, true, false, List, [], ◌∷◌, ◌++◌, length, take, drop, map, slice_get, slice_index_or, slice_set, Option, Some, None, refl, ap, sym, subst, arith, add-one, append_assoc, append-nil, inl, inr}
 use Rattle.std.specs.Prelude.{option_map, option_and_then, IsTrue}
 use Rattle.std.specs.List.{flat_map}
 use Rattle.std.proofs.lemmas.Bool.{cases_lt}
@@ -32,7 +32,7 @@ use Rattle.frozen_state.specs.declared.frozen.FrozenPage.{FrozenPage}
 use Rattle.cloak_pager.specs.State as pager
 use Rattle.cloak_pager.specs.State.{PagerState, IsWholePager, bytes_in, held_in, owed_at, page_of, right_at}
 use Rattle.cloak_pager.specs.Relation.{StandsForMemory, FrameStands, PageStands, vector_in}
-use Rattle.cloak_pager.specs.Turns.{IsReadOnce, StaysBut, left_by}
+use Rattle.cloak_pager.specs.Turns.{StaysBut, left_by}
 use Rattle.cloak_pager.specs.Freezing.{FreezesFrame}
 use Rattle.cloak_model.specs.Cloaking.{AfterSettling}
 use Rattle.cloak_pager.specs.Asking.{FollowsCall, FollowsCallFrom, after_touch, shown_by}
@@ -198,13 +198,6 @@ frame_shown p m f ivs bytes tells none read =
     ap (λ (o : Option PageId). frame_under m (slice_index_or m.ram f []) o ivs) owes
     ∙ ap (λ (x : List ℕ). Some (frame_showing x, ivs)) is
 
-pub frame_undrawn : (p : PagerState) (m : CloakedMemory) (f : ℕ) (q : PageId) (ivs : Random) → TellsFrame p m f →
-    owed_at p f ≡ Some q → next_draw ivs ≡ None →
-    frame_under m (slice_index_or m.ram f []) (owed_in m f) ivs ≡ None
-frame_undrawn p m f q ivs tells owed none =
-    ap (λ (o : Option PageId). frame_under m (slice_index_or m.ram f []) o ivs) (tells.owed ∙ owed)
-    ∙ ap (λ (d : Option (List ℕ × Random)). option_map (λ (draw : List ℕ × Random). (owed_under m q draw.0, draw.1)) d) none
-
 -- what a frame shows that was frozen
 pub frozen_bytes : (p p' : PagerState) (f : ℕ) (q : PageId) (iv : List ℕ) (told : Meta) (froze : FreezesFrame p p' f iv told) →
     f < length p.frames → owed_at p f ≡ Some q → bytes_in p' f ≡ cbc (key_in p.keys q) iv (bytes_in p f)
@@ -338,10 +331,6 @@ known_one t q = append-nil (page_known q (meta_at t q))
 pub known_append : (t : MetaRow) (xs ys : List PageId) → pages_known t (xs ++ ys) ≡ pages_known t xs ++ pages_known t ys
 unfolding pages_known
 known_append t xs ys = flat_map-append (λ (q : PageId). page_known q (meta_at t q)) xs ys
-
-pub known_none : (t : MetaRow) (d r : ℕ) → pages_known t (pages_of_resource d r 0) ≡ []
-unfolding pages_known pages_of_resource
-known_none t d r = refl
 
 resource_next : (d r n : ℕ) → pages_of_resource d r (n + 1) ≡ pages_of_resource d r n ++ page_named d r n ∷ []
 unfolding pages_of_resource
@@ -658,9 +647,6 @@ pub unowed : (o : Option PageId) (b : Bool) → (o ≢ None → IsTrue b) → b 
 unowed None b is low = refl
 unowed (Some q) b is low = absurd (let clash : false ≡ true = sym low ∙ is (λ e. cc) in cc)
 
-pub is_owed : (o : Option PageId) (b : Bool) → (IsTrue b → o ≢ None) → b ≡ true → o ≢ None
-is_owed o b is high = is high
-
 -- a touch that draws nothing leaves the stream
 pub undrawn : (h : FrameRight) (draw : Option (List ℕ × Random)) (stream left : Random) → pager.owed_under h ≡ None →
     left ≡ left_by h draw stream → left ≡ stream
@@ -668,16 +654,6 @@ undrawn (Outside r) draw stream left none is = is
 undrawn (Clean r) draw stream left none is = is
 undrawn (Changed r) draw stream left none is = absurd (let clash : Some r.page ≡ None = none in cc)
 undrawn Spent draw stream left none is = is
-
--- a read leaves frames and pages
-pub read_after : (p p' p'' : PagerState) (f : ℕ) → StaysBut f p p' → IsReadOnce p' p'' → StaysBut f p p''
-read_after p p' p'' f stays read = record {
-  count = ap (λ (x : PagerState). length x.frames) read ∙ stays.count;
-  domains = ap (λ (x : PagerState). domains_of x.table) read ∙ stays.domains;
-  keys = ap (λ (x : PagerState). x.keys) read ∙ stays.keys;
-  rights = λ k other. ap (λ (x : PagerState). right_at x k) read ∙ stays.rights k other;
-  bytes = λ k other. ap (λ (x : PagerState). bytes_in x k) read ∙ stays.bytes k other;
-}
 
 pub stays_still : (p : PagerState) (f : ℕ) → StaysBut f p p
 stays_still p f = record {
@@ -687,9 +663,6 @@ stays_still p f = record {
   rights = λ k other. refl;
   bytes = λ k other. refl;
 }
-
-pub read_metas : (p p' : PagerState) → IsReadOnce p p' → (q : PageId) → meta_at p'.table q ≡ meta_at p.table q
-read_metas p p' read q = ap (λ (x : PagerState). meta_at x.table q) read
 
 -- The whole machine.
 

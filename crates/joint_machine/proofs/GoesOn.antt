@@ -1,32 +1,27 @@
 -- A machine that is thawed stands for each state that its frozen state is one of, over plain variables.
-use Rattle.std.proofs.Common.{◌≡◌, ◌≢◌, ◌∙◌, ◌⊎◌, ◌<◌, ◌≤◌, ◌+◌, ℕ, zero, suc, Bool, true, false, List, [], ◌∷◌, ◌++◌, length, map, slice_get, slice_index_or, Option, Some, None, All, refl, ap, sym, subst, arith, inl, inr}
-use Rattle.std.specs.Prelude.{option_map, is_some, IfSome, IsSomeAnd}
-use Rattle.std.specs.List.{flat_map}
+use Rattle.std.proofs.Common.{◌≡◌, ◌∙◌, ◌<◌, ◌≤◌, ℕ, zero, suc, true, false, List, [], ◌∷◌, ◌++◌, length, map, slice_get, slice_index_or, Option, Some, None, All, refl, ap, sym, subst, arith, inl, inr}
+use Rattle.std.specs.Prelude.{is_some, IfSome, IsSomeAnd}
 use Rattle.std.proofs.lemmas.Bool.{cases_lt}
 use Rattle.std.proofs.lemmas.List.{ext_get_or, get_or-map, length-map}
 use Rattle.std.proofs.lemmas.List.Elements.{All-nil}
 use Rattle.sha2.specs.Sha256.{sha256}
 use Rattle.cloak_base.specs.Random.{Random}
-use Rattle.cloak_base.specs.declared.causes.Violation.{Violation}
 use Rattle.cloak_base.specs.declared.names.Meta.{Meta}
 use Rattle.cloak_base.specs.declared.names.PageId.{PageId}
 use Rattle.cloak_base.specs.declared.names.SpaceId.{SpaceId}
 use Rattle.cloak_model.specs.Chain.{cbc}
 use Rattle.cloak_model.specs.Cloaking.{CloakedMemory, owed_in}
 use Rattle.cloak_model.specs.DomainState as program
-use Rattle.cloak_model.specs.Hart.{Hart}
 use Rattle.cloak_model.specs.Ledger.{Keys, Ledger, domain_key, key_in}
-use Rattle.cloak_model.specs.Opening.{numbers_below}
 use Rattle.cloak_model.specs.Parts.{Joint}
-use Rattle.cloak_model.specs.Resources.{Resources, resource_at}
+use Rattle.cloak_model.specs.Resources.{resource_at}
 use Rattle.cloak_model.specs.declared.image.Bundle.{Bundle}
 use Rattle.cloak_model.specs.declared.resource.Resource.{Resource}
-use Rattle.page_states.specs.Opening.{IsPlain}
 use Rattle.protect_meta.specs.Table.{meta_at}
 use Rattle.resource_map.specs.Kept.{IsInUse}
 use Rattle.frozen_state.specs.Continuing.{without_loads}
 use Rattle.frozen_state.specs.DomainPage.{IsProgram, domain_page}
-use Rattle.frozen_state.specs.FrozenState.{domain_under, hart_with, owed_under, page_with, pages_of_domains, recorded_of, roots_of}
+use Rattle.frozen_state.specs.FrozenState.{domain_under, owed_under, page_with, pages_of_domains, recorded_of, roots_of}
 use Rattle.frozen_state.specs.Limits.{has_ended}
 use Rattle.frozen_state.specs.Ranges.{owed_page}
 use Rattle.frozen_state.specs.Refusing.{IsProgramOf, LiesIn}
@@ -34,23 +29,21 @@ use Rattle.frozen_state.specs.Thawing.{CanGoOn, IsPageInUse, PagesFit}
 use Rattle.frozen_state.specs.declared.frozen.Frozen.{Frozen}
 use Rattle.frozen_state.specs.declared.frozen.FrozenDomain.{FrozenDomain}
 use Rattle.frozen_state.specs.declared.frozen.FrozenFrame.{FrozenFrame}
-use Rattle.frozen_state.specs.declared.frozen.FrozenHart.{FrozenHart}
 use Rattle.frozen_state.specs.declared.frozen.FrozenPage.{FrozenPage}
 use Rattle.cloak_pager.specs.State as pager
 use Rattle.cloak_pager.specs.State.{PagerState, IsWholePager, bytes_in, held_in, right_at}
-use Rattle.cloak_pager.specs.Relation.{StandsForMemory, FrameStands, PageStands, IsUnowed, vector_in}
+use Rattle.cloak_pager.specs.Relation.{StandsForMemory, FrameStands, PageStands, vector_in}
 use Rattle.cloak_pager.specs.Asking.{none_wiped}
 use Rattle.cloak_pager.specs.Turns.{frame_numbered, holding}
-use Rattle.cloak_pager.specs.declared.frame_right.FrameRight.{FrameRight}
-use Rattle.cloak_pager.specs.declared.frame_right.FrameRight.TheVariants.{Outside, Clean, Changed, Spent}
+use Rattle.cloak_pager.specs.declared.frame_right.FrameRight.TheVariants.{Outside, Changed, Spent}
 use Rattle.cloak_pager.proofs.Offers.{none_owing}
 use Rattle.hypercalls.specs.declared.domain.Domain.{Domain}
-use Rattle.hypercalls.specs.Standing.{StandsFor, control_of}
+use Rattle.hypercalls.specs.Standing.{StandsFor}
 use Rattle.joint_machine.specs.Standing.{AreDomains}
-use Rattle.joint_machine.specs.Thawing.{AreThawedDomains, IsThawedDomain, IsThawedFrame, IsThawedPager, meta_among, root_shown, violation_shown}
+use Rattle.joint_machine.specs.Thawing.{AreThawedDomains, IsThawedFrame, IsThawedPager, meta_among}
 use Rattle.joint_machine.proofs.Rows.{row_at, row_past}
-use Rattle.joint_machine.proofs.Shown.{DrewOne, IsFrameShown, ShowsAll, domain_seen, frame_seen, meta_in, meta_of_record, recorded_shown, shows_all}
-use Rattle.joint_machine.proofs.Thaws.{get_is, get_low, get_there}
+use Rattle.joint_machine.proofs.Shown.{DrewOne, IsFrameShown, ShowsAll, domain_seen, frame_seen, meta_in, meta_of_record, recorded_shown}
+use Rattle.joint_machine.proofs.Thaws.{get_low, get_there}
 
 -- The memory.
 

@@ -1,5 +1,5 @@
 -- What files hold, by what the pager knows, over plain variables.
-use Rattle.std.proofs.Common.{◌≡◌, ◌≢◌, ◌∙◌, ◌<◌, ◌+◌, ℕ, zero, suc, Bool, true, false, cond, List, [], ◌∷◌, ◌++◌, length, map, slice_index_or, Option, Some, None, All, refl, ap, sym, subst, arith}
+use Rattle.std.proofs.Common.{◌≡◌, ◌≢◌, ◌∙◌, ◌+◌, ℕ, zero, suc, Bool, true, false, cond, List, [], ◌∷◌, ◌++◌, map, slice_index_or, Option, Some, None, All, refl, ap, sym, subst, arith}
 use Rattle.std.specs.Prelude.{nat_lt, option_map}
 use Rattle.std.proofs.lemmas.List.{map-append}
 use Rattle.cloak_base.specs.declared.names.Meta.{Meta}
@@ -7,12 +7,12 @@ use Rattle.cloak_base.specs.declared.names.PageId.{PageId}
 use Rattle.cloak_model.specs.declared.resource.Owner.{Owner}
 use Rattle.cloak_model.specs.declared.resource.Owner.TheVariants.{Space, File}
 use Rattle.cloak_model.specs.declared.resource.Resource.{Resource}
-use Rattle.cloak_model.specs.Cloaking.{CloakedMemory, owed_in}
+use Rattle.cloak_model.specs.Cloaking.{CloakedMemory}
 use Rattle.cloak_model.specs.DomainState as model
-use Rattle.cloak_model.specs.Ledger.{Keys, domain_key}
+use Rattle.cloak_model.specs.Ledger.{domain_key}
 use Rattle.cloak_model.specs.Opening.{numbers_below}
 use Rattle.cloak_model.specs.Parts.{Joint as Machine}
-use Rattle.cloak_model.specs.StoredFiles.{FileContents, HasSealedPages, IsSealedIfShown, PageContent, StandsForFiles, StoredFile, meta_of, stored_file, table_of}
+use Rattle.cloak_model.specs.StoredFiles.{FileContents, HasSealedPages, IsSealedIfShown, StoredFile, meta_of, stored_file, table_of}
 use Rattle.cloak_model.specs.StoredRun.{content_of, contents_from, contents_of, file_in, file_owned, files_in, inserted, sorted}
 use Rattle.protect_meta.specs.Table.{MetaRow, meta_at}
 use Rattle.cloak_pager.specs.State.{PagerState, held_in, owed_under, page_of, right_at}
@@ -20,7 +20,6 @@ use Rattle.cloak_pager.specs.Relation.{IsUnowed, StandsForMemory}
 use Rattle.cloak_pager.specs.declared.frame_right.FrameRight.{FrameRight}
 use Rattle.cloak_pager.specs.declared.frame_right.FrameRight.TheVariants.{Outside, Clean, Changed, Spent}
 use Rattle.cloak_pager.proofs.Contents.{knows_content}
-use Rattle.cloaked_side.specs.Holding.{Holds}
 use Rattle.hypercalls.specs.declared.domain.Domain.{Domain}
 use Rattle.hypercalls.specs.Standing.{StandsFor, control_of}
 use Rattle.joint_machine.specs.declared.joint.Joint.{Joint}

@@ -1,5 +1,5 @@
 -- The joint machine that is thawed stands for each state that can go on, over plain variables.
-use Rattle.std.proofs.Common.{◌≡◌, ◌≢◌, ◌∙◌, ◌<◌, ◌≤◌, ◌+◌, ℕ, zero, suc, Bool, true, false, List, [], ◌∷◌, length, map, slice_get, slice_index_or, Option, Some, None, All, refl, ap, sym, subst, arith, inl, inr}
+use Rattle.std.proofs.Common.{◌≡◌, ◌∙◌, ◌<◌, ◌≤◌, ℕ, zero, suc, true, false, List, [], ◌∷◌, length, map, slice_get, slice_index_or, Option, Some, None, refl, ap, sym, subst, arith, inl, inr}
 use Rattle.std.specs.Prelude.{is_some, IfSome, IsSome, IsSomeAnd, sum_by}
 use Rattle.std.proofs.lemmas.Bool.{cases_lt}
 use Rattle.std.proofs.lemmas.List.{ext_get_or, get_or_past}
@@ -14,14 +14,14 @@ use Rattle.cloak_model.specs.DomainState as program
 use Rattle.cloak_model.specs.Hart.{Hart}
 use Rattle.cloak_model.specs.Ledger.{Keys}
 use Rattle.cloak_model.specs.Parts as model
-use Rattle.cloak_model.specs.Resources.{Resources, all_pages, pages_of, resource_at}
+use Rattle.cloak_model.specs.Resources.{Resources, pages_of, resource_at}
 use Rattle.cloak_model.specs.declared.image.Bundle.{Bundle}
 use Rattle.cloak_model.specs.declared.resource.Resource.{Resource}
 use Rattle.resource_map.specs.Kept.{IsInUse}
 use Rattle.frozen_state.specs.Continuing.{without_past}
 use Rattle.frozen_state.specs.DomainPage.{IsProgram}
 use Rattle.frozen_state.specs.FrozenState.{hart_with}
-use Rattle.frozen_state.specs.Limits.{IsThere, has_ended}
+use Rattle.frozen_state.specs.Limits.{has_ended}
 use Rattle.frozen_state.specs.Thawing.{CanGoOn, IsPageInUse}
 use Rattle.frozen_state.specs.declared.frozen.Frozen.{Frozen}
 use Rattle.frozen_state.specs.declared.frozen.FrozenDomain.{FrozenDomain}
@@ -33,12 +33,11 @@ use Rattle.shadow_fold.specs.Keeping.{Agrees}
 use Rattle.shadow_fold.specs.Table.{Table, empty_table}
 use Rattle.shadow_law.specs.Agreeing.{present}
 use Rattle.cloaked_side.specs.Holding.{Holds}
-use Rattle.cloaked_side.specs.declared.memory.Memory.{Memory}
 use Rattle.joint_machine.specs.Standing.{StandsForJoint}
 use Rattle.joint_machine.specs.Thawing.{AreNumberedHarts, AreThawedDomains, IsThawedPager, root_shown, violation_shown}
 use Rattle.joint_machine.specs.declared.joint.Joint.{Joint}
 use Rattle.joint_machine.proofs.GoesOn.{frozen_goes_on, goes_on_stands, programs_go_on, root_shown_low, root_shown_past, shown_roots, shown_violation}
-use Rattle.joint_machine.proofs.Shown.{ShowsAll, domain_seen, meta_in, meta_of_record, shows_all}
+use Rattle.joint_machine.proofs.Shown.{ShowsAll, domain_seen, meta_of_record, shows_all}
 use Rattle.joint_machine.proofs.ThawedParts.{marks_shown}
 use Rattle.joint_machine.proofs.Thaws.{get_low, get_there}
 

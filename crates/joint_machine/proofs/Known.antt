@@ -1,10 +1,9 @@
 -- Files that are told to a table one after another, over plain variables.
-use Rattle.std.proofs.Common.{◌≡◌, ◌≢◌, ◌∙◌, ◌≤◌, ◌<◌, ◌+◌, ◌-◌, ◌*◌, ◌^◌, ℕ, zero, suc, Bool, true, false, cond, List, [], ◌∷◌, ◌++◌, length, take, drop, map, replicate, slice_set, slice_index_or, slice_get, Option, Some, None, All, refl, ap, sym, subst, arith, add-one, append_assoc, append-nil, length-append, inl, inr}
-use Rattle.std.specs.Prelude.{nat_lt, nat_le, ◌&&◌, sum_by, AllPairs, option_map, if◌then◌else◌}
-use Rattle.std.proofs.lemmas.List.{length-map, length-replicate, length_push, get_or_push, set_at, length-take, map-append, map_more, take_more, get_or-take, get_or_read}
+use Rattle.std.proofs.Common.{◌≡◌, ◌∙◌, ◌≤◌, ◌<◌, ◌+◌, ◌-◌, ◌^◌, ℕ, zero, suc, List, [], ◌∷◌, ◌++◌, length, take, map, replicate, slice_set, slice_index_or, Option, None, All, refl, ap, sym, subst, arith, add-one, append_assoc, append-nil, length-append, inl, inr}
+use Rattle.std.specs.Prelude.{sum_by, AllPairs}
+use Rattle.std.proofs.lemmas.List.{length-map, length-replicate, length_push, get_or_push, set_at, length-take, map-append, take_more, get_or-take, get_or_read}
 use Rattle.std.proofs.lemmas.List.Sums.{sum_by-append, sum_by-cons}
 use Rattle.cloak_base.specs.declared.names.Meta.{Meta}
-use Rattle.cloak_base.specs.declared.names.PageId.{PageId}
 use Rattle.cloak_model.specs.Opening.{numbers_below}
 use Rattle.cloak_model.specs.StoredFiles.{StoredFile, IsFile, IsMetaIfKnown, IsTable, Precedes, Rise, page_count}
 use Rattle.protect_meta.specs.FileTable.{file_at, with_meta}
@@ -183,23 +182,6 @@ pub sum_told : (t : MetaRow) (d : ℕ) (old : List StoredFile) (places : List Fi
 sum_told t d old places =
     sum_by-append page_count old (map (known_file t d) places)
     ∙ ap (λ (n : ℕ). sum_by page_count old + n) (sum_known t d places)
-
-pub length_told : (t : MetaRow) (d : ℕ) (old : List StoredFile) (places : List FilePlace) →
-    length (old ++ map (known_file t d) places) ≡ length old + length places
-length_told t d old places =
-    length-append old (map (known_file t d) places)
-    ∙ ap (λ (n : ℕ). length old + n) (length-map places (known_file t d))
-
--- one more file
-pub places_next : (t : MetaRow) (d : ℕ) (old : List StoredFile) (places : List FilePlace) (i : ℕ) (f : FilePlace) →
-    i < length places → f ≡ slice_index_or places i f →
-    (old ++ map (known_file t d) (take i places)) ++ known_file t d f ∷ []
-    ≡ old ++ map (known_file t d) (take (i + 1) places)
-places_next t d old places i f low is =
-    append_assoc old (map (known_file t d) (take i places)) (known_file t d f ∷ [])
-    ∙ ap (λ (l : List StoredFile). old ++ l)
-    (ap (λ (x : FilePlace). map (known_file t d) (take i places) ++ known_file t d x ∷ []) is
-    ∙ sym (map_more (known_file t d) places i f low))
 
 pub below_next : (t : MetaRow) (d : ℕ) (old : List StoredFile) (places : List FilePlace) →
     All (λ (g : StoredFile). g.domain < d) old →

@@ -1,6 +1,6 @@
 -- RAM as a run begins, over plain variables.
 use Rattle.std.proofs.Common.{inl, inr, ◌≡◌, ◌<◌, ◌≤◌, ◌+◌, ◌-◌, ◌*◌, ◌/◌, ◌%◌, ℕ, false, List, [], ◌∷◌, ◌++◌, length, drop, take, reverse, suc, slice_index_or, slice_set, All, refl, ap, sym, ◌∙◌, subst, arith, add-one, None, Some, Option, map, replicate}
-use Rattle.std.proofs.lemmas.List.{get_or_past, set_split, length-set, length-replicate, length-take, length-drop, length-reverse, at_drop_more, at_drop_all, take-append-drop, reverse-append, reverse-reverse}
+use Rattle.std.proofs.lemmas.List.{get_or_past, set_split, length-set, length-replicate, length-take, length-drop, length-reverse, at_drop_more, take-append-drop, reverse-append, reverse-reverse}
 use Rattle.std.proofs.lemmas.Bool.{cases_lt}
 use Rattle.std.proofs.lemmas.List.Elements.{All-nil, All-set, All-replicate}
 use Rattle.cloak_base.specs.Pages.{zero_page}
@@ -91,15 +91,6 @@ pub record StoresFrom (old p : PagerState) (address i : ℕ) (bytes : List ℕ) 
   pub pages : ArePages p.frames
   pub stored : with_bytes p.frames (address + i) (drop i bytes) ≡ with_bytes old.frames address bytes
 
-pub stores_none : (p : PagerState) (address : ℕ) (bytes : List ℕ) → ArePages p.frames → StoresFrom p p address 0 bytes
-stores_none p address bytes pages = record {
-  stays = frames_same p;
-  count = refl;
-  pages = pages;
-  stored =
-      ap (λ (n : ℕ). with_bytes p.frames n bytes) (let e : address + 0 ≡ address = omega arith in e);
-}
-
 pub stores_more : (old p p' : PagerState) (address i place b : ℕ) (bytes : List ℕ) → 0x80000000 ≤ address →
     StoresFrom old p address i bytes → place ≡ address - 0x80000000 + i → i < length bytes →
     address + length bytes ≤ 0x80000000 + 4096 * length old.frames →
@@ -127,13 +118,6 @@ stores_more old p p' address i place b bytes high so_far is more fits read low h
           (let e : address + (i + 1) ≡ address + i + 1 = omega arith in e)
           ∙ (sym here ∙ so_far.stored));
     }
-
-pub stores_all : (old p : PagerState) (address i : ℕ) (bytes : List ℕ) → StoresFrom old p address i bytes →
-    length bytes ≤ i → HasFrames old p (with_bytes old.frames address bytes)
-stores_all old p address i bytes so_far end =
-    frames_are old p p.frames _
-    (sym (at_drop_all (λ (rest : List ℕ). with_bytes p.frames (address + i) rest) bytes i end) ∙ so_far.stored)
-    so_far.stays
 
 -- Segments one after another.
 
@@ -302,11 +286,6 @@ stores_back_more old p p' address n back rest first bytes so_far few has e =
       stored =
           ap (λ (x : List (List ℕ)). with_bytes x (address + n) (reverse rest)) has.frames_are ∙ (sym here ∙ so_far.stored);
     }
-
-pub stores_back_all : (old p : PagerState) (address : ℕ) (back : List ℕ) (first : ℕ) (bytes : List ℕ) →
-    StoresBack old p address back first bytes → length back ≡ 0 → HasFrames old p (with_bytes old.frames first bytes)
-stores_back_all old p address [] first bytes so_far end = frames_are old p p.frames _ so_far.stored so_far.stays
-stores_back_all old p address (b ∷ back) first bytes so_far end = absurd (omega (arith, end))
 
 -- What is loaded.
 

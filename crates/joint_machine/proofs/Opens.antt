@@ -1,5 +1,5 @@
 -- The opening of a joint run, over plain variables.
-use Rattle.std.proofs.Common.{◌≡◌, ◌<◌, ℕ, zero, suc, true, false, List, [], ◌∷◌, length, Option, None, Some, Err, refl, ap, sym, ◌∙◌, subst, arith, map, replicate, All}
+use Rattle.std.proofs.Common.{◌≡◌, ◌<◌, ◌≤◌, ℕ, get_or, zero, suc, true, false, List, [], ◌∷◌, length, Option, None, Some, Err, refl, ap, sym, ◌∙◌, subst, arith, map, replicate, All}
 use Rattle.std.proofs.lemmas.List.{length-append}
 use Rattle.cloak_base.specs.declared.names.SpaceId.{SpaceId}
 use Rattle.cloak_base.specs.Random.{Random}
@@ -38,7 +38,8 @@ free_unused domains p none d n low domain at free = λ k q held. absurd (let no 
 pub low_keys : (frames : ℕ) (programs read : List Program) → read ≡ programs → All (IsProgramIn frames) programs →
     All (λ (p : Program). p.key < 4) read
 low_keys frames programs read same are =
-    subst (All (λ (p : Program). p.key < 4)) (sym same) (λ i p inside. (are i p inside).key)
+    subst (All (λ (p : Program). p.key < 4)) (sym same)
+    (λ i p inside. let low : (get_or programs i p).key ≤ 3 = (are i p inside).key in omega (arith, low))
 
 -- What is missing.
 

@@ -1,5 +1,5 @@
 -- The page of a program has 4096 bytes, over plain variables.
-use Rattle.std.proofs.Common.{◌≡◌, ◌∙◌, ◌<◌, ◌≤◌, ◌+◌, ◌-◌, ◌*◌, ◌%◌, ℕ, zero, suc, List, [], ◌∷◌, ◌++◌, length, drop, replicate, slice_index_or, Option, Some, None, All, refl, ap, sym, subst, arith}
+use Rattle.std.proofs.Common.{◌≡◌, ◌∙◌, ◌<◌, ◌≤◌, ◌+◌, ◌-◌, ◌*◌, ℕ, zero, suc, List, [], ◌∷◌, ◌++◌, length, drop, replicate, slice_index_or, Option, Some, None, All, arith}
 use Rattle.std.specs.Prelude.{IfSome, unwrap_or}
 use Rattle.std.specs.List.{flat_map}
 use Rattle.std.proofs.lemmas.List.{length-append, length-drop, length-replicate}
@@ -8,10 +8,10 @@ use Rattle.cloak_base.specs.declared.names.HartId.{HartId}
 use Rattle.cloak_model.specs.Bits.{word}
 use Rattle.cloak_model.specs.Contexts.{Context, context_at}
 use Rattle.cloak_model.specs.DomainState.{Control, hart_byte, owner_bytes, phase_bytes, region_bytes, resource_bytes, slot_bytes, space_bytes, state_bytes}
-use Rattle.cloak_model.specs.Resources.{Resources, regions_in}
+use Rattle.cloak_model.specs.Resources.{Resources}
 use Rattle.cloak_model.specs.declared.context.Phase.{Phase}
 use Rattle.cloak_model.specs.declared.context.Phase.TheVariants.{Plain, CopyIn, Waiting, CopyOut}
-use Rattle.cloak_model.specs.declared.context.WordPlace.{WordPlace}
+use Rattle.cloak_model.specs.declared.context.PageWord.{PageWord}
 use Rattle.cloak_model.specs.declared.resource.Owner.{Owner}
 use Rattle.cloak_model.specs.declared.resource.Owner.TheVariants.{Space, File}
 use Rattle.cloak_model.specs.declared.resource.Region.{Region}
@@ -91,7 +91,7 @@ slot_short r (Some c) fits =
     (joined 4 128 (word c.space) _ (word_short c.space)
     (joined 4 124 (word c.pc) _ (word_short c.pc) last))))
 
-mark_short : (mark : Option WordPlace) → Short 13 (mark_bytes mark)
+mark_short : (mark : Option PageWord) → Short 13 (mark_bytes mark)
 mark_short None = wider 1 13 (0 ∷ []) (omega arith) (one_more 0 0 [] (omega arith) none)
 mark_short (Some place) =
     one_more 12 1 _ (omega arith) (joined 4 8 (word place.resource) _ (word_short place.resource)

@@ -13,7 +13,7 @@ use Rattle.cloak_model.specs.Memory.{unless_written}
 use Rattle.cloak_model.specs.Opening.{place_pages, place_programs, program_page}
 use Rattle.cloak_model.specs.PageMoves.{place, place_with}
 use Rattle.protect_meta.specs.Table.{meta_at}
-use Rattle.cloak_pager.specs.State.{PagerState, IsFresh, page_of, held_in}
+use Rattle.cloak_pager.specs.State.{PagerState, page_of, held_in}
 use Rattle.cloak_pager.specs.Turns.{PlaceTurns}
 use Rattle.cloak_pager.specs.Relation.{StandsForMemory}
 use Rattle.cloak_pager.specs.Asking.{FollowsCall, after_place}
@@ -38,10 +38,6 @@ first_page d n = record { domain = d; resource = 0; page = n }
 
 never : (o : Option PageId) (q : PageId) → o ≡ None → o ≢ Some q
 never o q none some = let e : None ≡ Some q = sym none ∙ some in cc
-
-pub fresh_next : (p : PagerState) (d n : ℕ) → IsReady p d n → IsFresh p (first_page d n)
-fresh_next p d n ready =
-    (ready.rest (first_page d n) refl (omega arith), λ k. never (held_in p k) (first_page d n) (ready.outside k))
 
 -- other pages have what metadata they had
 metas_kept : (draw : Option (List ℕ × Random)) (stream left : Random) (old new : PagerState) (q : PageId) (f : ℕ)
@@ -76,13 +72,6 @@ unplaced_then a b c first second q other = second q other ∙ first q other
 
 pub unplaced_none : (p : PagerState) → KeepsUnplaced p p
 unplaced_none p q other = refl
-
-pub ready_domain : (p : PagerState) (d n : ℕ) → IsReady p d n → IsReady p (d + 1) 0
-ready_domain p d n ready = record {
-  outside = ready.outside;
-  rest = λ q here past. ready.later q (omega (arith, here));
-  later = λ q past. ready.later q (omega (arith, past));
-}
 
 -- What a placing leaves of the ledger, beside stream and records.
 pub record KeepsLedger (m m' : CloakedMemory) : Type 0 where

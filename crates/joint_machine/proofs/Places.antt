@@ -9,7 +9,6 @@ use Rattle.cloak_base.proofs.Pages.{told, is_of-other}
 use Rattle.cloak_model.specs.DomainState as program
 use Rattle.cloak_model.specs.Resources.{Resources, resource_at}
 use Rattle.cloak_pager.specs.State.{PagerState, IsNoneHeld}
-use Rattle.cloaked_side.specs.Holding.{HoldsNoMore}
 use Rattle.hypercalls.specs.declared.domain.Domain.{Domain}
 use Rattle.hypercalls.specs.Standing.{StandsFor, control_of, number_of}
 use Rattle.joint_machine.specs.Turning.{HoldsNoFree, HoldsNoOthers}
@@ -61,10 +60,6 @@ each_set P (y ∷ xs) (suc d) x holds each (suc k) = each_set (λ n. P (suc n)) 
 
 pub numbered_set : (xs : List Domain) (d : ℕ) (x : Domain) → number_of x ≡ d → AreNumbered xs → AreNumbered (slice_set xs d x)
 numbered_set xs d x is numbered = each_set (λ n (y : Domain). number_of y ≡ n) xs d x is numbered
-
--- frames hold no more than they did
-pub free_within : (xs : List Domain) (pager pager' : PagerState) → HoldsNoMore pager pager' → AreFreeUnused xs pager → AreFreeUnused xs pager'
-free_within xs pager pager' less unused d n few x there free k q held = unused d n few x there free k q (less.held k q held)
 
 -- a program with the same resources in its place
 pub free_same : (xs : List Domain) (pager : PagerState) (d : ℕ) (x y : Domain) → slice_get xs d ≡ Some x → (control_of y).resources ≡ (control_of x).resources → AreFreeUnused xs pager → AreFreeUnused (slice_set xs d y) pager

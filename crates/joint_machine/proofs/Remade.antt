@@ -1,6 +1,6 @@
 -- A machine that is made of a frozen state, over plain variables.
-use Rattle.std.proofs.Common.{◌≡◌, ◌≢◌, ◌∙◌, ◌<◌, ◌≤◌, ◌+◌, ◌%◌, ℕ, zero, suc, true, false, List, [], ◌∷◌, length, map, replicate, slice_get, slice_index_or, Option, Some, None, Result, Ok, Err, All, refl, ap, sym, subst, arith, inl, inr}
-use Rattle.std.specs.Prelude.{AllPairs, IfErr, IfOk, IfSome, IsSomeAnd, is_some, option_and_then, option_map}
+use Rattle.std.proofs.Common.{◌≡◌, ◌∙◌, ℕ, true, List, [], length, map, slice_get, slice_index_or, Option, Some, None, Result, Ok, Err, All, refl, ap, sym, subst, arith, inl, inr}
+use Rattle.std.specs.Prelude.{IfErr, IfOk, IfSome, IsSomeAnd, is_some, option_and_then, option_map}
 use Rattle.std.proofs.lemmas.Bool.{cases_lt}
 use Rattle.std.proofs.lemmas.List.{get_or_past, length-replicate}
 use Rattle.cloak_base.specs.Pages.{zero_page}
@@ -13,14 +13,10 @@ use Rattle.cloak_model.specs.Ledger.{Keys}
 use Rattle.cloak_model.specs.Beginning.{stored_keys}
 use Rattle.cloak_model.specs.Opening.{drawn_keys, filled_up, key_count, keys_for}
 use Rattle.cloak_model.specs.declared.image.Program.{Program}
-use Rattle.cloak_model.specs.Parts as model
-use Rattle.protect_meta.specs.Pages.{IsIn}
-use Rattle.protect_meta.specs.Table.{domains_of, meta_at}
 use Rattle.shadow_fold.specs.Table as shadow
-use Rattle.frozen_state.specs.Continuing.{without_past}
-use Rattle.frozen_state.specs.Ranges.{IsFrozenHart, IsPage, owed_page}
+use Rattle.frozen_state.specs.Ranges.{IsFrozenHart}
 use Rattle.frozen_state.specs.Refusing.{IsFirstChanged, IsFirstWrong, IsProgramOf, IsWholeDomain, IsWholeFrame, UnderKeys}
-use Rattle.frozen_state.specs.Thawing.{CanGoOn, keys_and_rest}
+use Rattle.frozen_state.specs.Thawing.{keys_and_rest}
 use Rattle.frozen_state.specs.declared.frozen.Frozen.{Frozen}
 use Rattle.frozen_state.specs.declared.frozen.FrozenDomain.{FrozenDomain}
 use Rattle.frozen_state.specs.declared.frozen.FrozenFrame.{FrozenFrame}
@@ -29,14 +25,12 @@ use Rattle.frozen_state.specs.declared.frozen.FrozenPage.{FrozenPage}
 use Rattle.io_traits.specs.Skipping.{skipped}
 use Rattle.cloak_pager.specs.State as pager
 use Rattle.cloak_pager.specs.State.{PagerState, IsFresh, IsWholePager, bytes_in, held_in, owed_at, page_of, right_at}
-use Rattle.cloak_pager.specs.Turns.{IsNewPager, frame_numbered}
-use Rattle.cloak_pager.specs.declared.frame_right.FrameRight.{FrameRight}
-use Rattle.cloak_pager.specs.declared.frame_right.FrameRight.TheVariants.{Outside, Clean, Changed, Spent}
+use Rattle.cloak_pager.specs.Turns.{IsNewPager}
+use Rattle.cloak_pager.specs.declared.frame_right.FrameRight.TheVariants.{Spent}
 use Rattle.hypercalls.specs.declared.domain.Domain.{Domain}
 use Rattle.hypercalls.specs.Standing.{control_of}
 use Rattle.joint_machine.specs.Freezing.{AreOwedOrOutside}
-use Rattle.joint_machine.specs.Standing.{StandsForJoint}
-use Rattle.joint_machine.specs.Thawing.{AreFilled, AreHarts, AreThawedDomains, AreThawedFrames, FillsFrames, IsFaultUnder, IsThawedFrame, IsThawedPager, Restores, IsDomainFault, IsThawFault, ThawsJoint, ThawsUnder}
+use Rattle.joint_machine.specs.Thawing.{AreHarts, AreThawedDomains, IsFaultUnder, IsThawedFrame, IsThawedPager, IsDomainFault, IsThawFault, ThawsJoint, ThawsUnder}
 use Rattle.joint_machine.specs.declared.joint.Joint.{Joint}
 use Rattle.joint_machine.specs.declared.thaw_fault.ThawFault.{ThawFault}
 use Rattle.joint_machine.specs.declared.thaw_fault.ThawFault.TheVariants as fault
@@ -47,79 +41,14 @@ use Rattle.joint_machine.proofs.Thaws.{get_low, get_there, some_there}
 
 -- Ranges.
 
-page_in : (n m : ℕ) (o : Option PageId) → m ≡ n → IfSome o (IsPage n) → IfSome o (IsIn m)
-page_in n m None same is = tt
-page_in n m (Some q) same is = record {
-  domain = subst (λ (k : ℕ). q.domain < k) (sym same) is.domain;
-  resource = is.resource;
-  page = is.page;
-}
-
-pub owed_in_table : (n m : ℕ) (xs : List FrozenFrame) → m ≡ n →
-    All (λ (x : FrozenFrame). IfSome (owed_page x) (IsPage n)) xs →
-    All (λ (x : FrozenFrame). IfSome (owed_page x) (IsIn m)) xs
-owed_in_table n m xs same all = λ i x low. page_in n m (owed_page (slice_index_or xs i x)) same (all i x low)
-
-pub recorded_in_table : (n m : ℕ) (xs : List FrozenPage) → m ≡ n → All (λ (p : FrozenPage). IsPage n p.page) xs →
-    All (λ (p : FrozenPage). IsIn m p.page) xs
-recorded_in_table n m xs same all = λ i x low. page_in n m (Some (slice_index_or xs i x).page) same (all i x low)
-
 pub steady : (frames : ℕ) (hs : List FrozenHart) → All (IsFrozenHart frames) hs → AreHarts hs
 steady frames hs all = λ i h low. record { aligned = (all i h low).aligned; csrs = (all i h low).csrs }
 
 -- The pager.
 
-pub new_outside : (frames domains : ℕ) (keys : Keys) (p : PagerState) → IsNewPager frames domains keys p → (k : ℕ) →
-    held_in p k ≡ None
-new_outside frames domains keys p new k = elim (cases_lt k frames) [
-  | inl low ↦ ap page_of (new.outside k low)
-  | inr past ↦ ap page_of (get_or_past p.rights k Spent (let count = new.count in omega (arith, count, past)))
-]
-
 pub new_count : (frames domains : ℕ) (keys : Keys) (p : PagerState) → IsNewPager frames domains keys p →
     length p.frames ≡ frames
 new_count frames domains keys p new = ap length new.zeros ∙ length-replicate frames zero_page
-
-pub filled_fresh : (frames domains : ℕ) (keys : Keys) (p p' : PagerState) (xs : List FrozenFrame) →
-    IsNewPager frames domains keys p → FillsFrames p p' xs → (q : PageId) → IsFresh p' q
-filled_fresh frames domains keys p p' xs new fills q = (
-  fills.metas q ∙ new.no_metas q,
-  λ k held.
-      let none : held_in p' k ≡ None =
-      ap (λ (rights : List FrameRight). page_of (slice_index_or rights k Spent)) fills.rights
-      ∙ new_outside frames domains keys p new k in
-      let clash : None ≡ Some q = sym none ∙ held in
-      absurd (cc),
-)
-
-pub are_filled : (frames domains : ℕ) (keys : Keys) (p p' p'' : PagerState) (xs : List FrozenFrame)
-    (recorded : List FrozenPage) → IsNewPager frames domains keys p → frames ≡ length xs → FillsFrames p p' xs →
-    Restores p' p'' recorded → AreFilled p'' xs
-are_filled frames domains keys p p' p'' xs recorded new counted fills restores = record {
-  count = ap length (restores.rights ∙ fills.rights) ∙ (new.count ∙ counted);
-  rights = λ f low.
-      ap (λ (rights : List FrameRight). slice_index_or rights f Spent) (restores.rights ∙ fills.rights)
-      ∙ new.outside f (omega (arith, low, counted));
-  bytes = λ f frame there.
-      ap (λ (l : List (List ℕ)). slice_index_or l f []) restores.frames ∙ fills.bytes f frame there;
-}
-
-pub filled_count : (frames domains : ℕ) (keys : Keys) (p p' p'' : PagerState) (xs : List FrozenFrame)
-    (recorded : List FrozenPage) → IsNewPager frames domains keys p → frames ≡ length xs → FillsFrames p p' xs →
-    Restores p' p'' recorded → length xs ≡ length p''.frames
-filled_count frames domains keys p p' p'' xs recorded new counted fills restores =
-    sym (ap length restores.frames ∙ (fills.count ∙ (new_count frames domains keys p new ∙ counted)))
-
-pub pager_thawed : (frames domains : ℕ) (keys : Keys) (p p' p'' q : PagerState) (xs : List FrozenFrame)
-    (recorded : List FrozenPage) (n : ℕ) → IsNewPager frames domains keys p → frames ≡ length xs → domains ≡ n →
-    FillsFrames p p' xs → Restores p' p'' recorded → AreThawedFrames p'' q xs → IsThawedPager q keys n xs recorded
-pager_thawed frames domains keys p p' p'' q xs recorded n new counted sized fills restores thaws = record {
-  keys_are = thaws.keys ∙ (restores.keys ∙ (fills.keys ∙ new.keys_are));
-  domains_are = thaws.domains ∙ (restores.domains ∙ (fills.domains ∙ (new.domains_are ∙ sized)));
-  count = thaws.count ∙ sym (filled_count frames domains keys p p' p'' xs recorded new counted fills restores);
-  each = thaws.each;
-  metas = λ o. thaws.metas o ∙ restores.metas o;
-}
 
 pub thawed_settled : (p : PagerState) (keys : Keys) (domains : ℕ) (frames : List FrozenFrame) (recorded : List FrozenPage) →
     IsThawedPager p keys domains frames recorded → IsWholePager p → AreOwedOrOutside p

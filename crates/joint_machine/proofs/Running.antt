@@ -2,7 +2,6 @@
 use Rattle.std.proofs.Common.{◌≡◌, ◌∙◌, ◌<◌, ℕ, zero, suc, [], ◌∷◌, Bool, true, false, List, Option, Some, None, length, slice_get, refl, ap, sym, subst, if◌then◌else◌}
 use Rattle.std.specs.Prelude.{option_map, IsSome}
 use Rattle.std.proofs.lemmas.Option.{none-some}
-use Rattle.cloak_base.specs.declared.names.HartId.{HartId}
 use Rattle.cloak_model.specs.Contexts.{Context, context_at, domain_of, slot_of}
 use Rattle.cloak_model.specs.Csr.{interrupt_due}
 use Rattle.cloak_model.specs.DomainAlone.{is_hart, runs_on}
@@ -18,16 +17,6 @@ use Rattle.joint_machine.specs.Turning.{running_in, running_space}
 use Rattle.joint_machine.proofs.Places.{domain_at}
 
 -- How the code finds the space.
-
--- what is found of a slot
-abbrev pub space_on : ℕ → Option (ℕ × Option HartId) → Option ℕ
-space_on hart None = None
-space_on hart (Some (space, on)) = if is_hart hart on then Some space else None
-
-pub space_of_slot : (hart : ℕ) (o : Option Context) →
-    space_on hart (option_map (λ (c : Context). (c.space, c.on)) o) ≡ running_space hart o
-space_of_slot hart None = refl
-space_of_slot hart (Some c) = refl
 
 -- It does not run.
 

@@ -1,8 +1,7 @@
 -- What is shown as a run begins, over plain variables.
-use Rattle.std.proofs.Common.{◌≡◌, ◌+◌, ℕ, Bool, true, false, cond, ◌&&◌, nat_le, nat_lt, if◌then◌else◌, length, List, [], ◌∷◌, ◌++◌, slice_index_or, refl, ap, sym, ◌∙◌, subst, add-one, slice_get, Result, Ok, Err, Option, None, Some}
+use Rattle.std.proofs.Common.{◌≡◌, ◌+◌, ℕ, Bool, true, ◌&&◌, nat_le, nat_lt, if◌then◌else◌, length, List, [], ◌∷◌, slice_index_or, refl, ap, sym, ◌∙◌, subst, slice_get, Result, Ok, Err, Option, None, Some}
 use Rattle.std.specs.Prelude.{map, filter}
-use Rattle.std.proofs.lemmas.List.{map-append, ext_get_or}
-use Rattle.std.proofs.lemmas.List.Elements.{filter-append}
+use Rattle.std.proofs.lemmas.List.{ext_get_or}
 use Rattle.cloak_base.specs.declared.names.PageId.{PageId}
 use Rattle.cloak_base.specs.Random.{Random}
 use Rattle.cloak_model.specs.declared.image.Program.{Program}
@@ -18,16 +17,11 @@ use Rattle.cloak_model.specs.StoredFiles.{FileContents}
 use Rattle.cloak_model.specs.Exchange.{Piece, Emits, item_pieces}
 use Rattle.cloak_model.specs.Opening.{is_placed, numbers_below, opening_items, RunEdge, Lack, NoPageDraw, drawn_keys, key_count, keys_for, opened_by, opened_with, started_joint, started_memory, place_programs}
 use Rattle.cloak_pager.specs.State.{PagerState, bytes_in, page_of, right_at, held_in}
-use Rattle.cloak_pager.specs.Turns.{IsReadOnce}
 use Rattle.cloak_pager.specs.Relation.{StandsForMemory, FrameStands}
 use Rattle.cloak_pager.specs.declared.frame_right.FrameRight.{FrameRight}
 use Rattle.cloak_pager.specs.declared.frame_right.FrameRight.TheVariants.{Outside, Clean, Changed, Spent}
-use Rattle.protect_meta.specs.Table.{domains_of}
-use Rattle.cloak_pager.proofs.Calls.{stands_read}
 use Rattle.cloaked_side.specs.Holding.{Holds, frames_of}
 use Rattle.cloaked_side.specs.declared.memory.Memory.{Memory}
-use Rattle.cloaked_side.proofs.Emitting.{emits_none, emits_items}
-use Rattle.cloaked_side.proofs.Sided.{still_read as still}
 use Rattle.joint_machine.proofs.Continued.{contents_continue}
 use Rattle.joint_machine.specs.Placings.{covers, placing}
 use Rattle.joint_machine.specs.Starting.{IsReadOnly, frame_item, placed_among}
@@ -35,81 +29,9 @@ use Rattle.joint_machine.specs.declared.placings.Placing.{Placing}
 
 -- One frame.
 
-pub placed_one : (placings : List Placing) (frames : List (List ℕ)) (f : ℕ) → covers placings f ≡ true →
-    placed_among placings frames (f ∷ []) ≡ frame_item frames f ∷ []
-placed_one placings frames f there = ap (λ (b : Bool). map (frame_item frames) (cond b (f ∷ []) [])) there
-
-pub placed_not : (placings : List Placing) (frames : List (List ℕ)) (f : ℕ) → covers placings f ≡ false →
-    placed_among placings frames (f ∷ []) ≡ []
-placed_not placings frames f away = ap (λ (b : Bool). map (frame_item frames) (cond b (f ∷ []) [])) away
-
-pub emits_placed : {E : Type 0} (gave : E → E → List Piece → Type 0) (e e' : E) (placings : List Placing)
-    (frames : List (List ℕ)) (f : ℕ) → covers placings f ≡ true →
-    Emits gave e e' (item_pieces (frame_item frames f ∷ [])) →
-    Emits gave e e' (item_pieces (placed_among placings frames (f ∷ [])))
-emits_placed gave e e' placings frames f there emits =
-    subst (λ (items : List Item). Emits gave e e' (item_pieces items)) (sym (placed_one placings frames f there)) emits
-
-pub emits_not_placed : {E : Type 0} (gave : E → E → List Piece → Type 0) (e : E) (placings : List Placing)
-    (frames : List (List ℕ)) (f : ℕ) → covers placings f ≡ false →
-    Emits gave e e (item_pieces (placed_among placings frames (f ∷ [])))
-emits_not_placed gave e placings frames f away =
-    subst (λ (items : List Item). Emits gave e e (item_pieces items)) (sym (placed_not placings frames f away))
-    (emits_none gave e)
-
 -- Frames one after another.
 
-pub placed_more : (placings : List Placing) (frames : List (List ℕ)) (n : ℕ) →
-    placed_among placings frames (numbers_below (n + 1))
-    ≡ placed_among placings frames (numbers_below n) ++ placed_among placings frames (n ∷ [])
-placed_more placings frames n =
-    ap (λ (k : ℕ). placed_among placings frames (numbers_below k)) (add-one n)
-    ∙ (ap (map (frame_item frames)) (filter-append (covers placings) (numbers_below n) (n ∷ []))
-    ∙ map-append (frame_item frames) (filter (covers placings) (numbers_below n)) (filter (covers placings) (n ∷ [])))
-
-pub emits_more : {E : Type 0} (gave : E → E → List Piece → Type 0) (e f h : E) (placings : List Placing)
-    (frames frames' : List (List ℕ)) (n : ℕ) → frames' ≡ frames →
-    Emits gave e f (item_pieces (placed_among placings frames (numbers_below n))) →
-    Emits gave f h (item_pieces (placed_among placings frames' (n ∷ []))) →
-    Emits gave e h (item_pieces (placed_among placings frames (numbers_below (n + 1))))
-emits_more gave e f h placings frames frames' n same first second =
-    subst (λ (items : List Item). Emits gave e h (item_pieces items)) (sym (placed_more placings frames n))
-    (emits_items (placed_among placings frames (numbers_below n)) (placed_among placings frames (n ∷ [])) first
-    (subst (λ (x : List (List ℕ)). Emits gave f h (item_pieces (placed_among placings x (n ∷ [])))) same second))
-
 -- Reads.
-
-pub read_none : (memory : Memory) → IsReadOnly memory memory
-read_none memory = record { frames = refl; rights = refl; domains = refl; shadows = refl; holds = λ m h. h }
-
-pub read_then : (a b c : Memory) → IsReadOnly a b → IsReadOnly b c → IsReadOnly a c
-read_then a b c first second = record {
-  frames = second.frames ∙ first.frames;
-  rights = second.rights ∙ first.rights;
-  domains = second.domains ∙ first.domains;
-  shadows = second.shadows ∙ first.shadows;
-  holds = λ m h. second.holds m (first.holds m h);
-}
-
-pub read_once : (a b : Memory) → IsReadOnce a.pager b.pager → b.stream ≡ a.stream → b.draws ≡ a.draws →
-    b.missed ≡ a.missed → b.shadows ≡ a.shadows → b.reservations ≡ a.reservations → IsReadOnly a b
-read_once a b once stream draws missed shadows marks = record {
-  frames = ap (λ (p : PagerState). p.frames) once;
-  rights = ap (λ (p : PagerState). p.rights) once;
-  domains = ap (λ (p : PagerState). domains_of p.table) once;
-  shadows = shadows;
-  holds = λ m h. record {
-    wiped = h.wiped;
-    pager = stands_read a.pager b.pager once h.wiped m h.pager;
-    whole = λ none. h.whole (sym missed ∙ none);
-    stream = h.stream ∙ sym stream;
-    draws = draws ∙ h.draws;
-    missed = missed ∙ h.missed;
-    agrees = (still a b m once shadows).agrees h.agrees;
-    room = (still a b m once shadows).room ∙ h.room ∙ sym (still a b m once shadows).count;
-    marks = marks ∙ h.marks;
-  };
-}
 
 pub read_outside : (a b : Memory) → IsReadOnly a b → (k : ℕ) → held_in b.pager k ≡ held_in a.pager k
 read_outside a b read k = ap (λ (hs : List FrameRight). page_of (slice_index_or hs k Spent)) read.rights

@@ -1,7 +1,6 @@
 -- The step of a program over the machine's memory.
-use Rattle.std.proofs.Common.{◌≡◌, ◌≢◌, ◌<◌, ◌∙◌, ◌^◌, ℕ, Bool, cond, List, Option, Some, None, ap, sym, subst}
+use Rattle.std.proofs.Common.{◌≡◌, ◌≢◌, ◌∙◌, ℕ, List, Option, Some, None, sym, subst}
 use Rattle.std.specs.Option.{IfSome}
-use Rattle.std.proofs.lemmas.Bool.{lt-ltb}
 use Rattle.cloak_base.specs.declared.names.PageId.{PageId}
 use Rattle.cloak_model.specs.declared.regime.InsideRegime.{InsideRegime}
 use Rattle.cloak_model.specs.World.{World, Flat, Cloaked, Alone, items_of, violation_of}
@@ -16,8 +15,7 @@ use Rattle.cloak_model.specs.Exchange.{Piece, Emits, item_pieces}
 use Rattle.cloak_model.specs.Joint.{pages_for}
 use Rattle.cloak_pager.specs.State.{PagerState, IsNoneHeld, held_in}
 use Rattle.cloaked_fork.specs.Marks.{AreUnused}
-use Rattle.cloaked_side.specs.Holding.{domains_in}
-use Rattle.cloaked_side.specs.Seeing.{Sees, SeesInside, IsUnused, served}
+use Rattle.cloaked_side.specs.Seeing.{Sees, SeesInside, IsUnused}
 use Rattle.cloaked_side.proofs.Telling.{emits_world, holds_world}
 use Rattle.cloaked_side.specs.Telling.{HoldsWorld}
 use Rattle.cloaked_side.specs.declared.memory.Memory.{Memory}
@@ -27,10 +25,6 @@ use Rattle.hypercalls.specs.declared.domain.Domain.{Domain}
 use Rattle.hypercalls.specs.Standing.{StepsTo, HasPagesOf}
 use Rattle.joint_machine.specs.declared.stepping.SteppedProgram.{SteppedProgram}
 use Rattle.joint_machine.specs.Turning.{HoldsNoFree, HoldsNoOthers, StepsDomain, begun}
-
--- a domain that the memory has is served under its number
-pub served_there : {E : Type 0} (side : Side E) → side.domain < domains_in side.memory.now → side.domain ≡ served side
-served_there side there = sym (ap (λ (b : Bool). cond b side.domain (2 ^ 32)) (lt-ltb side.domain (domains_in side.memory.now) there))
 
 pages_in : (d : program.Domain) (c : Option Context) → IfSome c (λ x. (va : ℕ) (q : PageId) → page_at d.control.number d.control.resources x.space va ≡ Some q → pages_for d c va ≡ Some q)
 pages_in d None = tt

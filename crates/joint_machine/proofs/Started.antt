@@ -72,10 +72,3 @@ started_next xs ys x i p programs so_far pushed stands number more read =
       numbered = numbered_next xs x so_far.numbered (number ∙ sym so_far.count);
       count = length_push xs x ∙ ap (λ n. n + 1) so_far.count;
     })
-
-pub started_none : (programs : List Program) → AreStarted [] 0 programs
-started_none programs = record {
-  stand = tt;
-  numbered = λ d y at. absurd (let no : None ≡ Some y = at in cc);
-  count = refl;
-}

@@ -1,18 +1,15 @@
 -- Harts, page tables, reservations and programs that are thawed one after another, over plain variables.
-use Rattle.std.proofs.Common.{◌≡◌, ◌≢◌, ◌∙◌, ◌⊎◌, ◌<◌, ◌≤◌, ◌+◌, ◌*◌, ℕ, zero, suc, Bool, true, false, List, [], ◌∷◌, ◌++◌, length, take, drop, map, replicate, slice_get, slice_index_or, slice_set, Option, Some, None, All, refl, ap, sym, subst, arith, add-one, append-nil, inl, inr, if◌then◌else◌}
-use Rattle.std.specs.Prelude.{option_map, is_some, IfSome, IsSomeAnd}
+use Rattle.std.proofs.Common.{◌≡◌, ◌≢◌, ◌∙◌, ◌<◌, ◌≤◌, ◌+◌, ℕ, zero, suc, Bool, true, false, List, [], ◌∷◌, ◌++◌, length, take, map, replicate, slice_get, slice_index_or, slice_set, Option, Some, None, refl, ap, sym, subst, arith, append-nil, inl, inr, if◌then◌else◌}
+use Rattle.std.specs.Prelude.{is_some, IfSome, IsSomeAnd}
 use Rattle.std.specs.List.{flat_map}
-use Rattle.std.specs.Option.{ForSome}
 use Rattle.std.proofs.lemmas.Bool.{cases_lt}
 use Rattle.std.proofs.lemmas.Option.{slice_get_past}
 use Rattle.std.proofs.lemmas.Bool.Decides.{Decides-and, Decides-eqb, Decides-like}
 use Rattle.std.specs.Bool.{Decides}
 use Rattle.std.proofs.lemmas.Grind.{flat_map-append}
 use Rattle.std.proofs.lemmas.List.{ext_get_or, get_or-map, get_or-set_same, get_or-set_other, get_or_past, length-append, length-map, length-replicate, length-set, length_push}
-use Rattle.cloak_base.specs.Pages.{is_of}
 use Rattle.cloak_base.proofs.Pages.{is_of-other, told}
 use Rattle.cloak_base.specs.declared.causes.Violation.{Violation}
-use Rattle.cloak_base.specs.declared.names.Meta.{Meta}
 use Rattle.cloak_base.specs.declared.names.Mode.TheVariants as modes
 use Rattle.cloak_base.specs.declared.names.PageId.{PageId}
 use Rattle.cloak_base.specs.declared.names.SpaceId.{SpaceId}
@@ -28,21 +25,21 @@ use Rattle.cloak_model.specs.declared.resource.Resource.{Resource}
 use Rattle.frozen_state.specs.FrozenState.{domain_bytes, hart_with, maybe_word, meta_bytes, violation_bytes}
 use Rattle.frozen_state.specs.Ranges.{owed_page}
 use Rattle.frozen_state.specs.Refusing.{IsProgramOf, LiesIn, page_offset}
-use Rattle.frozen_state.specs.Thawing.{CanGoOn, IsHart}
+use Rattle.frozen_state.specs.Thawing.{IsHart}
 use Rattle.frozen_state.specs.declared.frozen.Frozen.{Frozen}
 use Rattle.frozen_state.specs.declared.frozen.FrozenDomain.{FrozenDomain}
 use Rattle.frozen_state.specs.declared.frozen.FrozenFrame.{FrozenFrame}
 use Rattle.frozen_state.specs.declared.frozen.FrozenHart.{FrozenHart}
-use Rattle.cloak_pager.specs.State.{PagerState, IsNoneHeld, IsWholePager, held_in, page_of, right_at}
+use Rattle.cloak_pager.specs.State.{PagerState, IsWholePager, page_of, right_at}
 use Rattle.cloak_pager.specs.declared.frame_right.FrameRight.TheVariants.{Spent}
 use Rattle.cloak_pager.proofs.Pages.{same_or_not}
 use Rattle.hypercalls.specs.declared.domain.Domain.{Domain}
-use Rattle.hypercalls.specs.Standing.{control_of, number_of}
+use Rattle.hypercalls.specs.Standing.{control_of}
 use Rattle.joint_machine.specs.Programs.{AreFreeUnused, AreNumbered}
-use Rattle.joint_machine.specs.Thawing.{AreNumberedHarts, AreThawedDomains, IsThawedDomain, IsThawedFrame, IsThawedPager, number_of_entry, root_shown, violation_shown}
+use Rattle.joint_machine.specs.Thawing.{AreNumberedHarts, AreThawedDomains, IsThawedDomain, IsThawedPager, number_of_entry, root_shown, violation_shown}
 use Rattle.joint_machine.proofs.Shown.{ShowsAll}
 use Rattle.joint_machine.proofs.Started.{get_pushed}
-use Rattle.joint_machine.proofs.Thaws.{all_get, get_is, get_low, get_one, get_there, some_there, take_next, thawed_holds}
+use Rattle.joint_machine.proofs.Thaws.{all_get, get_low, get_one, get_there, some_there, take_next, thawed_holds}
 
 -- Harts.
 

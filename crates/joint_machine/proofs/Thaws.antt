@@ -1,11 +1,11 @@
 -- What becomes of a pager as frozen frames and pages are put into it, over plain variables.
-use Rattle.std.proofs.Common.{◌≡◌, ◌≢◌, ◌∙◌, ◌⊎◌, ◌<◌, ◌≤◌, ◌+◌, ℕ, zero, suc, Bool, true, false, cond, List, [], ◌∷◌, ◌++◌, length, take, drop, map, slice_get, slice_index_or, slice_set, Option, Some, None, All, refl, ap, sym, subst, arith, add-one, inl, inr, if◌then◌else◌}
-use Rattle.std.specs.Prelude.{option_map, option_and_then, AllPairs, IfSome, nat_lt, ◌==◌, ◌&&◌, ◌||◌}
+use Rattle.std.proofs.Common.{◌≡◌, ◌≢◌, ◌∙◌, ◌<◌, ◌≤◌, ◌+◌, ℕ, zero, suc, Bool, true, false, List, [], ◌∷◌, ◌++◌, length, take, map, slice_get, slice_index_or, slice_set, Option, Some, None, All, refl, ap, sym, subst, arith, add-one, inl, inr, if◌then◌else◌}
+use Rattle.std.specs.Prelude.{option_map, AllPairs, IfSome, nat_lt, ◌==◌, ◌&&◌, ◌||◌}
 use Rattle.std.proofs.lemmas.Bool.{cases_lt}
 use Rattle.std.proofs.lemmas.List.Elements.{All-nil}
-use Rattle.std.proofs.lemmas.List.{get_or-set_same, get_or-set_other, get_or_past, length-set, length-take}
+use Rattle.std.proofs.lemmas.List.{get_or-set_same, get_or-set_other, get_or_past, length-set}
 use Rattle.cloak_base.specs.Pages.{same_page, with_page}
-use Rattle.cloak_base.proofs.Pages.{same_page_tells, same_page-self, same_page-other}
+use Rattle.cloak_base.proofs.Pages.{same_page_tells, same_page-other}
 use Rattle.cloak_base.specs.declared.names.Meta.{Meta}
 use Rattle.cloak_base.specs.declared.names.PageId.{PageId}
 use Rattle.protect_meta.specs.Pages.{IsIn}
@@ -22,7 +22,7 @@ use Rattle.cloak_pager.specs.State as pager
 use Rattle.cloak_pager.specs.State.{PagerState, IsFresh, bytes_in, held_in, key_for, owed_at, page_of, right_at}
 use Rattle.cloak_pager.specs.Turns.{HasBytes, HoldsNow, IsRestored, StaysBut, frame_numbered, holding}
 use Rattle.cloak_pager.specs.declared.frame_right.FrameRight.{FrameRight}
-use Rattle.cloak_pager.specs.declared.frame_right.FrameRight.TheVariants.{Outside, Clean, Changed, Spent}
+use Rattle.cloak_pager.specs.declared.frame_right.FrameRight.TheVariants.{Outside, Changed, Spent}
 use Rattle.cloak_pager.proofs.Pages.{same_or_not}
 use Rattle.joint_machine.specs.Thawing.{AreFilled, AreThawedFrames, FillsFrames, IsThawedFrame, Restores, meta_among}
 

@@ -21,9 +21,7 @@ use Rattle.cloak_model.specs.Joint.{Turn, by_interrupt, inside_step, hart_in, no
 use Rattle.cloak_model.specs.Parts as model
 use Rattle.cloak_model.specs.Resuming.{resume}
 use Rattle.cloak_model.specs.World.{items_of}
-use Rattle.cloaked_side.specs.Holding.{Holds}
 use Rattle.cloaked_side.specs.Telling.{TellsSide}
-use Rattle.cloaked_side.specs.declared.memory.Memory.{Memory}
 use Rattle.cloaked_side.proofs.Emitting.{emits_items}
 use Rattle.hypercalls.specs.declared.domain.Domain.{Domain}
 use Rattle.hypercalls.specs.Standing.{StandsFor}

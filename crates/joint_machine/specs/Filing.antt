@@ -1,5 +1,5 @@
 -- What becomes of a machine as the files of an earlier run are added to it.
-use Rattle.std.specs.Prelude.{ℕ, ◌≡◌, ◌≢◌, Bool, false, List, Option, Some, None, Result, Ok, Err, map, option_map, slice_get, All}
+use Rattle.std.specs.Prelude.{ℕ, ◌≡◌, ◌≢◌, Bool, false, List, Option, None, Result, Ok, Err, map, option_map, slice_get, All}
 use Rattle.std.specs.Option.{ForSome}
 use Rattle.cloak_base.specs.declared.names.Meta.{Meta}
 use Rattle.cloak_base.specs.declared.names.PageId.{PageId}

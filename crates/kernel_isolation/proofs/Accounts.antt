@@ -1,27 +1,29 @@
 -- What a program's questions write into the exchange accounts for RAM: it is then what the items say.
-use Rattle.std.proofs.Common.{◌≡◌, ◌∙◌, ℕ, ◌*◌, ◌%◌, ◌^◌, Bool, true, false, List, [], ◌∷◌, ◌++◌, length, Result, Ok, Err, refl, sym, ap, append_assoc}
+use Rattle.std.proofs.Common.{◌≡◌, ◌∙◌, ℕ, ◌*◌, ◌%◌, ◌^◌, Bool, true, false, List, [], ◌∷◌, ◌++◌, length, Ok, Err, refl, sym, ap, append_assoc}
 use Rattle.std.specs.Prelude.{◌==◌}
 use Rattle.std.proofs.lemmas.Bool.{false≢true, and_from}
 use Rattle.std.proofs.lemmas.List.{append-nil, length-set}
 use Rattle.cloak_base.specs.declared.names.Kind.TheVariants.{Store}
 use Rattle.cloak_base.specs.declared.names.PageId.{PageId}
 use Rattle.cloak_model.specs.declared.access.Access.{Access}
+use Rattle.cloak_model.specs.declared.access.Walked.{Walked}
 use Rattle.cloak_model.specs.declared.answer.Answer.{Answer}
 use Rattle.cloak_model.specs.declared.answer.Answer.TheVariants as answer
 use Rattle.cloak_model.specs.declared.item.Item.{Item}
 use Rattle.cloak_model.specs.declared.item.Item.TheVariants as item
 use Rattle.cloak_model.specs.Ask.{opened}
-use Rattle.cloak_model.specs.AskPages.{answer_item, replies, if_drawn, ask_inside_address, put_at, stored_inside, put_by_table, ask_write, ask_put, ask_copy, ask_forget}
+use Rattle.cloak_model.specs.AskPages.{answer_item, replies, if_drawn, ask_led_inside, put_at, stored_inside, put_by_table, ask_write, ask_put, ask_copy, ask_forget}
 use Rattle.cloak_model.specs.Asking.{Told}
 use Rattle.cloak_model.specs.Cloaking.{offer, settle, seen_in}
 use Rattle.cloak_model.specs.Effect.{IsWidth}
+use Rattle.cloak_model.specs.Walk.{Walk}
 use Rattle.cloak_model.specs.Events.{Event}
 use Rattle.cloak_base.specs.Constants.{frame_of}
 use Rattle.cloak_model.specs.Memory.{is_in_ram, Seen, stored}
 use Rattle.cloak_model.specs.PageMoves.{copy_pages, drop_pages}
 use Rattle.cloak_model.specs.World.{World, MidStep, Flat, Cloaked, Alone, Handed, ram_of, seen_of, owed_of, items_of, noted, settled, cipher_items}
 use Rattle.script_fold.proofs.ByQuestions.{StepKept}
-use Rattle.script_fold.proofs.Questions.{Opens, Replies, opens_by, keeps_drawn, keeps_inside_address}
+use Rattle.script_fold.proofs.Questions.{Opens, Replies, opens_by, keeps_drawn, keeps_led_inside}
 use Rattle.kernel_isolation.proofs.Items.{AreWithin, with_items, with_items-append, length-with_items, within_stays, within-append, ciphers_within, with_ciphers}
 use Rattle.kernel_isolation.proofs.Settlings.{ShownBy, settle_shown, offer_shown}
 use Rattle.kernel_isolation.proofs.Leading.{LeadsInside, leads_inside, low_bytes_stored, is_aligned}
@@ -228,36 +230,36 @@ accounts_put_at pa width value (Cloaked c) inside aligned is = put_account pa wi
 accounts_put_at pa width value (Alone h) inside aligned is = no_alone h _
 
 -- a store at a settled address
-opened_put : (satp : ℕ) (a : Access) (pa width value : ℕ) (w : World) → is_in_ram (ram_of w) pa ≡ true →
-    (pa % width == 0) ≡ true → IsWidth width →
-    Accounts w (if_drawn (put_at pa width value) (opened satp a pa w)).world
-opened_put satp a pa width value w inside aligned is = record {
+opened_put : (satp : ℕ) (a : Access) (walked : Walked) (width value : ℕ) (w : World) →
+    is_in_ram (ram_of w) walked.pa ≡ true → (walked.pa % width == 0) ≡ true → IsWidth width →
+    Accounts w (if_drawn (put_at walked.pa width value) (opened satp a walked w)).world
+opened_put satp a walked width value w inside aligned is = record {
   by = λ joint.
-      let v : World = opened satp a pa w in
-      let first = account_opens.opened satp a pa w in
+      let v : World = opened satp a walked w in
+      let first = account_opens.opened satp a walked w in
       let count = length-account w v (first.by joint) in
-      let inside' : is_in_ram (ram_of v) pa ≡ true = rw count inside in
-      (Accounts-trans w v _ first (keeps_drawn Accounts account_replies _ v (accounts_put_at pa width value v inside' aligned is))).by joint;
+      let inside' : is_in_ram (ram_of v) walked.pa ≡ true = rw count inside in
+      (Accounts-trans w v _ first (keeps_drawn Accounts account_replies _ v
+      (accounts_put_at walked.pa width value v inside' aligned is))).by joint;
 }
 
-accounts_stored : (va width value : ℕ) (told : Told (Result ℕ ℕ)) → LeadsInside va told → va % width ≡ 0 →
-    IsWidth width →
+accounts_stored : (va width value : ℕ) (told : Told Walk) → LeadsInside va told → va % width ≡ 0 → IsWidth width →
     Accounts told.world (stored_inside va width value told.answer told.world).world
 unfolding stored_inside
 accounts_stored va width value told leads at is = by told.answer refl
   where
-    by : (to : Result ℕ ℕ) → told.answer ≡ to → Accounts told.world (stored_inside va width value to told.world).world
+    by : (to : Walk) → told.answer ≡ to → Accounts told.world (stored_inside va width value to told.world).world
     by (Err cause) found = accounts_replies _ told.world
-    by (Ok pa) found =
-        let there = leads.inside pa found in
-        opened_put _ _ pa width value told.world there.0 (is_aligned va pa width there.1 at is) is
+    by (Ok walked) found =
+        let there = leads.inside walked found in
+        opened_put _ _ walked width value told.world there.0 (is_aligned va walked.pa width there.1 at is) is
 
 accounts_put_by_table : (va width value : ℕ) (w : World) → va % width ≡ 0 → IsWidth width →
     Accounts w (put_by_table va width value w).world
 unfolding put_by_table
 accounts_put_by_table va width value w at is =
-    let told = ask_inside_address va Store w in
-    Accounts-trans w told.world _ (keeps_inside_address Accounts account_opens va Store w)
+    let told = ask_led_inside va Store w in
+    Accounts-trans w told.world _ (keeps_led_inside Accounts account_opens va Store w)
     (keeps_drawn Accounts account_replies _ told.world (accounts_stored va width value told (leads_inside va Store w) at is))
 
 -- What a program stores elsewhere, and changes of its own pages.
@@ -293,7 +295,7 @@ account_step d = record {
   replies = account_replies;
   offers = λ q own va. record {
     offered = λ g write c. offer_account q g write _ c;
-    granted = λ kind w. Accounts-noted _ w;
+    granted = λ kind walked w. Accounts-noted _ w;
     mismatched = λ g c. same_account c _ refl refl refl;
   };
   puts = λ va width value at w. accounts_put va width value w at.0 at.1;

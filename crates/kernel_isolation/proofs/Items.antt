@@ -79,33 +79,33 @@ with_ciphers (c ∷ ciphers) seen = with_ciphers ciphers (filled c.0 c.1 seen)
 
 -- The kernel alone reads them.
 
-fit_taken : (schedule : List ℕ) (hart ctx : ℕ) (i : Item) (s : KernelAlone) → s.place ≡ Inside hart ctx →
+fit_taken : (schedule : List ℕ) (hart ctx : ℕ) (i : Item) (s : KernelAlone) → s.stage ≡ Inside hart ctx →
     is_within s.kernel.ram i ≡ true → kernel_takes schedule i s ≡ with_ram (with_item i (kernel_seen s.kernel)) s
 unfolding kernel_takes take_cipher take_put
-fit_taken schedule hart ctx (item.Cipher f bytes) s place within =
-    ap (λ p. take_cipher p f bytes s) place ∙ fits _ s _ within
-fit_taken schedule hart ctx (item.Put pa width value) s place within =
-    ap (λ p. take_put p pa width value s) place ∙ fits _ s _ within
-fit_taken schedule hart ctx (item.Leave x) s place within = absurd cc
-fit_taken schedule hart ctx (item.Step number) s place within = absurd cc
-fit_taken schedule hart ctx (item.Close steps) s place within = absurd cc
-fit_taken schedule hart ctx item.End s place within = absurd cc
-fit_taken schedule hart ctx _ s place within = refl
+fit_taken schedule hart ctx (item.Cipher f bytes) s stage within =
+    ap (λ p. take_cipher p f bytes s) stage ∙ fits _ s _ within
+fit_taken schedule hart ctx (item.Put pa width value) s stage within =
+    ap (λ p. take_put p pa width value s) stage ∙ fits _ s _ within
+fit_taken schedule hart ctx (item.Leave x) s stage within = absurd cc
+fit_taken schedule hart ctx (item.Step number) s stage within = absurd cc
+fit_taken schedule hart ctx (item.Close steps) s stage within = absurd cc
+fit_taken schedule hart ctx item.End s stage within = absurd cc
+fit_taken schedule hart ctx _ s stage within = refl
 
 item_taken : (schedule : List ℕ) (hart ctx : ℕ) (i : Item) (s : KernelAlone) → s.unfit ≡ None →
-    s.place ≡ Inside hart ctx →
+    s.stage ≡ Inside hart ctx →
     is_within s.kernel.ram i ≡ true → take_kernel_item schedule s i ≡ with_ram (with_item i (kernel_seen s.kernel)) s
-item_taken schedule hart ctx i s none place within =
-    taken_fit schedule s i none ∙ fit_taken schedule hart ctx i s place within
+item_taken schedule hart ctx i s none stage within =
+    taken_fit schedule s i none ∙ fit_taken schedule hart ctx i s stage within
 
 pub items_taken : (schedule : List ℕ) (hart ctx : ℕ) (items : List Item) (s : KernelAlone) → s.unfit ≡ None →
-    s.place ≡ Inside hart ctx → AreWithin s.kernel.ram items →
+    s.stage ≡ Inside hart ctx → AreWithin s.kernel.ram items →
     kernel_taken schedule s items ≡ with_ram (with_items items (kernel_seen s.kernel)) s
 unfolding kernel_taken
-items_taken schedule hart ctx [] s none place all = refl
-items_taken schedule hart ctx (i ∷ items) s none place all =
+items_taken schedule hart ctx [] s none stage all = refl
+items_taken schedule hart ctx (i ∷ items) s none stage all =
     let s' = with_ram (with_item i (kernel_seen s.kernel)) s in
-    ap (λ t. kernel_taken schedule t items) (item_taken schedule hart ctx i s none place all.0)
-    ∙ items_taken schedule hart ctx items s' none place
+    ap (λ t. kernel_taken schedule t items) (item_taken schedule hart ctx i s none stage all.0)
+    ∙ items_taken schedule hart ctx items s' none stage
     (within_stays s.kernel.ram (with_item i (kernel_seen s.kernel)).ram items
     (length-with_item i (kernel_seen s.kernel)) all.1)

@@ -1,6 +1,6 @@
 -- An address of a program's store leads to one in RAM that is as far from a multiple of 4; and what a Put says is what
 -- is stored.
-use Rattle.std.proofs.Common.{◌≡◌, ◌∙◌, inl, inr, ℕ, ◌+◌, ◌*◌, ◌/◌, ◌%◌, ◌^◌, Bool, true, false, cond, not, List, [], ◌∷◌, ◌++◌, take, drop, Option, None, Some, Result, Ok, Err, refl, sym, ap, subst, arith, slice_set, slice_index_or}
+use Rattle.std.proofs.Common.{◌≡◌, ◌∙◌, inl, inr, ℕ, ◌+◌, ◌*◌, ◌/◌, ◌%◌, ◌^◌, Bool, true, false, cond, not, List, [], ◌∷◌, ◌++◌, take, drop, Option, None, Some, Ok, Err, refl, sym, ap, subst, arith, slice_set, slice_index_or}
 use Rattle.std.specs.Prelude.{◌==◌}
 use Rattle.std.specs.Int.{w32, to_le_bytes}
 use Rattle.std.proofs.lemmas.Bool.{eq-eqb}
@@ -11,7 +11,7 @@ use Rattle.cloak_model.specs.declared.access.Access.{Access}
 use Rattle.cloak_model.specs.declared.access.Walked.{Walked}
 use Rattle.cloak_model.specs.Ask.{ask_word, ask_walk, ask_in_ram, ask_translate, ask_led}
 use Rattle.cloak_model.proofs.WalkParts.{ask_after, ask_first}
-use Rattle.cloak_model.specs.AskPages.{ask_inside_address}
+use Rattle.cloak_model.specs.AskPages.{ask_led_inside}
 use Rattle.cloak_model.specs.Asking.{Told}
 use Rattle.cloak_model.specs.Effect.{IsWidth}
 use Rattle.cloak_base.specs.Constants.{frame_of, place_of}
@@ -88,22 +88,24 @@ keeps_walk satp a w =
 
 -- It is in RAM.
 
-pub record LeadsInside (va : ℕ) (told : Told (Result ℕ ℕ)) : Type 0 where
-  pub inside : (pa : ℕ) → told.answer ≡ Ok pa → (is_in_ram (ram_of told.world) pa ≡ true) × (pa % 4 ≡ va % 4)
+pub record LeadsInside (va : ℕ) (told : Told Walk) : Type 0 where
+  pub inside : (walked : Walked) → told.answer ≡ Ok walked →
+      (is_in_ram (ram_of told.world) walked.pa ≡ true) × (walked.pa % 4 ≡ va % 4)
 
-inside_if : (va at cause pa : ℕ) (ram : List (List ℕ)) (b : Bool) → is_in_ram ram at ≡ b → at % 4 ≡ va % 4 →
-    cond b (Ok at) (Err cause) ≡ Ok pa → (is_in_ram ram pa ≡ true) × (pa % 4 ≡ va % 4)
-inside_if va at cause pa ram true is keeps found =
-    let same : at ≡ pa =
-    cc in (subst (λ (x : ℕ). is_in_ram ram x ≡ true) same is, subst (λ (x : ℕ). x % 4 ≡ va % 4) same keeps)
-inside_if va at cause pa ram false is keeps found = absurd cc
+inside_if : (va cause : ℕ) (at walked : Walked) (ram : List (List ℕ)) (b : Bool) → is_in_ram ram at.pa ≡ b →
+    at.pa % 4 ≡ va % 4 → cond b (Ok at) (Err cause) ≡ Ok walked →
+    (is_in_ram ram walked.pa ≡ true) × (walked.pa % 4 ≡ va % 4)
+inside_if va cause at walked ram true is keeps found =
+    let same : at ≡ walked = cc in
+    (subst (λ (x : Walked). is_in_ram ram x.pa ≡ true) same is, subst (λ (x : Walked). x.pa % 4 ≡ va % 4) same keeps)
+inside_if va cause at walked ram false is keeps found = absurd cc
 
 leads_by : (a : Access) (walk : Walk) (w : World) → KeepsPlace a.va walk → LeadsInside a.va (ask_in_ram a walk w)
 unfolding ask_in_ram
-leads_by a (Err cause) w keeps = record { inside = λ pa found. absurd cc }
-leads_by a (Ok walked) w keeps = record {
-  inside = λ pa found. inside_if a.va walked.pa _ pa (ram_of w) (is_in_ram (ram_of w) walked.pa) refl
-      (keeps.kept walked refl) found;
+leads_by a (Err cause) w keeps = record { inside = λ walked found. absurd cc }
+leads_by a (Ok at) w keeps = record {
+  inside = λ walked found. inside_if a.va _ at walked (ram_of w) (is_in_ram (ram_of w) at.pa) refl
+      (keeps.kept at refl) found;
 }
 
 leads_translate : (satp : ℕ) (a : Access) (w : World) → LeadsInside a.va (ask_translate satp a w)
@@ -114,8 +116,8 @@ leads_led : (satp : ℕ) (a : Access) (w : World) → LeadsInside a.va (ask_led 
 unfolding ask_led
 leads_led satp a w = leads_translate satp a _
 
-pub leads_inside : (va : ℕ) (kind : Kind) (w : World) → LeadsInside va (ask_inside_address va kind w)
-unfolding ask_inside_address
+pub leads_inside : (va : ℕ) (kind : Kind) (w : World) → LeadsInside va (ask_led_inside va kind w)
+unfolding ask_led_inside
 leads_inside va kind w = leads_led _ _ w
 
 -- an address that keeps its place is as aligned

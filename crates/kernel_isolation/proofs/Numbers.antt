@@ -18,7 +18,7 @@ use Rattle.cloak_model.specs.Hypercalls.{Stepped, leaves, Hypercall, hypercall}
 use Rattle.cloak_model.specs.World.{World}
 use Rattle.hypercall_kinds.specs.Kinds.{CallKind, Calls, Ends, EndsSpace, after}
 use Rattle.hypercall_kinds.proofs.ByKinds.{by_kinds}
-use Rattle.cloak_model.specs.declared.context.WordPlace.{WordPlace}
+use Rattle.cloak_model.specs.declared.context.PageWord.{PageWord}
 use Rattle.cloak_model.specs.Script.{played}
 use Rattle.cloak_model.proofs.Playing.{by_plain, by_copy_in, by_copy_out, by_ecall}
 
@@ -89,7 +89,7 @@ numbers_copy slot d c (copied.Absent cause address) = record {
 numbers_copy slot d c _ = record { number = refl; shows = tt }
 
 -- a write leaves numbers
-numbers_write : (slot : ℕ) (d : Domain) (wrote : Option WordPlace) (s : DomainStepped) → StepNumbers slot d s →
+numbers_write : (slot : ℕ) (d : Domain) (wrote : Option PageWord) (s : DomainStepped) → StepNumbers slot d s →
     StepNumbers slot d (after_write wrote s)
 numbers_write slot d None s keeps = keeps
 numbers_write slot d (Some place) s keeps = record { number = keeps.number; shows = keeps.shows }

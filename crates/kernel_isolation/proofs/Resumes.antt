@@ -272,10 +272,10 @@ unfolding ask_led ask_translate
 led_reads satp a seen marks =
     then_reads (ask_walk satp a) (ask_in_ram a) (walk_reads satp a) (inside_reads a) seen marks
 
-loaded_reads : (satp : ℕ) (a : Access) (width : ℕ) (to : Result ℕ ℕ) → ReadsFrames (loaded_at satp a width to)
+loaded_reads : (satp : ℕ) (a : Access) (width : ℕ) (to : Walk) → ReadsFrames (loaded_at satp a width to)
 unfolding loaded_at ask_value
 loaded_reads satp a width (Err cause) seen marks = refl
-loaded_reads satp a width (Ok pa) seen marks = refl
+loaded_reads satp a width (Ok walked) seen marks = refl
 
 load_reads : (satp : ℕ) (a : Access) (width : ℕ) → ReadsFrames (ask_load satp a width)
 unfolding ask_load

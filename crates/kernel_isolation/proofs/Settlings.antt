@@ -9,10 +9,10 @@ use Rattle.cloak_base.specs.declared.names.PageId.{PageId}
 use Rattle.cloak_base.specs.Constants.{frame_of}
 use Rattle.cloak_base.specs.Random.{Random}
 use Rattle.cloak_model.specs.Ahead.{is_owed, settle_found, settle_while, settle_touched, with_shown}
-use Rattle.cloak_model.specs.Cloaking.{CloakedMemory, AfterSettling, AfterOffer, owed_in, settle_owed, settle_if, settle, settle_frame_if, owing_frame, owes, with_owed, with_comparison, taken, Ready, Mismatch, compared, unless_missed, offer, seen_in}
+use Rattle.cloak_model.specs.Cloaking.{CloakedMemory, AfterSettling, AfterOffer, owed_in, settle_owed, settle_if, settle, settle_frame_if, owing_frame, owes, with_owed, with_comparison, taken, compared, unless_missed, offer, seen_in}
 use Rattle.cloak_model.specs.Hart.{Hart}
 use Rattle.cloak_model.specs.Ledger.{vector_of}
-use Rattle.cloak_model.specs.Touched.{touched}
+use Rattle.cloak_model.specs.StepFrames.{step_frames}
 use Rattle.kernel_isolation.proofs.Shown.{AreFrames, either, frames_stay}
 use Rattle.cloak_model.specs.Memory.{Seen, filled, unless_written}
 use Rattle.settling_ahead.proofs.Planning.{unmarked}
@@ -128,7 +128,7 @@ while_shown frames (suc n) m places =
 pub touched_shown : (h : Hart) (disk : List ℕ) (m : CloakedMemory) → HasPlaces m →
     let s = settle_touched h disk m in ShownBy m s.ciphers s.memory
 unfolding settle_touched
-touched_shown h disk m places = while_shown (λ ram. touched h ram disk) (length m.ledger.owed) m places
+touched_shown h disk m places = while_shown (λ ram. step_frames h ram disk) (length m.ledger.owed) m places
 
 -- Offers.
 
@@ -167,8 +167,8 @@ compared_shown q g write None m places = owed_kept m (with_owed g (Some q) m) g 
 compared_shown q g write (Some c) m places =
     let there : List ℕ = slice_index_or m.ram g [] in
     let after : CloakedMemory = with_comparison there c m in
-    let same : AfterOffer = record { memory = taken q g write after; ciphers = []; answer = Ready } in
-    let other : AfterOffer = record { memory = after; ciphers = []; answer = Mismatch } in
+    let same : AfterOffer = record { memory = taken q g write after; ciphers = []; granted = true } in
+    let other : AfterOffer = record { memory = after; ciphers = []; granted = false } in
     either (OfferShown m) (bytes_eq there c) same other (taken_shown q g write m after places refl refl)
     (record { frames = tt; seen = refl; places = places })
 

@@ -35,7 +35,7 @@ use Rattle.cloak_model.specs.Ahead.{is_owed}
 use Rattle.cloak_model.specs.Ending.{ask_end, cloak_for, ended_domain}
 use Rattle.cloak_model.specs.HostCalls.{SteppedKernel}
 use Rattle.cloak_model.specs.Resuming.{violated}
-use Rattle.cloak_model.specs.Touched.{touched}
+use Rattle.cloak_model.specs.StepFrames.{step_frames}
 use Rattle.settling_ahead.proofs.Laws.{settles_all}
 use Rattle.settling_ahead.proofs.Touching.{reads_touched_alone, writes_touched_alone}
 use Rattle.settling_ahead.specs.Touching.{AgreesIn}
@@ -216,7 +216,7 @@ outside_for schedule n k ciphers others stops number same outside frames inward 
 -- frames, writes none, and ends only its hart's reservation.
 
 record IsRefused (j : Joint) (number : ℕ) (s : AfterSettling) (ctx reply : ℕ) : Type 0 where
-  pub paid : find (is_owed s.memory) (touched (hart_in j number) s.memory.ram j.disk) ≡ None
+  pub paid : find (is_owed s.memory) (step_frames (hart_in j number) s.memory.ram j.disk) ≡ None
   pub shown : ShownBy j.memory s.ciphers s.memory
   pub ends : (kernel_step (hart_in j number) j.disk (Flat (seen_in s.memory))).answer.ending ≡ Resume ctx reply
 
@@ -232,10 +232,10 @@ refused_later j number s ctx reply c r owed =
     let before : Seen = seen_in s.memory in
     let later : Seen = with_shown c before in
     let apart : Seen = marked before.marks later in
-    let agrees : AgreesIn (touched h before.ram j.disk) before apart = record {
+    let agrees : AgreesIn (step_frames h before.ram j.disk) before apart = record {
       count = length-with_shown c before;
       same = λ f there. with_shown-apart s.memory c before f
-          (find_none (is_owed s.memory) (touched h before.ram j.disk) f r.paid there) owed;
+          (find_none (is_owed s.memory) (step_frames h before.ram j.disk) f r.paid there) owed;
       marks = refl;
     } in
     let same : (kernel_step h j.disk (Flat apart)).answer ≡ (kernel_step h j.disk (Flat before)).answer =
@@ -329,7 +329,7 @@ refused_extends schedule n j number s ctx reply v same outside r c d stops frame
 
 ends_extends : (schedule : List ℕ) (n : ℕ) (j : Joint) (number : ℕ) (s : AfterSettling) (e : Kernel) →
     hart_behind schedule n ≡ number → (hart_in j number).inside ≡ None → ShownBy j.memory s.ciphers s.memory →
-    find (is_owed s.memory) (touched (hart_in j number) s.memory.ram j.disk) ≡ None →
+    find (is_owed s.memory) (step_frames (hart_in j number) s.memory.ram j.disk) ≡ None →
     let told = kernel_step (hart_in j number) j.disk (Flat (seen_in s.memory)) in
     told.answer.ending ≡ e →
     let after : Joint = record j {
@@ -362,7 +362,7 @@ ends_extends schedule n j number s _ same outside shown paid is steady v met = l
 outside_by : (schedule : List ℕ) (n : ℕ) (j : Joint) (number : ℕ) (s : AfterSettling) →
     hart_behind schedule n ≡ number →
     IsSteady j → (hart_in j number).inside ≡ None → ShownBy j.memory s.ciphers s.memory →
-    find (is_owed s.memory) (touched (hart_in j number) s.memory.ram j.disk) ≡ None →
+    find (is_owed s.memory) (step_frames (hart_in j number) s.memory.ram j.disk) ≡ None →
     TurnIsAlone schedule n j
     (after_outside j number (made_after (hart_in j number) j.disk (cloak_outside j.memory (hart_in j number)) s))
 unfolding after_outside made_after

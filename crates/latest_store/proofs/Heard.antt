@@ -4,7 +4,7 @@ use Rattle.std.specs.Prelude.{if◌then◌else◌}
 use Rattle.cloak_base.specs.declared.names.PageId.{PageId}
 use Rattle.cloak_model.specs.declared.answer.Answer.{Answer}
 use Rattle.cloak_model.specs.declared.answer.Answer.TheVariants as told
-use Rattle.cloak_model.specs.declared.context.WordPlace.{WordPlace}
+use Rattle.cloak_model.specs.declared.context.PageWord.{PageWord}
 use Rattle.cloak_model.specs.declared.item.Item.{Item}
 use Rattle.cloak_model.specs.declared.item.Item.TheVariants as item
 use Rattle.cloak_model.specs.Halves.{inward_half}
@@ -89,7 +89,7 @@ quiet plain was moves answers x w heard none same follows =
     (fits_none was.control.number was.control.resources (moves answers) x.domain.control.resources none follows)
 
 -- A word that was written in changes reservations alone.
-pub written_did : (plain : PageId → List ℕ) (was : Domain) (moves : List Item → List Move) (wrote : Option WordPlace)
+pub written_did : (plain : PageId → List ℕ) (was : Domain) (moves : List Item → List Move) (wrote : Option PageWord)
     (t : Told DomainStepped) → Did plain was moves t →
     Did plain was moves (record { answer = after_write wrote t.answer; world = t.world })
 written_did plain was moves None t did = record {

@@ -39,6 +39,7 @@ use Rattle.latest_store.proofs.Heard.{Heard, Did}
 use Rattle.latest_store.proofs.CopyDeeds.{step_did}
 use Rattle.latest_store.proofs.Sound.{context_sound}
 use Rattle.page_law.proofs.OwnPages.{memory_plain}
+use Rattle.domain_isolation.proofs.InsideSteps.{with_leave}
 
 -- Programs.
 
@@ -200,30 +201,25 @@ outside_keeps j number h =
 
 -- A hart inside.
 
--- what is shown of a context is told to no program
-leave_told : (e : ℕ) (items : List Item) (s : Shown) →
-    inward_half e (items ++ item.Leave s ∷ []) ≡ inward_half e items
-leave_told e items s = filter-append (is_inward e) items (item.Leave s ∷ []) ∙ append-nil (inward_half e items)
-
-record EndsSo (e : ℕ) (j : Joint) (items : List Item) (t : Turn) : Type 0 where
+pub record EndsSo (e : ℕ) (j : Joint) (items : List Item) (t : Turn) : Type 0 where
   pub told : inward_half e t.items ≡ inward_half e items
   pub pages : t.joint.memory.plain ≡ j.memory.plain
   pub domains : t.joint.domains ≡ j.domains
 
-domain_ended_so : (e : ℕ) (j : Joint) (number : ℕ) (h : Hart) (d : ℕ) (w : World) (how : Went) →
+pub domain_ended_so : (e : ℕ) (j : Joint) (number : ℕ) (h : Hart) (d : ℕ) (w : World) (how : Went) →
     EndsSo e j (items_of w) (domain_ended j number h d w how)
 unfolding domain_ended
 domain_ended_so e j number h d w (went.Leave s) =
-    record { told = leave_told e (items_of w) s; pages = refl; domains = refl }
+    record { told = with_leave e (items_of w) s; pages = refl; domains = refl }
 domain_ended_so e j number h d w (went.SpaceGone space s) =
-    record { told = leave_told e (items_of w) s; pages = refl; domains = refl }
+    record { told = with_leave e (items_of w) s; pages = refl; domains = refl }
 domain_ended_so e j number h d w _ = record { told = refl; pages = refl; domains = refl }
 
-interrupt_ended_so : (e : ℕ) (j : Joint) (number : ℕ) (h : Hart) (items : List Item) (how : Went) →
+pub interrupt_ended_so : (e : ℕ) (j : Joint) (number : ℕ) (h : Hart) (items : List Item) (how : Went) →
     EndsSo e j items (interrupt_ended j number h items how)
 unfolding interrupt_ended
 interrupt_ended_so e j number h items (went.Leave s) =
-    record { told = leave_told e items s; pages = refl; domains = refl }
+    record { told = with_leave e items s; pages = refl; domains = refl }
 interrupt_ended_so e j number h items _ = record { told = refl; pages = refl; domains = refl }
 
 -- the step of a program, by what it was told
@@ -257,7 +253,7 @@ unfolding phase_moves
 timer_phase Plain history d c e = refl
 timer_phase _ history d c e = refl
 
-timer_none : (o : Option Context) (history : List Move) (d : Control) (e : ℕ) →
+pub timer_none : (o : Option Context) (history : List Move) (d : Control) (e : ℕ) →
     context_moves o history d (item.Timer e ∷ []) ≡ []
 unfolding context_moves
 timer_none None history d e = refl
@@ -270,7 +266,7 @@ unfolding phase_moves
 silent_phase Plain history d c = refl
 silent_phase _ history d c = refl
 
-silent_none : (o : Option Context) (history : List Move) (d : Control) → context_moves o history d [] ≡ []
+pub silent_none : (o : Option Context) (history : List Move) (d : Control) → context_moves o history d [] ≡ []
 unfolding context_moves
 silent_none None history d = refl
 silent_none (Some c) history d = silent_phase c.phase history d c

@@ -15,7 +15,7 @@ use Rattle.rv_isa.specs.declared.instr.Instr.TheVariants as instr
 use Rattle.cloak_model.specs.declared.answer.Answer.{Answer}
 use Rattle.cloak_model.specs.declared.answer.Answer.TheVariants as told
 use Rattle.cloak_model.specs.declared.context.Phase.TheVariants.{Plain}
-use Rattle.cloak_model.specs.declared.context.WordPlace.{WordPlace}
+use Rattle.cloak_model.specs.declared.context.PageWord.{PageWord}
 use Rattle.cloak_model.specs.declared.inside.Ran.{Ran}
 use Rattle.cloak_model.specs.declared.inside.Ran.TheVariants as ran
 use Rattle.cloak_model.specs.declared.outcome.Effect.{Effect}
@@ -27,7 +27,7 @@ use Rattle.cloak_model.specs.Resources.{Resources, page_at}
 use Rattle.cloak_model.specs.World.{World}
 use Rattle.cloak_model.specs.Script.{Script, Gives, Asks, Reads, Changes, played}
 use Rattle.kernel_isolation.proofs.Shown.{either}
-use Rattle.frozen_state.specs.Limits.{IsWordPlace, IsPhase, IsSteady}
+use Rattle.frozen_state.specs.Limits.{IsPageWord, IsPhase, IsSteady}
 use Rattle.limit_law.proofs.Pages.{IsPage, AreInPages, place_there}
 
 -- A register is written.
@@ -82,8 +82,8 @@ pub next_word : (pc : ℕ) → pc % 4 ≡ 0 → ((pc + 4) % 2 ^ 32) % 4 ≡ 0
 next_word pc is = omega (arith, is)
 
 -- a plain context with other registers, another program counter and another reservation
-plain_steady : (c : Context) (regs : List ℕ) (pc : ℕ) (mark : Option WordPlace) → c.phase ≡ Plain → length regs ≡ 32 →
-    register regs 0 ≡ 0 → pc % 4 ≡ 0 → IfSome mark IsWordPlace →
+plain_steady : (c : Context) (regs : List ℕ) (pc : ℕ) (mark : Option PageWord) → c.phase ≡ Plain → length regs ≡ 32 →
+    register regs 0 ≡ 0 → pc % 4 ≡ 0 → IfSome mark IsPageWord →
     IsSteady (record c { regs = regs; pc = pc; mark = mark })
 plain_steady c regs pc mark plain long none aligned place = record {
   registers = long;
@@ -114,8 +114,8 @@ Targets (does.Go target) = target % 4 ≡ 0
 Targets _ = Unit {0}
 
 module _ (c : Context) (plain : c.phase ≡ Plain) (s : IsSteady c) where
-  after : (regs : List ℕ) (pc : ℕ) (mark : Option WordPlace) (e : Ran) (written : Option WordPlace) →
-      length regs ≡ 32 → register regs 0 ≡ 0 → pc % 4 ≡ 0 → IfSome mark IsWordPlace →
+  after : (regs : List ℕ) (pc : ℕ) (mark : Option PageWord) (e : Ran) (written : Option PageWord) →
+      length regs ≡ 32 → register regs 0 ≡ 0 → pc % 4 ≡ 0 → IfSome mark IsPageWord →
       (e ≡ ran.Ecall → record c { regs = regs; pc = pc; mark = mark } ≡ c) →
       AfterOne c (record { context = record c { regs = regs; pc = pc; mark = mark }; ending = e; wrote = written })
   after regs pc mark e written long none aligned place calls = record {
@@ -130,8 +130,8 @@ module _ (c : Context) (plain : c.phase ≡ Plain) (s : IsSteady c) where
   same e = record { steady = s; space = refl; phase = plain; on = refl; calls = λ is. refl }
 
   -- a word is written into a register, and it goes on, with another reservation
-  marked : (rd v : ℕ) (mark : Option WordPlace) (e : Ran) (written : Option WordPlace) → (e ≡ ran.Ecall → ⊥) →
-      IfSome mark IsWordPlace →
+  marked : (rd v : ℕ) (mark : Option PageWord) (e : Ran) (written : Option PageWord) → (e ≡ ran.Ecall → ⊥) →
+      IfSome mark IsPageWord →
       AfterOne c (record { context = moved_on (record (set_word c rd v) { mark = mark }); ending = e; wrote = written })
   marked rd v mark e written other place =
       after (with_register c.regs rd v) ((c.pc + 4) % 2 ^ 32) mark e written
@@ -141,7 +141,7 @@ module _ (c : Context) (plain : c.phase ≡ Plain) (s : IsSteady c) where
   wrote : (rd v : ℕ) (e : Ran) → (e ≡ ran.Ecall → ⊥) → AfterOne c (made (moved_on (set_word c rd v)) e)
   wrote rd v e other = marked rd v c.mark e None other s.mark
 
-  on_stay : (written : Option WordPlace) →
+  on_stay : (written : Option PageWord) →
       AfterOne c (record { context = moved_on c; ending = ran.Stay; wrote = written })
   on_stay written =
       after c.regs ((c.pc + 4) % 2 ^ 32) c.mark ran.Stay written s.registers s.zero_register (next_word c.pc s.aligned)

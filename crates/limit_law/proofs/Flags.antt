@@ -3,7 +3,7 @@ use Rattle.std.proofs.Common.{◌≡◌, ℕ, Option, Some, None, Result, Ok, Er
 use Rattle.cloak_model.specs.declared.context.Phase.{Phase}
 use Rattle.cloak_model.specs.declared.context.Phase.TheVariants.{Plain, CopyIn, Waiting, CopyOut}
 use Rattle.cloak_model.specs.declared.context.ResumeFault.{ResumeFault}
-use Rattle.cloak_model.specs.declared.context.WordPlace.{WordPlace}
+use Rattle.cloak_model.specs.declared.context.PageWord.{PageWord}
 use Rattle.cloak_model.specs.declared.inside.Copied.{Copied}
 use Rattle.cloak_model.specs.declared.inside.Copied.TheVariants as copied
 use Rattle.cloak_model.specs.declared.inside.Ran.{Ran}
@@ -35,7 +35,7 @@ unfolding copy_ended
 copy_flag slot d c copied.Going = record { ended = refl }
 copy_flag slot d c _ = record { ended = refl }
 
-written_flag : (d : Control) (wrote : Option WordPlace) (s : DomainStepped) → SameFlag d s.domain.control →
+written_flag : (d : Control) (wrote : Option PageWord) (s : DomainStepped) → SameFlag d s.domain.control →
     SameFlag d (after_write wrote s).domain.control
 written_flag d None s same = same
 written_flag d (Some place) s same = record { ended = same.ended }

@@ -8,7 +8,7 @@ use Rattle.cloak_model.specs.Resources.{Resources, resource_at, regions_in, regi
 use Rattle.resource_map.specs.Kept.{IsMapped, IsSound}
 use Rattle.resource_map.proofs.Lists.{All-find}
 use Rattle.resource_map.proofs.Mapped.{HasPages-from_mapped}
-use Rattle.frozen_state.specs.Limits.{IsWordPlace}
+use Rattle.frozen_state.specs.Limits.{IsPageWord}
 
 -- a page of one of 16 resources, which have 1024 pages at most
 pub record IsPage (q : PageId) : Type 0 where
@@ -26,7 +26,7 @@ whole_word : (va : ℕ) → (va % 4096 / 4 * 4) % 4 ≡ 0
 whole_word va = omega arith
 
 -- a word of it
-pub place_there : (q : PageId) (va : ℕ) → IsPage q → IsWordPlace (word_of_page q va)
+pub place_there : (q : PageId) (va : ℕ) → IsPage q → IsPageWord (word_of_page q va)
 place_there q va is =
     record { resource = is.resource; page = is.page; inside = inside_page va; aligned = whole_word va }
 

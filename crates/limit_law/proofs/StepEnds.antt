@@ -2,7 +2,7 @@
 use Rattle.std.proofs.Common.{◌≡◌, ℕ, Option, Some, None, IfSome, refl, subst}
 use Rattle.cloak_model.specs.declared.context.Phase.{Phase}
 use Rattle.cloak_model.specs.declared.context.Phase.TheVariants.{Plain, CopyIn, Waiting, CopyOut}
-use Rattle.cloak_model.specs.declared.context.WordPlace.{WordPlace}
+use Rattle.cloak_model.specs.declared.context.PageWord.{PageWord}
 use Rattle.cloak_model.specs.declared.inside.Went.TheVariants.{Stay}
 use Rattle.cloak_model.specs.Calls.{Copy, copy_in_step, copy_out_step}
 use Rattle.cloak_model.specs.Contexts.{Context, context_at}
@@ -23,7 +23,7 @@ pub record HoldsAtEnds (P : DomainStepped → Type 0) (slot : ℕ) (c : Context)
       P (played (instruction_ended slot d a.context a.ending) w).answer
   pub copied : (k : Copy) → AfterCopy c k → P (copy_ended slot d k.context k.ending)
   pub waits : P (within d (stays_inside slot c d.control))
-  pub written : (wrote : Option WordPlace) (s : DomainStepped) → P s → P (after_write wrote s)
+  pub written : (wrote : Option PageWord) (s : DomainStepped) → P s → P (after_write wrote s)
 
 at_phase : (c : Context) (phase : Phase) → c.phase ≡ phase → IsSteady c → IsPhase c.regs phase
 at_phase c phase is s = subst (IsPhase c.regs) is s.phase

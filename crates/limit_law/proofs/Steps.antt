@@ -8,7 +8,7 @@ use Rattle.cloak_model.specs.declared.context.Phase.{Phase}
 use Rattle.cloak_model.specs.declared.context.Phase.TheVariants.{Waiting}
 use Rattle.cloak_model.specs.declared.context.ResumeFault.{ResumeFault}
 use Rattle.cloak_model.specs.declared.context.ResumeFault.TheVariants as fault
-use Rattle.cloak_model.specs.declared.context.WordPlace.{WordPlace}
+use Rattle.cloak_model.specs.declared.context.PageWord.{PageWord}
 use Rattle.cloak_model.specs.declared.inside.Copied.{Copied}
 use Rattle.cloak_model.specs.declared.inside.Copied.TheVariants as copied
 use Rattle.cloak_model.specs.declared.inside.Ran.{Ran}
@@ -87,19 +87,19 @@ unreserved r true c here = record {
 }
 unreserved r false c here = here
 
-slot_written : (r : Resources) (place : WordPlace) (o : Option Context) → IfSome o (IsContext r) →
+slot_written : (r : Resources) (place : PageWord) (o : Option Context) → IfSome o (IsContext r) →
     IfSome (unless_reserved place o) (IsContext r)
 slot_written r place None here = tt
 slot_written r place (Some c) here = unreserved r (is_reserved place c.mark) c here
 
-slots_written : (r : Resources) (place : WordPlace) (contexts : List (Option Context)) →
+slots_written : (r : Resources) (place : PageWord) (contexts : List (Option Context)) →
     ((slot : ℕ) → IfSome (context_at contexts slot) (IsContext r)) → (slot : ℕ) →
     IfSome (context_at (map (unless_reserved place) contexts) slot) (IsContext r)
 slots_written r place [] each slot = tt
 slots_written r place (c ∷ contexts) each zero = slot_written r place c (each zero)
 slots_written r place (c ∷ contexts) each (suc slot) = slots_written r place contexts (λ k. each (suc k)) slot
 
-written_kept : (wrote : Option WordPlace) (s : DomainStepped) → KeepsLimits s.domain.control →
+written_kept : (wrote : Option PageWord) (s : DomainStepped) → KeepsLimits s.domain.control →
     KeepsLimits (after_write wrote s).domain.control
 written_kept None s keeps = keeps
 written_kept (Some place) s keeps = record {

@@ -1,12 +1,10 @@
 -- What a question of a load leaves. Before it no context had left, no violation was met and no draw was missing. This
 -- holds afterwards if it is granted, and if it is answered with a fault, which is one of its access. Otherwise it is
 -- stopped.
-use Rattle.std.proofs.Common.{◌≡◌, ◌∙◌, ◌⊎◌, ℕ, ◌+◌, ◌*◌, ◌%◌, ◌^◌, Bool, true, false, cond, List, [], ◌∷◌, ◌++◌, Option, Some, None, Result, Ok, Err, refl, ap, inl, inr}
-use Rattle.std.specs.Prelude.{◌&&◌, ◌==◌, not, slice_index_or}
-use Rattle.std.specs.Str.{bytes_eq}
+use Rattle.std.proofs.Common.{◌≡◌, ◌∙◌, ◌⊎◌, ℕ, ◌+◌, ◌*◌, ◌%◌, ◌^◌, Bool, true, false, cond, List, [], ◌∷◌, ◌++◌, Option, Some, None, Ok, Err, refl, ap, inl, inr}
+use Rattle.std.specs.Prelude.{◌&&◌, ◌==◌, not}
 use Rattle.std.proofs.lemmas.Bool.{false≢true}
 use Rattle.cloak_base.specs.Constants.{frame_of}
-use Rattle.cloak_base.specs.Random.{Random}
 use Rattle.cloak_base.specs.declared.causes.Shown.{Shown}
 use Rattle.cloak_base.specs.declared.causes.Violation.TheVariants as violation
 use Rattle.cloak_base.specs.declared.names.Frame.{Frame}
@@ -15,17 +13,17 @@ use Rattle.cloak_base.specs.declared.names.Kind.TheVariants.{Store}
 use Rattle.cloak_base.specs.declared.names.PageId.{PageId}
 use Rattle.rv_isa.specs.Fields.{bits}
 use Rattle.cloak_model.specs.declared.access.Access.{Access}
+use Rattle.cloak_model.specs.declared.access.Walked.{Walked}
 use Rattle.cloak_model.specs.declared.answer.Answer.{Answer}
 use Rattle.cloak_model.specs.declared.answer.Answer.TheVariants as told
 use Rattle.cloak_model.specs.declared.item.Item.{Item}
 use Rattle.cloak_model.specs.declared.item.Item.TheVariants as item
 use Rattle.cloak_model.specs.Ask.{ask_word, ask_walk, ask_in_ram, ask_translate, ask_led, opened}
 use Rattle.cloak_model.proofs.WalkParts.{ask_second, ask_after, ask_first}
-use Rattle.cloak_model.specs.AskPages.{answer_item, inside_access, is_store, offer_events, replies, if_drawn, ask_inside_address, offered_by, ask_offer, reached, reach_by_table, put_at, stored_inside, put_by_table, ask_reach, ask_put}
+use Rattle.cloak_model.specs.AskPages.{answer_item, inside_access, is_store, offer_events, replies, if_drawn, ask_led_inside, offered_by, ask_offer, reached, reach_by_table, put_at, stored_inside, put_by_table, ask_reach, ask_put}
 use Rattle.cloak_model.specs.Asking.{Told, Asking}
-use Rattle.cloak_model.specs.Cloaking.{CloakedMemory, AfterSettling, AfterOffer, OfferEnd, Ready, Mismatch, Missed, settle, settle_if, settle_owed, settle_frame_if, owing_frame, owes, owed_in, with_comparison, taken, compared, unless_missed, offer}
+use Rattle.cloak_model.specs.Cloaking.{settle, offer}
 use Rattle.cloak_model.specs.Events.{Event}
-use Rattle.cloak_model.specs.Ledger.{vector_of}
 use Rattle.cloak_model.specs.Memory.{is_in_ram}
 use Rattle.cloak_model.specs.Walk.{Walk, FirstWord, Ends, GoesOn, access_fault, page_fault, first_entry, has_paging, is_valid, is_pointer, is_plain_pointer, allows, frame_at, first_leaf, second_leaf, first_word, second_word}
 use Rattle.cloak_model.specs.World.{World, MidStep, Flat, Cloaked, Alone, noted, stored_at, settled, written, cipher_items, is_missed, items_of, violation_of, regime_of, ram_of}
@@ -78,8 +76,8 @@ quiet_written i (Cloaked c) none q = record {
 }
 quiet_written i _ none q = q
 
-quiet_opened : (satp : ℕ) (a : Access) (pa : ℕ) (w : World) → IsQuiet w → IsQuiet (opened satp a pa w)
-quiet_opened satp a pa w q = quiet_noted _ _ (quiet_settled (frame_of pa) w q)
+quiet_opened : (satp : ℕ) (a : Access) (walked : Walked) (w : World) → IsQuiet w → IsQuiet (opened satp a walked w)
+quiet_opened satp a walked w q = quiet_noted _ _ (quiet_settled (frame_of walked.pa) w q)
 
 -- Walks: each fault is one of the access.
 
@@ -154,108 +152,25 @@ quiet_walk satp a w q =
     either_told (WalkFits a.kind) (has_paging satp) _ _ (quiet_first a (first_entry satp a.va) w q)
     (record { answer = tt; world = q })
 
-abbrev LeadFits : Kind → Result ℕ ℕ → Type 0
-LeadFits kind (Ok pa) = Unit {0}
-LeadFits kind (Err cause) = IsFaultOf kind cause
-
 quiet_inside : (a : Access) (walk : Walk) (w : World) → WalkFits a.kind walk → IsQuiet w →
-    QuietTold (LeadFits a.kind) (ask_in_ram a walk w)
+    QuietTold (WalkFits a.kind) (ask_in_ram a walk w)
 unfolding ask_in_ram
 quiet_inside a (Err cause) w fits q = record { answer = fits; world = q }
 quiet_inside a (Ok walked) w fits q = record {
-  answer = either (LeadFits a.kind) (is_in_ram (ram_of w) walked.pa) (Ok walked.pa) (Err (access_fault a.kind)) tt
+  answer = either (WalkFits a.kind) (is_in_ram (ram_of w) walked.pa) (Ok walked) (Err (access_fault a.kind)) tt
       (inr refl);
   world = q;
 }
 
-quiet_led : (satp : ℕ) (a : Access) (w : World) → IsQuiet w → QuietTold (LeadFits a.kind) (ask_led satp a w)
+quiet_led : (satp : ℕ) (a : Access) (w : World) → IsQuiet w → QuietTold (WalkFits a.kind) (ask_led satp a w)
 unfolding ask_led ask_translate
 quiet_led satp a w q =
     let walked = quiet_walk satp a _ (quiet_noted _ w q) in quiet_inside a _ _ walked.answer walked.world
 
 quiet_address : (va : ℕ) (kind : Kind) (w : World) → IsQuiet w →
-    QuietTold (LeadFits kind) (ask_inside_address va kind w)
-unfolding ask_inside_address
+    QuietTold (WalkFits kind) (ask_led_inside va kind w)
+unfolding ask_led_inside
 quiet_address va kind w q = quiet_led (regime_of w).satp (inside_access w va kind) w q
-
--- Draws: whether one is missing is what the settling and the offer say.
-
-settled_owed_missed : (f : ℕ) (q : PageId) (draw : Option (List ℕ × Random)) (m : CloakedMemory) →
-    m.ledger.missed ≡ false →
-    let s = settle_owed f q draw m in
-    s.memory.ledger.missed ≡ s.missed
-unfolding settle_owed
-settled_owed_missed f q None m drawn = refl
-settled_owed_missed f q (Some draw) m drawn = drawn
-
-settled_if_missed : (f : ℕ) (owed : Option PageId) (m : CloakedMemory) → m.ledger.missed ≡ false →
-    let s = settle_if f owed m in
-    s.memory.ledger.missed ≡ s.missed
-unfolding settle_if
-settled_if_missed f None m drawn = drawn
-settled_if_missed f (Some q) m drawn = settled_owed_missed f q (vector_of m.ledger q) m drawn
-
-settled_missed : (f : ℕ) (m : CloakedMemory) → m.ledger.missed ≡ false →
-    let s = settle f m in
-    s.memory.ledger.missed ≡ s.missed
-unfolding settle
-settled_missed f m drawn = settled_if_missed f (owed_in m f) m drawn
-
-frame_missed : (f : Option ℕ) (m : CloakedMemory) → m.ledger.missed ≡ false →
-    let s = settle_frame_if f m in
-    s.memory.ledger.missed ≡ s.missed
-frame_missed None m drawn = drawn
-frame_missed (Some f) m drawn = settled_missed f m drawn
-
--- an offer says that a draw was missing, or none was
-abbrev OfferSays : OfferEnd → Bool → Type 0
-OfferSays Ready missed = missed ≡ false
-OfferSays Mismatch missed = Unit {0}
-OfferSays Missed missed = missed ≡ true
-
-record OfferSo (o : AfterOffer) : Type 0 where
-  pub says : OfferSays o.answer o.memory.ledger.missed
-
-taken_missed : (q : PageId) (g : ℕ) (write : Bool) (m : CloakedMemory) →
-    (taken q g write m).ledger.missed ≡ m.ledger.missed
-taken_missed q g true m = refl
-taken_missed q g false m = refl
-
-compared_so : (q : PageId) (g : ℕ) (write : Bool) (recorded : Option (List ℕ)) (m : CloakedMemory) →
-    m.ledger.missed ≡ false → OfferSo (compared q g write recorded m)
-unfolding compared
-compared_so q g write None m drawn = record { says = drawn }
-compared_so q g write (Some c) m drawn =
-    let there : List ℕ = slice_index_or m.ram g [] in
-    let m' : CloakedMemory = with_comparison there c m in
-    either OfferSo (bytes_eq there c) (record { memory = taken q g write m'; ciphers = []; answer = Ready })
-    (record { memory = m'; ciphers = []; answer = Mismatch }) (record { says = taken_missed q g write m' ∙ drawn })
-    (record { says = tt })
-
-unless_so : (s : AfterSettling) (next : CloakedMemory → AfterOffer) (missed : Bool) → s.missed ≡ missed →
-    s.memory.ledger.missed ≡ s.missed →
-    (s.memory.ledger.missed ≡ false → OfferSo (next s.memory)) →
-    OfferSo (cond missed (record { memory = s.memory; ciphers = s.ciphers; answer = Missed })
-    (record {
-      memory = (next s.memory).memory;
-      ciphers = s.ciphers ++ (next s.memory).ciphers;
-      answer = (next s.memory).answer;
-    }))
-unless_so s next true is flag more = record { says = flag ∙ is }
-unless_so s next false is flag more = record { says = (more (flag ∙ is)).says }
-
-offer_so : (q : PageId) (g : ℕ) (write : Bool) (m : CloakedMemory) → m.ledger.missed ≡ false →
-    OfferSo (offer q g write m)
-unfolding offer unless_missed
-offer_so q g write m drawn =
-    let second : CloakedMemory → AfterOffer = λ n. compared q g write (n.ledger.recorded q) n in
-    let first : CloakedMemory → AfterOffer = λ n. unless_missed (settle_frame_if (owing_frame n q) n) second in
-    either OfferSo (owes q (owed_in m g)) (record { memory = m; ciphers = []; answer = Ready })
-    (unless_missed (settle g m) first) (record { says = drawn })
-    (unless_so (settle g m) first _ refl (settled_missed g m drawn) (λ drawn'.
-    unless_so (settle_frame_if (owing_frame (settle g m).memory q) (settle g m).memory) second _ refl
-    (frame_missed (owing_frame (settle g m).memory q) (settle g m).memory drawn') (λ drawn''.
-    compared_so q g write _ _ drawn'')))
 
 -- What a question leaves, by its answer.
 
@@ -311,56 +226,48 @@ says_drawn page kind ask w false is q more = more is
 
 -- A page is reached.
 
-offered_says : (q : PageId) (va : ℕ) (kind : Kind) (g : ℕ) (c : MidStep) (m : CloakedMemory)
-    (ciphers : List (ℕ × List ℕ)) (events : List Event) (a : OfferEnd) → IsQuiet (Cloaked c) →
-    OfferSays a m.ledger.missed →
-    SaysTold (Some q) kind (offered_by q va kind g a
-    (Cloaked (record c { memory = m; items = c.items ++ cipher_items ciphers; events = events })))
+offered_says : (q : PageId) (va : ℕ) (kind : Kind) (walked : Walked) (granted : Bool) (c : MidStep) →
+    IsQuiet (Cloaked c) → c.memory.ledger.missed ≡ false →
+    SaysTold (Some q) kind (offered_by q va kind walked granted (Cloaked c))
 unfolding offered_by replies
-offered_says q va kind g c m ciphers events Ready quiet says =
-    let w : World = Cloaked (record c { memory = m; items = c.items ++ cipher_items ciphers; events = events }) in
-    let there : IsQuiet w = record {
-      form = refl;
-      left = left_append c.items (cipher_items ciphers) (none_left ciphers) ∙ quiet.left;
-      met = quiet.met;
-    } in
-    record { quiet = quiet_written _ _ refl (quiet_noted _ w there); drawn = says }
-offered_says q va kind g c m ciphers events Missed quiet says =
-    let w : World = Cloaked (record c { memory = m; items = c.items ++ cipher_items ciphers; events = events }) in
-    let there : IsQuiet w = record {
-      form = refl;
-      left = left_append c.items (cipher_items ciphers) (none_left ciphers) ∙ quiet.left;
-      met = quiet.met;
-    } in
-    inr (record { quiet = quiet_written _ w refl there; missed = says })
-offered_says q va kind g c m ciphers events Mismatch quiet says =
-    let left : left_in (c.items ++ cipher_items ciphers) ≡ [] =
-    left_append c.items (cipher_items ciphers) (none_left ciphers) ∙ quiet.left in
+offered_says q va kind walked true c quiet drawn =
+    record { quiet = quiet_written _ _ refl (quiet_noted _ (Cloaked c) quiet); drawn = drawn }
+offered_says q va kind walked false c quiet drawn =
     inl (record {
       found = q;
-      frame = record { 0 = g };
+      frame = frame_at walked.pa;
       is = refl;
-      left = left_append (c.items ++ cipher_items ciphers) (item.Stopped c.regime.domain ∷ []) refl ∙ left;
+      left = left_append c.items (item.Stopped c.regime.domain ∷ []) refl ∙ quiet.left;
       met = refl;
     })
 
-reached_says : (q : PageId) (va : ℕ) (kind : Kind) (to : Result ℕ ℕ) (w : World) → LeadFits kind to → IsQuiet w →
+reached_says : (q : PageId) (va : ℕ) (kind : Kind) (to : Walk) (w : World) → WalkFits kind to → IsQuiet w →
     is_missed w ≡ false → SaysTold (Some q) kind (reached q va kind to w)
-unfolding reached ask_offer
+unfolding reached ask_offer if_drawn
 reached_says q va kind (Err cause) w fits quiet drawn = says_fault (Some q) kind cause w fits quiet drawn
-reached_says q va kind (Ok pa) (Flat seen) fits quiet drawn = absurd (false≢true quiet.form)
-reached_says q va kind (Ok pa) (Cloaked c) fits quiet drawn =
-    let o = offer q (frame_of pa) (is_store kind) c.memory in
-    offered_says q va kind (frame_of pa) c o.memory o.ciphers
-    (c.events ++ offer_events q (frame_of pa) c.memory o.answer) o.answer quiet
-    (offer_so q (frame_of pa) (is_store kind) c.memory drawn).says
-reached_says q va kind (Ok pa) (Alone h) fits quiet drawn = absurd (false≢true quiet.form)
+reached_says q va kind (Ok walked) (Flat seen) fits quiet drawn = absurd (false≢true quiet.form)
+reached_says q va kind (Ok walked) (Cloaked c) fits quiet drawn =
+    let g = frame_of walked.pa in
+    let o = offer q g (is_store kind) c.memory in
+    let c' : MidStep = record c {
+      memory = o.memory;
+      items = c.items ++ cipher_items o.ciphers;
+      events = c.events ++ offer_events q g c.memory o.granted;
+    } in
+    let there : IsQuiet (Cloaked c') = record {
+      form = refl;
+      left = left_append c.items (cipher_items o.ciphers) (none_left o.ciphers) ∙ quiet.left;
+      met = quiet.met;
+    } in
+    says_drawn (Some q) kind (offered_by q va kind walked o.granted) (Cloaked c') _ refl there
+    (λ drawn'. offered_says q va kind walked o.granted c' there drawn')
+reached_says q va kind (Ok walked) (Alone h) fits quiet drawn = absurd (false≢true quiet.form)
 
 table_says : (q : PageId) (va : ℕ) (kind : Kind) (w : World) → IsQuiet w →
     SaysTold (Some q) kind (reach_by_table q va kind w)
 unfolding reach_by_table if_drawn
 table_says q va kind w quiet =
-    let to = ask_inside_address va kind w in
+    let to = ask_led_inside va kind w in
     let led = quiet_address va kind w quiet in
     says_drawn (Some q) kind (reached q va kind to.answer) to.world _ refl led.world
     (λ drawn. reached_says q va kind to.answer to.world led.answer led.world drawn)
@@ -389,19 +296,20 @@ put_at_says pa width value w quiet drawn =
           ∙ (missed_written put (stored_at pa width value w) ∙ (missed_stored pa width value w ∙ drawn));
     }
 
-stored_says : (va width value : ℕ) (to : Result ℕ ℕ) (w : World) → LeadFits Store to → IsQuiet w →
+stored_says : (va width value : ℕ) (to : Walk) (w : World) → WalkFits Store to → IsQuiet w →
     is_missed w ≡ false → SaysTold None Store (stored_inside va width value to w)
 unfolding stored_inside if_drawn
 stored_says va width value (Err cause) w fits quiet drawn = says_fault None Store cause w fits quiet drawn
-stored_says va width value (Ok pa) w fits quiet drawn =
-    let there = quiet_opened (regime_of w).satp (inside_access w va Store) pa w quiet in
-    says_drawn None Store (put_at pa width value) (opened (regime_of w).satp (inside_access w va Store) pa w) _ refl
-    there (λ drawn'. put_at_says pa width value _ there drawn')
+stored_says va width value (Ok walked) w fits quiet drawn =
+    let there = quiet_opened (regime_of w).satp (inside_access w va Store) walked w quiet in
+    says_drawn None Store (put_at walked.pa width value)
+    (opened (regime_of w).satp (inside_access w va Store) walked w) _ refl
+    there (λ drawn'. put_at_says walked.pa width value _ there drawn')
 
 put_table_says : (va width value : ℕ) (w : World) → IsQuiet w → SaysTold None Store (put_by_table va width value w)
 unfolding put_by_table if_drawn
 put_table_says va width value w quiet =
-    let to = ask_inside_address va Store w in
+    let to = ask_led_inside va Store w in
     let led = quiet_address va Store w quiet in
     says_drawn None Store (stored_inside va width value to.answer) to.world _ refl led.world
     (λ drawn. stored_says va width value to.answer to.world led.answer led.world drawn)

@@ -1,25 +1,26 @@
 -- How often questions ask where an access leads: once, or not at all.
-use Rattle.std.proofs.Common.{◌≡◌, ◌≤◌, ℕ, zero, suc, ◌+◌, Bool, true, false, cond, List, [], ◌∷◌, ◌++◌, length, Option, Some, None, Result, Ok, Err, arith}
+use Rattle.std.proofs.Common.{◌≡◌, ◌≤◌, ℕ, zero, suc, ◌+◌, Bool, true, false, cond, List, [], ◌∷◌, ◌++◌, length, Option, Some, None, Ok, Err, arith}
 use Rattle.std.proofs.lemmas.List.Sums.{sum_by-append}
 use Rattle.cloak_base.specs.Constants.{frame_of}
 use Rattle.cloak_base.specs.declared.names.Kind.{Kind}
 use Rattle.cloak_base.specs.declared.names.Kind.TheVariants.{Load, Store}
 use Rattle.cloak_base.specs.declared.names.PageId.{PageId}
 use Rattle.cloak_model.specs.declared.access.Access.{Access}
+use Rattle.cloak_model.specs.declared.access.Walked.{Walked}
 use Rattle.cloak_model.specs.declared.answer.Answer.{Answer}
 use Rattle.cloak_model.specs.declared.answer.Answer.TheVariants as told
 use Rattle.cloak_model.specs.declared.item.Item.{Item}
 use Rattle.rv_atomic.specs.declared.atomic.AtomicOp.{AtomicOp}
 use Rattle.cloak_model.specs.Ask.{ask_word, ask_walk, ask_in_ram, ask_translate, ask_led, opened, ask_value, ask_store, loaded_at, ask_load, stored_to, ask_store_at, ask_frame, ask_fill, ask_mark, ask_unmark, ask_marked, stored_if, reserved_at, ask_reserve, conditional_at, ask_store_conditional, combined_at, ask_combine}
 use Rattle.cloak_model.proofs.WalkParts.{ask_second, ask_after, ask_first}
-use Rattle.cloak_model.specs.AskPages.{answer_item, replies, if_drawn, is_store, offer_events, inside_access, ask_inside_address, offered_by, ask_offer, reached, reach_by_table, get_at, got, get_by_table, put_at, stored_inside, put_by_table, settled_if_marked, clear_from, next_answer, ask_reach, ask_write, ask_get, ask_put, ask_clear, ask_copy, ask_forget}
+use Rattle.cloak_model.specs.AskPages.{answer_item, replies, if_drawn, is_store, offer_events, inside_access, ask_led_inside, offered_by, ask_offer, reached, reach_by_table, get_at, got, get_by_table, put_at, stored_inside, put_by_table, settled_if_marked, clear_from, next_answer, ask_reach, ask_write, ask_get, ask_put, ask_clear, ask_copy, ask_forget}
 use Rattle.cloak_model.specs.Asking.{Told, Asking}
-use Rattle.cloak_model.specs.Cloaking.{CloakedMemory, OfferEnd, Ready, Mismatch, Missed, settle, offer}
-use Rattle.cloak_model.specs.Events.{Event, Look, Touch, Read, Write, Drop, births_by}
+use Rattle.cloak_model.specs.Cloaking.{CloakedMemory, settle, offer}
+use Rattle.cloak_model.specs.Events.{Event, Look, Touch, Born, Read, Write, Drop}
 use Rattle.cloak_model.specs.Events.{Offer as offers}
 use Rattle.cloak_model.specs.Fork.{copy_each, forget_each}
-use Rattle.cloak_model.specs.Walk.{Walk, FirstWord, Ends, GoesOn, first_entry, walk}
-use Rattle.cloak_model.specs.World.{World, Handed, Flat, Cloaked, Alone, ram_of, regime_of, events_of, noted, settled, stored_at, filled_frame, written, with_plain, with_marks, cipher_items}
+use Rattle.cloak_model.specs.Walk.{Walk, FirstWord, Ends, GoesOn, first_entry}
+use Rattle.cloak_model.specs.World.{World, Handed, Flat, Cloaked, Alone, regime_of, events_of, noted, settled, stored_at, filled_frame, written, with_plain, with_marks, cipher_items}
 use Rattle.cloak_model.specs.Script.{played}
 use Rattle.script_fold.proofs.Endings.{keeps_forgets}
 use Rattle.shadow_fold.specs.Reads.{is_look, looks_in}
@@ -90,17 +91,9 @@ pub still_marks : (marks : List (Option ℕ)) (w : World) → Looks 0 w (with_ma
 still_marks marks (Flat seen) = record { few = omega arith }
 still_marks marks _ = record { few = omega arith }
 
--- a birth is no look
-pub births_quiet : (satp : ℕ) (a : Access) (cloaked : Option PageId) (walk : Walk) →
-    looks_in (births_by satp a cloaked walk) ≤ 0
-births_quiet satp a cloaked (Err cause) = omega arith
-births_quiet satp a cloaked (Ok walked) = omega arith
-
-pub still_opened : (satp : ℕ) (a : Access) (pa : ℕ) (w : World) → Looks 0 w (opened satp a pa w)
-still_opened satp a pa w =
-    let v = settled (frame_of pa) w in
-    still_then w v (opened satp a pa w) (still_settled (frame_of pa) w)
-    (events_noted 0 _ v (births_quiet satp a None (walk (ram_of v) satp a)))
+pub still_opened : (satp : ℕ) (a : Access) (walked : Walked) (w : World) → Looks 0 w (opened satp a walked w)
+still_opened satp a walked w =
+    still_then w _ _ (still_settled (frame_of walked.pa) w) (events_noted 0 (Born satp a walked None ∷ []) _ (omega arith))
 
 -- The walk.
 
@@ -133,8 +126,8 @@ one_led satp a w =
     then_still _ _ _ (events_noted 1 (Look satp a ∷ []) w (omega arith))
     (still_then _ _ _ (still_walk satp a _) (still_inside a _ _))
 
-pub one_address : (va : ℕ) (kind : Kind) (w : World) → Looks 1 w (ask_inside_address va kind w).world
-unfolding ask_inside_address
+pub one_address : (va : ℕ) (kind : Kind) (w : World) → Looks 1 w (ask_led_inside va kind w).world
+unfolding ask_led_inside
 one_address va kind w = one_led (regime_of w).satp (inside_access w va kind) w
 
 -- Answers.
@@ -152,12 +145,12 @@ unfolding get_at
 still_get_at pa width w =
     still_then _ _ _ (events_noted 0 (Read (frame_of pa) ∷ []) w (omega arith)) (still_replies _ _)
 
-pub still_got : (va width : ℕ) (to : Result ℕ ℕ) (w : World) → Looks 0 w (got va width to w).world
+pub still_got : (va width : ℕ) (to : Walk) (w : World) → Looks 0 w (got va width to w).world
 unfolding got
 still_got va width (Err cause) w = still_replies _ w
-still_got va width (Ok pa) w =
-    still_then _ _ _ (still_opened (regime_of w).satp (inside_access w va Load) pa w)
-    (still_drawn (get_at pa width) _ (still_get_at pa width _))
+still_got va width (Ok walked) w =
+    still_then _ _ _ (still_opened (regime_of w).satp (inside_access w va Load) walked w)
+    (still_drawn (get_at walked.pa width) _ (still_get_at walked.pa width _))
 
 pub one_get : (va width : ℕ) (w : World) → Looks 1 w (get_by_table va width w).world
 unfolding get_by_table
@@ -168,13 +161,13 @@ unfolding put_at
 still_put_at pa width value w =
     still_then _ _ _ (still_stored pa width value w) (still_then _ _ _ (still_written _ _) (still_replies told.Ok _))
 
-pub still_stored_inside : (va width value : ℕ) (to : Result ℕ ℕ) (w : World) →
+pub still_stored_inside : (va width value : ℕ) (to : Walk) (w : World) →
     Looks 0 w (stored_inside va width value to w).world
 unfolding stored_inside
 still_stored_inside va width value (Err cause) w = still_replies _ w
-still_stored_inside va width value (Ok pa) w =
-    still_then _ _ _ (still_opened (regime_of w).satp (inside_access w va Store) pa w)
-    (still_drawn (put_at pa width value) _ (still_put_at pa width value _))
+still_stored_inside va width value (Ok walked) w =
+    still_then _ _ _ (still_opened (regime_of w).satp (inside_access w va Store) walked w)
+    (still_drawn (put_at walked.pa width value) _ (still_put_at walked.pa width value _))
 
 pub one_put : (va width value : ℕ) (w : World) → Looks 1 w (put_by_table va width value w).world
 unfolding put_by_table
@@ -200,48 +193,47 @@ still_clear_from domain marked f (suc n) w =
 
 -- A page is reached.
 
-missed_quiet : (b : Bool) (q : PageId) (g : ℕ) → looks_in (cond b (Touch g) (offers q g false) ∷ []) ≤ 0
-missed_quiet true q g = omega arith
-missed_quiet false q g = omega arith
+refused_quiet : (missed : Bool) (q : PageId) (g : ℕ) → looks_in (cond missed (Touch g) (offers q g false) ∷ []) ≤ 0
+refused_quiet true q g = omega arith
+refused_quiet false q g = omega arith
 
-offer_quiet : (q : PageId) (g : ℕ) (m : CloakedMemory) (o : OfferEnd) → looks_in (offer_events q g m o) ≤ 0
-offer_quiet q g m Missed = missed_quiet (settle g m).missed q g
-offer_quiet q g m _ = omega arith
+offer_quiet : (q : PageId) (g : ℕ) (m : CloakedMemory) (granted : Bool) → looks_in (offer_events q g m granted) ≤ 0
+offer_quiet q g m true = omega arith
+offer_quiet q g m false = refused_quiet (settle g m).missed q g
 
-pub still_offered : (q : PageId) (va : ℕ) (kind : Kind) (g : ℕ) (o : OfferEnd) (w : World) →
-    Looks 0 w (offered_by q va kind g o w).world
+pub still_offered : (q : PageId) (va : ℕ) (kind : Kind) (walked : Walked) (granted : Bool) (w : World) →
+    Looks 0 w (offered_by q va kind walked granted w).world
 unfolding offered_by
-still_offered q va kind g Ready w =
-    let satp : ℕ = (regime_of w).satp in
-    let a : Access = inside_access w va kind in
-    still_then _ _ _ (events_noted 0 _ w (births_quiet satp a (Some q) (walk (ram_of w) satp a))) (still_replies told.Ok _)
-still_offered q va kind g Missed w = still_replies told.Stopped w
-still_offered q va kind g Mismatch (Flat ram) = still_replies told.Stopped (Flat ram)
-still_offered q va kind g Mismatch (Cloaked c) =
+still_offered q va kind walked true w =
+    still_then _ _ _ (events_noted 0 (Born _ _ walked (Some q) ∷ []) w (omega arith)) (still_replies told.Ok _)
+still_offered q va kind walked false (Flat ram) = still_replies told.Stopped (Flat ram)
+still_offered q va kind walked false (Cloaked c) =
     still_then _ (Cloaked _) _ (record { few = omega arith }) (still_replies told.Stopped _)
-still_offered q va kind g Mismatch (Alone h) = still_replies told.Stopped (Alone h)
+still_offered q va kind walked false (Alone h) = still_replies told.Stopped (Alone h)
 
-pub still_offer : (q : PageId) (va : ℕ) (kind : Kind) (g : ℕ) (w : World) → Looks 0 w (ask_offer q va kind g w).world
+pub still_offer : (q : PageId) (va : ℕ) (kind : Kind) (walked : Walked) (w : World) →
+    Looks 0 w (ask_offer q va kind walked w).world
 unfolding ask_offer
-still_offer q va kind g (Flat ram) = still (Flat ram)
-still_offer q va kind g (Cloaked c) =
+still_offer q va kind walked (Flat ram) = still (Flat ram)
+still_offer q va kind walked (Cloaked c) =
+    let g = frame_of walked.pa in
     let o = offer q g (is_store kind) c.memory in
     still_then (Cloaked c)
     (Cloaked
     (record c {
       memory = o.memory;
       items = c.items ++ cipher_items o.ciphers;
-      events = c.events ++ offer_events q g c.memory o.answer;
+      events = c.events ++ offer_events q g c.memory o.granted;
     })) _
-    (record { few = few_then 0 c.events _ (offer_quiet q g c.memory o.answer) })
-    (still_offered q va kind g o.answer _)
-still_offer q va kind g (Alone h) = still (Alone h)
+    (record { few = few_then 0 c.events _ (offer_quiet q g c.memory o.granted) })
+    (still_drawn (offered_by q va kind walked o.granted) _ (still_offered q va kind walked o.granted _))
+still_offer q va kind walked (Alone h) = still (Alone h)
 
-pub still_reached : (q : PageId) (va : ℕ) (kind : Kind) (to : Result ℕ ℕ) (w : World) →
+pub still_reached : (q : PageId) (va : ℕ) (kind : Kind) (to : Walk) (w : World) →
     Looks 0 w (reached q va kind to w).world
 unfolding reached
 still_reached q va kind (Err cause) w = still_replies _ w
-still_reached q va kind (Ok pa) w = still_offer q va kind (frame_of pa) w
+still_reached q va kind (Ok walked) w = still_offer q va kind walked w
 
 pub one_reach : (q : PageId) (va : ℕ) (kind : Kind) (w : World) → Looks 1 w (reach_by_table q va kind w).world
 unfolding reach_by_table
@@ -307,27 +299,29 @@ asks_forgets domain list w = keeps_forgets (Looks 0) still still_then still_forg
 
 -- Those of a hart outside.
 
-pub still_value : (satp : ℕ) (a : Access) (pa width : ℕ) (w : World) → Looks 0 w (ask_value satp a pa width w).world
+pub still_value : (satp : ℕ) (a : Access) (walked : Walked) (width : ℕ) (w : World) →
+    Looks 0 w (ask_value satp a walked width w).world
 unfolding ask_value
-still_value satp a pa width w =
-    still_then _ _ _ (still_opened satp a pa w) (events_noted 0 (Read (frame_of pa) ∷ []) _ (omega arith))
+still_value satp a walked width w =
+    still_then _ _ _ (still_opened satp a walked w) (events_noted 0 (Read (frame_of walked.pa) ∷ []) _ (omega arith))
 
-pub still_store : (satp : ℕ) (a : Access) (pa width value : ℕ) (w : World) →
-    Looks 0 w (ask_store satp a pa width value w).world
+pub still_store : (satp : ℕ) (a : Access) (walked : Walked) (width value : ℕ) (w : World) →
+    Looks 0 w (ask_store satp a walked width value w).world
 unfolding ask_store
-still_store satp a pa width value w = still_then _ _ _ (still_opened satp a pa w) (still_stored pa width value _)
+still_store satp a walked width value w =
+    still_then _ _ _ (still_opened satp a walked w) (still_stored walked.pa width value _)
 
-pub still_loaded : (satp : ℕ) (a : Access) (width : ℕ) (to : Result ℕ ℕ) (w : World) →
+pub still_loaded : (satp : ℕ) (a : Access) (width : ℕ) (to : Walk) (w : World) →
     Looks 0 w (loaded_at satp a width to w).world
 unfolding loaded_at
 still_loaded satp a width (Err cause) w = still w
-still_loaded satp a width (Ok pa) w = still_value satp a pa width w
+still_loaded satp a width (Ok walked) w = still_value satp a walked width w
 
-pub still_stored_to : (satp : ℕ) (a : Access) (width value : ℕ) (to : Result ℕ ℕ) (w : World) →
+pub still_stored_to : (satp : ℕ) (a : Access) (width value : ℕ) (to : Walk) (w : World) →
     Looks 0 w (stored_to satp a width value to w).world
 unfolding stored_to
 still_stored_to satp a width value (Err cause) w = still w
-still_stored_to satp a width value (Ok pa) w = still_store satp a pa width value w
+still_stored_to satp a width value (Ok walked) w = still_store satp a walked width value w
 
 pub asks_load : (satp : ℕ) (a : Access) (width : ℕ) (w : World) → Looks 1 w (ask_load satp a width w).world
 unfolding ask_load
@@ -356,11 +350,12 @@ pub asks_unmark : (hart : ℕ) (w : World) → Looks 0 w (ask_unmark hart w).wor
 unfolding ask_unmark
 asks_unmark hart w = still_marks _ w
 
-pub still_reserved : (satp : ℕ) (a : Access) (hart : ℕ) (to : Result ℕ ℕ) (w : World) →
+pub still_reserved : (satp : ℕ) (a : Access) (hart : ℕ) (to : Walk) (w : World) →
     Looks 0 w (reserved_at satp a hart to w).world
 unfolding reserved_at
 still_reserved satp a hart (Err cause) w = still w
-still_reserved satp a hart (Ok pa) w = still_then _ _ _ (still_value satp a pa 4 w) (asks_mark hart pa _)
+still_reserved satp a hart (Ok walked) w =
+    still_then _ _ _ (still_value satp a walked 4 w) (asks_mark hart walked.pa _)
 
 pub asks_reserve : (satp : ℕ) (a : Access) (hart : ℕ) (w : World) → Looks 1 w (ask_reserve satp a hart w).world
 unfolding ask_reserve
@@ -372,12 +367,12 @@ unfolding stored_if
 still_stored_if true hart pa value w = still_then _ _ _ (still_stored pa 4 value w) (asks_unmark hart _)
 still_stored_if false hart pa value w = asks_unmark hart w
 
-pub still_conditional : (satp : ℕ) (a : Access) (hart value : ℕ) (to : Result ℕ ℕ) (w : World) →
+pub still_conditional : (satp : ℕ) (a : Access) (hart value : ℕ) (to : Walk) (w : World) →
     Looks 0 w (conditional_at satp a hart value to w).world
 unfolding conditional_at ask_marked
 still_conditional satp a hart value (Err cause) w = still w
-still_conditional satp a hart value (Ok pa) w =
-    still_then _ _ _ (still_value satp a pa 4 w) (still_stored_if _ hart pa value _)
+still_conditional satp a hart value (Ok walked) w =
+    still_then _ _ _ (still_value satp a walked 4 w) (still_stored_if _ hart walked.pa value _)
 
 pub asks_store_conditional : (satp : ℕ) (a : Access) (hart value : ℕ) (w : World) →
     Looks 1 w (ask_store_conditional satp a hart value w).world
@@ -385,11 +380,12 @@ unfolding ask_store_conditional
 asks_store_conditional satp a hart value w =
     then_still _ _ _ (one_led satp a w) (still_conditional satp a hart value _ _)
 
-pub still_combined : (satp : ℕ) (a : Access) (op : AtomicOp) (operand : ℕ) (to : Result ℕ ℕ) (w : World) →
+pub still_combined : (satp : ℕ) (a : Access) (op : AtomicOp) (operand : ℕ) (to : Walk) (w : World) →
     Looks 0 w (combined_at satp a op operand to w).world
 unfolding combined_at
 still_combined satp a op operand (Err cause) w = still w
-still_combined satp a op operand (Ok pa) w = still_then _ _ _ (still_value satp a pa 4 w) (still_stored pa 4 _ _)
+still_combined satp a op operand (Ok walked) w =
+    still_then _ _ _ (still_value satp a walked 4 w) (still_stored walked.pa 4 _ _)
 
 pub asks_combine : (satp : ℕ) (a : Access) (op : AtomicOp) (operand : ℕ) (w : World) →
     Looks 1 w (ask_combine satp a op operand w).world

@@ -1,5 +1,6 @@
 -- A program of an ELF file, by the keys of its table.
 use Rattle.std.proofs.Common.{◌≡◌, ◌*◌, ◌-◌, ℕ, replicate, Result, Ok, Err, refl}
+use Rattle.cloak_model.specs.Bundle.{key_numbers}
 use Rattle.cloak_model.specs.declared.image.Program.{Program}
 use Rattle.cloak_base.specs.declared.names.Start.{Start}
 use Rattle.elf_image.specs.Image.{Image}
@@ -29,11 +30,11 @@ module _ (at : ManifestTable) (from : Data) (frames : ℕ) (image : Image) where
       elf_starts e h = rw (← h1, ← h2, ← h) refl
 
       module _ (start : Start) (h3 : Ok start ≡ elf_start_at at from image pages) where
-        pub elf_key : (e : FaultyKey) → Err e ≡ number_or_at at from KeyNumber 0 3 0 → Err e ≡ image_program_at at from frames image
+        pub elf_key : (e : FaultyKey) → Err e ≡ number_or_at at from KeyNumber key_numbers 0 → Err e ≡ image_program_at at from frames image
         unfolding image_program_at
         elf_key e h = rw (← h1, ← h2, ← h3, ← h) refl
 
-        pub elf_whole : (key : ℕ) → Ok key ≡ number_or_at at from KeyNumber 0 3 0 →
+        pub elf_whole : (key : ℕ) → Ok key ≡ number_or_at at from KeyNumber key_numbers 0 →
             Ok (record {
               place = frame;
               start = start;

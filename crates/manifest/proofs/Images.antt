@@ -1,5 +1,6 @@
 -- An image and its parts, by what was read so far.
 use Rattle.std.proofs.Common.{◌≡◌, ℕ, Bool, true, false, not, List, [], Option, Some, None, is_some, option_map, Result, Ok, Err, refl, sym}
+use Rattle.cloak_model.specs.Bundle.{frame_counts, hart_counts, segment_counts, block_counts, program_counts}
 use Rattle.cloak_model.specs.declared.image.Segment.{Segment as KernelSegment}
 use Rattle.cloak_model.specs.declared.image.KernelImage.{KernelImage}
 use Rattle.cloak_model.specs.declared.image.Program.{Program as CloakedProgram}
@@ -40,12 +41,12 @@ module _ (held : List ℕ → Option (List ℕ)) (manifest : List ℕ) where
     disk_key fault only = rw (← only) refl
 
     module _ (u : Unit {0}) (only : Ok u ≡ only_keys part.Disk disk_keys from) where
-      pub disk_blocks : (e : FaultyKey) → Err e ≡ needed_at part.Disk from Blocks 0 4096 →
+      pub disk_blocks : (e : FaultyKey) → Err e ≡ needed_at part.Disk from Blocks block_counts →
           DiskTableReads held manifest from (Err (at_key e))
       unfolding DiskTableReads
       disk_blocks e wrong = rw (← only, ← wrong) refl
 
-      module _ (blocks : ℕ) (is_blocks : Ok blocks ≡ needed_at part.Disk from Blocks 0 4096) where
+      module _ (blocks : ℕ) (is_blocks : Ok blocks ≡ needed_at part.Disk from Blocks block_counts) where
         pub disk_list : (e : FaultyKey) → list_at part.Disk from File ≡ Err e →
             DiskTableReads held manifest from (Err (at_key e))
         unfolding DiskTableReads
@@ -74,18 +75,18 @@ module _ (held : List ℕ → Option (List ℕ)) (manifest : List ℕ) where
   -- ---- the kernel
 
   module _ (document : Data) where
-    pub kernel_frames : (e : FaultyKey) → Err e ≡ number_or_at Image document Frames 64 4096 64 →
+    pub kernel_frames : (e : FaultyKey) → Err e ≡ number_or_at Image document Frames frame_counts 64 →
         KernelReads held manifest document (Err (at_key e))
     unfolding KernelReads
     kernel_frames e wrong = rw (← wrong) refl
 
-    module _ (frames : ℕ) (is_frames : Ok frames ≡ number_or_at Image document Frames 64 4096 64) where
-      pub kernel_harts : (e : FaultyKey) → Err e ≡ number_or_at Image document Harts 1 4 1 →
+    module _ (frames : ℕ) (is_frames : Ok frames ≡ number_or_at Image document Frames frame_counts 64) where
+      pub kernel_harts : (e : FaultyKey) → Err e ≡ number_or_at Image document Harts hart_counts 1 →
           KernelReads held manifest document (Err (at_key e))
       unfolding KernelReads
       kernel_harts e wrong = rw (← is_frames, ← wrong) refl
 
-      module _ (harts : ℕ) (is_harts : Ok harts ≡ number_or_at Image document Harts 1 4 1) where
+      module _ (harts : ℕ) (is_harts : Ok harts ≡ number_or_at Image document Harts hart_counts 1) where
         pub kernel_schedule : (fault : Fault) → Err fault ≡ by_keys (schedule_at Image document harts) →
             KernelReads held manifest document (Err fault)
         unfolding KernelReads
@@ -98,12 +99,12 @@ module _ (held : List ℕ → Option (List ℕ)) (manifest : List ℕ) where
           kernel_entry e wrong = rw (← is_frames, ← is_harts, ← is_schedule, ← wrong) refl
 
           module _ (entry : ℕ) (is_entry : Ok entry ≡ entry_at Image document) where
-            pub kernel_list : (e : FaultyKey) → short_list_at Image document Segment 16 ≡ Err e →
+            pub kernel_list : (e : FaultyKey) → short_list_at Image document Segment segment_counts.high ≡ Err e →
                 KernelReads held manifest document (Err (at_key e))
             unfolding KernelReads
             kernel_list e wrong = rw (← is_frames, ← is_harts, ← is_schedule, ← is_entry, wrong) refl
 
-            module _ (tables : Items) (is_list : short_list_at Image document Segment 16 ≡ Ok tables) where
+            module _ (tables : Items) (is_list : short_list_at Image document Segment segment_counts.high ≡ Ok tables) where
               pub kernel_segments : (fault : Fault) → SegmentsRead held manifest frames tables (Err fault) →
                   KernelReads held manifest document (Err fault)
               unfolding KernelReads
@@ -146,12 +147,12 @@ module _ (held : List ℕ → Option (List ℕ)) (manifest : List ℕ) where
       image_kernel fault wrong = rw (← only) (Err fault, wrong, refl)
 
       module _ (kernel : KernelImage) (is_kernel : KernelReads held manifest document (Ok kernel)) where
-        pub image_list : (e : FaultyKey) → short_list_at Image document Program 4 ≡ Err e →
+        pub image_list : (e : FaultyKey) → short_list_at Image document Program program_counts.high ≡ Err e →
             ImageReads held manifest document (Err (at_key e))
         unfolding ImageReads
         image_list e wrong = rw (← only, wrong) (Ok kernel, is_kernel, refl)
 
-        module _ (tables : Items) (is_list : short_list_at Image document Program 4 ≡ Ok tables) where
+        module _ (tables : Items) (is_list : short_list_at Image document Program program_counts.high ≡ Ok tables) where
           pub image_programs : (fault : Fault) → ProgramsRead held manifest kernel.frames tables (Err fault) →
               ImageReads held manifest document (Err fault)
           unfolding ImageReads

@@ -1,5 +1,6 @@
 -- A program by the keys of its table.
 use Rattle.std.proofs.Common.{◌≡◌, ◌*◌, ◌-◌, ◌++◌, ℕ, List, length, replicate, Result, Ok, Err, refl}
+use Rattle.cloak_model.specs.Bundle.{key_numbers}
 use Rattle.cloak_model.specs.declared.image.Program.{Program}
 use Rattle.cloak_base.specs.declared.names.Start.{Start}
 use Rattle.toml.specs.Data.{Data}
@@ -28,14 +29,14 @@ wrong_start at from frames bytes e pages frame h1 h2 h = rw (← h1, ← h2, ←
 
 pub wrong_key : (at : ManifestTable) (from : Data) (frames : ℕ) (bytes : List ℕ) (e : FaultyKey) (pages frame : ℕ) (start : Start) →
     Ok pages ≡ pages_at at from Bytes (length bytes) → Ok frame ≡ frame_at at from frames pages →
-    Ok start ≡ start_at at from pages → Err e ≡ number_or_at at from KeyNumber 0 3 0 →
+    Ok start ≡ start_at at from pages → Err e ≡ number_or_at at from KeyNumber key_numbers 0 →
     Err e ≡ program_at at from frames bytes
 unfolding program_at
 wrong_key at from frames bytes e pages frame start h1 h2 h3 h = rw (← h1, ← h2, ← h3, ← h) refl
 
 pub whole_program : (at : ManifestTable) (from : Data) (frames : ℕ) (bytes : List ℕ) (pages frame : ℕ) (start : Start) (key : ℕ) →
     Ok pages ≡ pages_at at from Bytes (length bytes) → Ok frame ≡ frame_at at from frames pages →
-    Ok start ≡ start_at at from pages → Ok key ≡ number_or_at at from KeyNumber 0 3 0 →
+    Ok start ≡ start_at at from pages → Ok key ≡ number_or_at at from KeyNumber key_numbers 0 →
     Ok (record {
       place = frame;
       start = start;

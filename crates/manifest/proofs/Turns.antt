@@ -9,7 +9,7 @@ use Rattle.manifest.specs.declared.key.ManifestTable.{ManifestTable}
 use Rattle.manifest.specs.declared.key.Key.TheVariants.{Schedule}
 use Rattle.manifest.specs.declared.fault.KeyFault.TheVariants.{NoTurn}
 use Rattle.manifest.specs.declared.fault.FaultyKey.{FaultyKey}
-use Rattle.manifest.specs.Fields.{number_from, wrong_at}
+use Rattle.manifest.specs.Fields.{below, number_from, wrong_at}
 use Rattle.manifest.specs.Parts.{turns_of}
 use Rattle.manifest.specs.Faults.{Fault, Then}
 use Rattle.manifest.specs.Sources.{InTurn}
@@ -48,14 +48,14 @@ is_over Reads number tables i so_far past =
 -- ---- the turns of a schedule
 
 pub turn_more : (at : ManifestTable) (harts : ℕ) (turns : List Value) (i : ℕ) (value : Value) (so_far : List ℕ) (turn : ℕ) →
-    i < length turns → value ≡ get_or turns i value → number_from 0 (harts - 1) (as_integer (view value)) ≡ Some turn →
+    i < length turns → value ≡ get_or turns i value → number_from (below harts) (as_integer (view value)) ≡ Some turn →
     turns_of at harts so_far (items_view (drop i turns))
     ≡ turns_of at harts (so_far ++ turn ∷ []) (items_view (drop (i + 1) turns))
 unfolding turns_of
 turn_more at harts turns i value so_far turn inside here is = rw (← split turns i value inside here, is) refl
 
 pub turn_wrong : (at : ManifestTable) (harts : ℕ) (turns : List Value) (i : ℕ) (value : Value) (so_far : List ℕ) →
-    i < length turns → value ≡ get_or turns i value → number_from 0 (harts - 1) (as_integer (view value)) ≡ None →
+    i < length turns → value ≡ get_or turns i value → number_from (below harts) (as_integer (view value)) ≡ None →
     turns_of at harts so_far (items_view (drop i turns)) ≡ Err (wrong_at at Schedule (NoTurn (harts - 1)))
 unfolding turns_of
 turn_wrong at harts turns i value so_far inside here is = rw (← split turns i value inside here, is) refl

@@ -1,5 +1,6 @@
 -- What stands at a key of a table, by the rule of the key; or what is wrong there.
-use Rattle.std.specs.Prelude.{ℕ, suc, ◌≡◌, ◌%◌, ◌==◌, ◌&&◌, ◌||◌, Bool, false, pos, negsuc, ℤ, List, [], ◌∷◌, Option, Some, None, is_some, Result, Ok, Err, MatchResult, nat_lt, nat_le, unwrap_or, bytes_eq, if◌then◌else◌}
+use Rattle.std.specs.Prelude.{ℕ, suc, ◌≡◌, ◌-◌, ◌%◌, ◌==◌, ◌&&◌, ◌||◌, Bool, false, pos, negsuc, ℤ, List, [], ◌∷◌, Option, Some, None, is_some, Result, Ok, Err, MatchResult, nat_lt, nat_le, unwrap_or, bytes_eq, if◌then◌else◌}
+use Rattle.cloak_model.specs.Bundle.{Range}
 use Rattle.toml.specs.Data.{Data, as_integer, as_str, as_array, as_table, Items, no_items, item, Members, no_members, member}
 use Rattle.manifest.specs.declared.key.Key.{Key}
 use Rattle.manifest.specs.declared.key.ManifestTable.{ManifestTable}
@@ -27,11 +28,15 @@ abbrev pub if_given : {A : Type 0} → (Data → Result A FaultyKey) → Option 
 if_given read None = Ok None
 if_given read (Some value) = read value >>= (λ x. Ok (Some x))
 
--- the integer is a number from least to most
-unfoldable pub number_from : (least most : ℕ) → Option ℤ → Option ℕ
-number_from least most None = None
-number_from least most (Some (pos n)) = if nat_le least n && nat_le n most then Some n else None
-number_from least most (Some (negsuc n)) = None
+-- the numbers below another one
+abbrev pub below : ℕ → Range
+below n = record { low = 0; high = n - 1 }
+
+-- the integer is a number of a range
+unfoldable pub number_from : Range → Option ℤ → Option ℕ
+number_from range None = None
+number_from range (Some (pos n)) = if nat_le range.low n && nat_le n range.high then Some n else None
+number_from range (Some (negsuc n)) = None
 
 -- how many values
 abbrev pub count_of : Items → ℕ
@@ -66,19 +71,19 @@ module _ (part : ManifestTable) where
     alone_at [] = Ok tt
     alone_at (key ∷ keys) = if is_some (stands_at key table) then Err (wrong_at key BesideElf) else alone_at keys
 
-    -- a whole number, if one is given
-    unfoldable pub number_at : Key → (least most : ℕ) → Result (Option ℕ) FaultyKey
-    number_at key least most =
-        if_given (λ value. or_fault (number_from least most (as_integer value)) (wrong_at key (NoNumber least most)))
+    -- a whole number of a range, if one is given
+    unfoldable pub number_at : Key → Range → Result (Option ℕ) FaultyKey
+    number_at key range =
+        if_given (λ value. or_fault (number_from range (as_integer value)) (wrong_at key (NoNumber range.low range.high)))
         (stands_at key table)
 
     -- a whole number that is needed
-    unfoldable pub needed_at : Key → (least most : ℕ) → Result ℕ FaultyKey
-    needed_at key least most = number_at key least most >>= (λ found. or_fault found (wrong_at key Missing))
+    unfoldable pub needed_at : Key → Range → Result ℕ FaultyKey
+    needed_at key range = number_at key range >>= (λ found. or_fault found (wrong_at key Missing))
 
     -- a whole number, or another one if none is given
-    unfoldable pub number_or_at : Key → (least most otherwise : ℕ) → Result ℕ FaultyKey
-    number_or_at key least most otherwise = number_at key least most >>= (λ found. Ok (unwrap_or found otherwise))
+    unfoldable pub number_or_at : Key → Range → (otherwise : ℕ) → Result ℕ FaultyKey
+    number_or_at key range otherwise = number_at key range >>= (λ found. Ok (unwrap_or found otherwise))
 
     -- the name of a file, if one is given
     unfoldable pub name_at : Key → Result (Option (List ℕ)) FaultyKey

@@ -6,6 +6,7 @@ use Rattle.cloak_model.specs.declared.image.Segment.{Segment as KernelSegment}
 use Rattle.cloak_model.specs.declared.image.KernelImage.{KernelImage}
 use Rattle.cloak_model.specs.declared.image.Program.{Program as CloakedProgram}
 use Rattle.cloak_model.specs.declared.image.Bundle.{Bundle}
+use Rattle.cloak_model.specs.Bundle.{frame_counts, hart_counts, segment_counts, block_counts, program_counts}
 use Rattle.toml.specs.Data.{Data, table, as_table, Items, Members}
 use Rattle.toml.specs.Parse.{parse_document}
 use Rattle.manifest.specs.declared.key.Key.{Key}
@@ -102,7 +103,7 @@ module _ (held : List ℕ → Option (List ℕ)) (manifest : List ℕ) where
   unfoldable pub DiskTableReads : Data → Result (List ℕ) Fault → Type 0
   DiskTableReads disk r =
       After (only_keys part.Disk disk_keys disk) (λ _.
-      After (by_keys (needed_at part.Disk disk Blocks 0 4096)) (λ blocks.
+      After (by_keys (needed_at part.Disk disk Blocks block_counts)) (λ blocks.
       After (by_keys (list_at part.Disk disk File)) (FilesRead blocks))) r
 
   -- the disk that stands here, if it is a table
@@ -116,11 +117,11 @@ module _ (held : List ℕ → Option (List ℕ)) (manifest : List ℕ) where
 
   unfoldable pub KernelReads : Data → Result KernelImage Fault → Type 0
   KernelReads document r =
-      After (by_keys (number_or_at part.Image document Frames 64 4096 64)) (λ frames.
-      After (by_keys (number_or_at part.Image document Harts 1 4 1)) (λ harts.
+      After (by_keys (number_or_at part.Image document Frames frame_counts 64)) (λ frames.
+      After (by_keys (number_or_at part.Image document Harts hart_counts 1)) (λ harts.
       After (by_keys (schedule_at part.Image document harts)) (λ schedule.
       After (by_keys (entry_at part.Image document)) (λ entry.
-      After (by_keys (short_list_at part.Image document Segment 16)) (λ tables.
+      After (by_keys (short_list_at part.Image document Segment segment_counts.high)) (λ tables.
       Then (SegmentsRead frames tables) (λ segments.
       Then (DiskReads (stands_at Disk document)) (λ disk r. r ≡ Ok (record {
         frames = frames;
@@ -165,7 +166,7 @@ module _ (held : List ℕ → Option (List ℕ)) (manifest : List ℕ) where
   ImageReads document r =
       After (only_keys part.Image image_keys document) (λ _.
       Then (KernelReads document) (λ kernel.
-      After (by_keys (short_list_at part.Image document Program 4)) (λ tables.
+      After (by_keys (short_list_at part.Image document Program program_counts.high)) (λ tables.
       Then (ProgramsRead kernel.frames tables) (λ programs r.
       r ≡ by_keys (fitting (record { kernel = kernel; programs = programs }))))))
       r

@@ -1,7 +1,8 @@
 -- What the loadable parts of an ELF file become: segments of the kernel, or the pages of a program.
-use Rattle.std.specs.Prelude.{ℕ, ◌+◌, ◌*◌, ◌-◌, ◌/◌, ◌%◌, ◌^◌, ◌==◌, ◌&&◌, ◌||◌, List, [], ◌∷◌, ◌++◌, length, replicate, fold, min, max, Option, Some, None, Result, Ok, Err, nat_lt, nat_le, if◌then◌else◌}
-use Rattle.cloak_base.specs.Constants.{ram_start, ram_end}
+use Rattle.std.specs.Prelude.{ℕ, ◌+◌, ◌*◌, ◌-◌, ◌/◌, ◌%◌, ◌^◌, ◌==◌, ◌||◌, List, [], ◌∷◌, ◌++◌, length, replicate, fold, min, max, Option, Some, None, Result, Ok, Err, nat_lt, nat_le, if◌then◌else◌}
 use Rattle.cloak_base.specs.declared.names.Start.{Start}
+use Rattle.cloak_model.specs.Bundle.{key_numbers}
+use Rattle.cloak_model.specs.BundleFault.{lies_in_ram}
 use Rattle.cloak_model.specs.declared.image.Segment.{Segment as KernelSegment}
 use Rattle.cloak_model.specs.declared.image.Program.{Program as CloakedProgram}
 use Rattle.elf_image.specs.Image.{Part as ElfPart, Image as ElfImage}
@@ -30,7 +31,7 @@ image_at at file = image_or_fault at (elf_image file) (elf_fault file)
 -- a part with its zeros, which lies in RAM
 unfoldable pub part_segment : ManifestTable → (frames : ℕ) → ElfPart → Result KernelSegment FaultyKey
 part_segment at frames p =
-    if nat_le ram_start p.address && nat_le (p.address + p.size) (ram_end frames)
+    if lies_in_ram frames p.address p.size
     then Ok (record { address = p.address; bytes = p.bytes ++ replicate (p.size - length p.bytes) 0 })
     else Err (wrong_at at Elf (PartOutside p.address))
 
@@ -83,7 +84,7 @@ module _ (at : ManifestTable) (table : Data) where
     pages ← pages_at at table Elf (highest image.parts - base_of image.parts)
     place ← frame_at at table frames pages
     start ← elf_start_at image pages
-    key ← number_or_at at table KeyNumber 0 3 0
+    key ← number_or_at at table KeyNumber key_numbers 0
     Ok (record {
       place = place;
       start = start;

@@ -2,6 +2,7 @@
 ghost use Rattle.std.specs.Prelude.{◌≡◌, ◌≤◌, ◌*◌, ◌%◌, IfOk, IfErr, MatchResult, length, replicate, Ok, Err};
 ghost use Rattle.toml.specs.View.{view, items_view};
 ghost use Rattle.command_parts.specs.Outside.{files};
+ghost use Rattle.cloak_model.specs.Bundle.{block_counts};
 ghost use Rattle.manifest.specs.declared.key.Key.TheVariants as keys;
 ghost use Rattle.manifest.specs.Keys.{stands_at};
 ghost use Rattle.manifest.specs.Parts.{stored_at};
@@ -22,7 +23,7 @@ use toml::Value;
 /// Stores the bytes of the file that a table means at its block.
 #[tactic(auto, unfolding(crate::specs::Parts::stored_at))]
 fn place_file(place: NamedTable<'_>, bytes: &[u8], disk: &mut [u8]) -> Result<(), FaultyKey>
-    requires { length disk.old ≤ 4096 * 4096 }
+    requires { length disk.old ≤ 4096 * block_counts.high }
     ensures { MatchResult result
         (λ _. stored_at place.entry.part (view place.entry.table.now) disk.old bytes.now ≡ Ok disk.new)
         (λ e. stored_at place.entry.part (view place.entry.table.now) disk.old bytes.now ≡ Err e) }
@@ -47,7 +48,7 @@ fn disk_file<S: Shelf>(
     disk: &mut [u8],
 ) -> Result<(), PackError>
     requires settled { S.is_settled shelf.old }
-    requires small { length disk.old ≤ 4096 * 4096 }
+    requires small { length disk.old ≤ 4096 * block_counts.high }
     ensures read { ReturnsRead (λ _. disk.new)
         (FileReads (S.held shelf.old) manifest.now number (view table.now) disk.old) result }
     ensures reads { ReadsParts (files S.Shelf shelf.old) (files S.Shelf shelf.new) result }
@@ -70,7 +71,7 @@ fn place_files<S: Shelf>(
     disk: &mut [u8],
 ) -> Result<(), PackError>
     requires settled { S.is_settled shelf.old }
-    requires small { length disk.old ≤ 4096 * 4096 }
+    requires small { length disk.old ≤ 4096 * block_counts.high }
     ensures read { ReturnsRead (λ _. disk.new)
         (InTurn (FileReads (S.held shelf.old) manifest.now) 1 (items_view tables.now) disk.old) result }
     ensures reads { ReadsParts (files S.Shelf shelf.old) (files S.Shelf shelf.new) result }
@@ -84,7 +85,7 @@ fn place_files<S: Shelf>(
 
 /// The blocks of zeros of a disk.
 fn blank_disk(alloc: Global, blocks: u32) -> Result<Vec<u8>, PackError>
-    requires { blocks ≤ 4096 }
+    requires { blocks ≤ block_counts.high }
     ensures zeros { IfOk result (λ v. v.items ≡ replicate (4096 * blocks) 0) }
     ensures want { IfErr result IsWant }
 {
@@ -101,7 +102,7 @@ fn disk_of<S: Shelf>(
     requires { S.is_settled shelf.old }
     ensures read { ReturnsRead (λ v. v.items) (DiskTableReads (S.held shelf.old) manifest.now (view table.now)) result }
     ensures blocks { IfOk result (λ v. length v.items % 4096 ≡ 0) }
-    ensures few { IfOk result (λ v. length v.items ≤ 4096 * 4096) }
+    ensures few { IfOk result (λ v. length v.items ≤ 4096 * block_counts.high) }
     ensures reads { ReadsParts (files S.Shelf shelf.old) (files S.Shelf shelf.new) result }
     ensures settled { S.is_settled shelf.new }
 {
@@ -126,7 +127,7 @@ pub fn disk<S: Shelf>(
     ensures read { ReturnsRead (λ v. v.items)
         (DiskReads (S.held shelf.old) manifest.now (stands_at keys.Disk (view document.now))) result }
     ensures blocks { IfOk result (λ v. length v.items % 4096 ≡ 0) }
-    ensures few { IfOk result (λ v. length v.items ≤ 4096 * 4096) }
+    ensures few { IfOk result (λ v. length v.items ≤ 4096 * block_counts.high) }
     ensures reads { ReadsParts (files S.Shelf shelf.old) (files S.Shelf shelf.new) result }
     ensures settled { S.is_settled shelf.new }
 {

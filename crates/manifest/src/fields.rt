@@ -56,7 +56,7 @@ impl<'a> NamedTable<'a> {
     #[tactic(auto, unfolding(crate::specs::Fields::number_at))]
     pub fn number(self, key: Key, least: u32, most: u32) -> Result<Option<u32>, FaultyKey>
         ensures range { IfOk result (λ found. IfSome found (λ n. (least ≤ n) × (n ≤ most))) }
-        ensures read { result ≡ spec.number_at self.entry.part (view self.entry.table.now) key least most }
+        ensures read { result ≡ spec.number_at self.entry.part (view self.entry.table.now) key (record { low = least; high = most }) }
     {
         let Some(value) = self.value(key) else {
             return Ok(None);
@@ -71,7 +71,7 @@ impl<'a> NamedTable<'a> {
     #[tactic(auto, unfolding(crate::specs::Fields::needed_at))]
     pub fn needed_number(self, key: Key, least: u32, most: u32) -> Result<u32, FaultyKey>
         ensures range { IfOk result (λ n. (least ≤ n) × (n ≤ most)) }
-        ensures read { result ≡ spec.needed_at self.entry.part (view self.entry.table.now) key least most }
+        ensures read { result ≡ spec.needed_at self.entry.part (view self.entry.table.now) key (record { low = least; high = most }) }
     {
         match self.number(key, least, most)? {
             Some(number) => Ok(number),
@@ -91,7 +91,7 @@ impl<'a> NamedTable<'a> {
         requires least { least ≤ otherwise }
         requires most { otherwise ≤ most }
         ensures range { IfOk result (λ n. (least ≤ n) × (n ≤ most)) }
-        ensures read { result ≡ spec.number_or_at self.entry.part (view self.entry.table.now) key least most otherwise }
+        ensures read { result ≡ spec.number_or_at self.entry.part (view self.entry.table.now) key (record { low = least; high = most }) otherwise }
     {
         match self.number(key, least, most)? {
             Some(number) => Ok(number),
@@ -194,7 +194,7 @@ fn is_among(keys: &[Key], name: &str) -> bool
 #[tactic(auto, unfolding(crate::specs::Fields::number_from))]
 pub fn in_range(value: &Value, least: u32, most: u32) -> Option<u32>
     ensures range { IfSome result (λ n. (least ≤ n) × (n ≤ most)) }
-    ensures read { result ≡ spec.number_from least most (as_integer (view value.now)) }
+    ensures read { result ≡ spec.number_from (record { low = least; high = most }) (as_integer (view value.now)) }
 {
     let number = value.as_integer()?;
     match u32::try_from(number) {

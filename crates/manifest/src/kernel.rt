@@ -2,7 +2,7 @@
 ghost use Rattle.std.specs.Prelude.{◌≡◌, ◌≤◌, ◌<◌, ◌%◌, [], All, IfOk, IfErr, length};
 ghost use Rattle.toml.specs.View.{view, items_view};
 ghost use Rattle.command_parts.specs.Outside.{files};
-ghost use Rattle.cloak_model.specs.Bundle.{IsKernelImage};
+ghost use Rattle.cloak_model.specs.Bundle.{IsKernelImage, hart_counts, schedule_lengths};
 ghost use Rattle.manifest.specs.Parts.{entry_at, harts_in_order, schedule_at, turns_of};
 ghost use Rattle.manifest.specs.Faults.{ReturnsRead, by_keys};
 ghost use Rattle.manifest.specs.Images.{KernelReads};
@@ -21,7 +21,7 @@ use toml::Value;
 
 /// The harts in order, one turn each.
 fn plain_schedule(alloc: Global, harts: u32) -> Result<Vec<u8>, PackError>
-    requires { harts ≤ 4 }
+    requires { harts ≤ hart_counts.high }
     ensures order { IfOk result (λ v. v.items ≡ harts_in_order harts) }
     ensures count { IfOk result (λ v. length v.items ≡ harts) }
     ensures turns { IfOk result (λ v. All (λ h. h < harts) v.items) }
@@ -42,7 +42,7 @@ fn given_schedule(
     harts: u32,
 ) -> Result<Vec<u8>, PackError>
     requires some { 1 ≤ harts }
-    requires few { harts ≤ 4 }
+    requires few { harts ≤ hart_counts.high }
     ensures read { ReturnsRead (λ v. v.items)
         (λ r. r ≡ by_keys (turns_of place.entry.part harts [] (items_view turns.now))) result }
     ensures no_read { IfErr result IsNoReadFault }
@@ -67,12 +67,12 @@ fn given_schedule(
 #[tactic(auto, using(crate::proofs::Counted::count_of_view), unfolding(crate::specs::Parts::schedule_at, crate::specs::Parts::schedule_of))]
 fn schedule(alloc: Global, place: NamedTable<'_>, harts: u32) -> Result<Vec<u8>, PackError>
     requires some { 1 ≤ harts }
-    requires few { harts ≤ 4 }
+    requires few { harts ≤ hart_counts.high }
     ensures read { ReturnsRead (λ v. v.items)
         (λ r. r ≡ by_keys (schedule_at place.entry.part (view place.entry.table.now) harts)) result }
     ensures no_read { IfErr result IsNoReadFault }
-    ensures some_turns { IfOk result (λ v. 1 ≤ length v.items) }
-    ensures few_turns { IfOk result (λ v. length v.items ≤ 64) }
+    ensures some_turns { IfOk result (λ v. schedule_lengths.low ≤ length v.items) }
+    ensures few_turns { IfOk result (λ v. length v.items ≤ schedule_lengths.high) }
     ensures turns { IfOk result (λ v. All (λ h. h < harts) v.items) }
 {
     let Some(value) = place.value(Key::Schedule) else {

@@ -1,5 +1,6 @@
 //! The ELF file that a table names, and the pages that a program has of its parts.
 ghost use Rattle.std.specs.Prelude.{◌≡◌, ◌≤◌, ◌+◌, ◌-◌, ◌*◌, ◌%◌, All, IfOk, IfErr, length, map, replicate};
+ghost use Rattle.cloak_model.specs.Bundle.{page_counts};
 ghost use Rattle.elf_image.specs.Image.{IsImage};
 ghost use Rattle.elf_image.specs.Views.{seen, seen_image};
 ghost use Rattle.manifest.specs.Fields.{Shows};
@@ -81,7 +82,7 @@ pub fn loaded(
     base: u32,
     pages: u32,
 ) -> Result<Vec<u8>, PackError>
-    requires few { pages ≤ 1024 }
+    requires few { pages ≤ page_counts.high }
     requires from { All (λ p. base ≤ p.address) parts.now }
     requires to { All (λ p. p.address + length p.bytes.now ≤ base + 4096 * pages) parts.now }
     ensures bytes { IfOk result (λ v. v.items ≡ with_loaded base (replicate (4096 * pages) 0) (map seen parts.now)) }

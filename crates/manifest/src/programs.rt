@@ -2,7 +2,7 @@
 ghost use Rattle.std.specs.Prelude.{◌≡◌, ◌+◌, ◌*◌, ◌-◌, ◌%◌, ◌^◌, ◌≤◌, ◌<◌, ◌++◌, length, replicate, All, IfOk, IfErr};
 ghost use Rattle.toml.specs.View.{view, items_view};
 ghost use Rattle.command_parts.specs.Outside.{files};
-ghost use Rattle.cloak_model.specs.Bundle.{IsProgramIn};
+ghost use Rattle.cloak_model.specs.Bundle.{IsProgramIn, page_counts, key_numbers};
 ghost use Rattle.elf_image.specs.Image.{IsImage};
 ghost use Rattle.elf_image.specs.Views.{seen_image};
 ghost use Rattle.manifest.specs.declared.key.Key.TheVariants as keys;
@@ -43,7 +43,7 @@ const KEYS: [Key; 9] = [
 
 /// These bytes with zeros after them, in this many pages.
 fn padded(bytes: Vec<u8>, pages: u32) -> Result<Vec<u8>, PackError>
-    requires few { pages ≤ 1024 }
+    requires few { pages ≤ page_counts.high }
     requires inside { length bytes.items ≤ 4096 * pages }
     ensures padded { IfOk result (λ v. v.items ≡ bytes.items ++ replicate (4096 * pages - length bytes.items) 0) }
     ensures want { IfErr result IsWant }
@@ -56,7 +56,7 @@ fn padded(bytes: Vec<u8>, pages: u32) -> Result<Vec<u8>, PackError>
 /// The address of the first of this many pages.
 #[tactic(auto, unfolding(crate::specs::Parts::base_at))]
 fn base_address(place: NamedTable<'_>, pages: u32) -> Result<u32, FaultyKey>
-    requires { pages ≤ 1024 }
+    requires { pages ≤ page_counts.high }
     ensures read { result ≡ base_at place.entry.part (view place.entry.table.now) pages }
     ensures base { IfOk result (λ n. n % 4096 ≡ 0) }
     ensures top { IfOk result (λ n. n + 4096 * pages ≤ 2 ^ 32) }
@@ -72,7 +72,7 @@ fn base_address(place: NamedTable<'_>, pages: u32) -> Result<u32, FaultyKey>
 /// Where a program of this many pages from a base on begins, if this is its entry.
 #[tactic(auto, unfolding(crate::specs::Parts::start_from))]
 fn start_from(place: NamedTable<'_>, pages: u32, base: u32, entry: u32) -> Result<Start, FaultyKey>
-    requires few { pages ≤ 1024 }
+    requires few { pages ≤ page_counts.high }
     ensures read { result ≡ spec.start_from place.entry.part (view place.entry.table.now) pages base entry }
     ensures pages { IfOk result (λ s. s.pages ≡ pages) }
     ensures base { IfOk result (λ s. s.base ≡ base) }
@@ -92,7 +92,7 @@ fn start_from(place: NamedTable<'_>, pages: u32, base: u32, entry: u32) -> Resul
 /// Where a program of this many pages begins.
 #[tactic(auto, unfolding(crate::specs::Parts::start_at))]
 fn start(place: NamedTable<'_>, pages: u32) -> Result<Start, FaultyKey>
-    requires { pages ≤ 1024 }
+    requires { pages ≤ page_counts.high }
     ensures read { result ≡ start_at place.entry.part (view place.entry.table.now) pages }
     ensures pages { IfOk result (λ s. s.pages ≡ pages) }
     ensures base_fits { IfOk result (λ s. s.base % 4096 ≡ 0) }
@@ -109,7 +109,7 @@ fn start(place: NamedTable<'_>, pages: u32) -> Result<Start, FaultyKey>
 /// The entry of a file, which lies in the pages from the base on.
 #[tactic(auto, unfolding(crate::specs::Loading::entry_in))]
 fn entry_in(place: NamedTable<'_>, base: u32, pages: u32, entry: u32) -> Result<u32, FaultyKey>
-    requires { pages ≤ 1024 }
+    requires { pages ≤ page_counts.high }
     ensures read { result ≡ loading.entry_in place.entry.part base pages entry }
     ensures multiple { IfOk result (λ n. n % 4 ≡ 0) }
 {
@@ -131,7 +131,7 @@ fn elf_start(
     base: u32,
     pages: u32,
 ) -> Result<Start, FaultyKey>
-    requires few { pages ≤ 1024 }
+    requires few { pages ≤ page_counts.high }
     requires base { base ≡ loading.base_of (seen_image image.now).parts }
     requires multiple { base % 4096 ≡ 0 }
     ensures read { result ≡ elf_start_at place.entry.part (view place.entry.table.now) (seen_image image.now) pages }
@@ -152,7 +152,7 @@ fn elf_start(
 #[tactic(auto, unfolding(crate::specs::Parts::pages_at))]
 fn page_count(place: NamedTable<'_>, key: Key, length: usize) -> Result<u32, FaultyKey>
     ensures read { result ≡ pages_at place.entry.part (view place.entry.table.now) key length }
-    ensures range { IfOk result (λ n. (1 ≤ n) × (n ≤ 1024)) }
+    ensures range { IfOk result (λ n. (page_counts.low ≤ n) × (n ≤ page_counts.high)) }
     ensures inside { IfOk result (λ n. length ≤ 4096 * n) }
 {
     let needed = length.div_ceil(4096).max(1);
@@ -181,8 +181,8 @@ fn first_frame(place: NamedTable<'_>, frames: u32, pages: u32) -> Result<u32, Fa
 
 /// The number of a program's key.
 fn key_number(place: NamedTable<'_>) -> Result<u32, FaultyKey>
-    ensures read { result ≡ number_or_at place.entry.part (view place.entry.table.now) keys.KeyNumber 0 3 0 }
-    ensures few { IfOk result (λ n. n < 4) }
+    ensures read { result ≡ number_or_at place.entry.part (view place.entry.table.now) keys.KeyNumber key_numbers 0 }
+    ensures few { IfOk result (λ n. n ≤ key_numbers.high) }
 {
     place.number_or(Key::KeyNumber, 0, 3, 0)
 }

@@ -1,9 +1,10 @@
 //! The segments of an image.
-ghost use Rattle.std.specs.Prelude.{◌≡◌, ◌≤◌, ◌+◌, ◌-◌, ◌++◌, ◌∷◌, ◌&&◌, [], All, IfOk, IfErr, OnOk, length, map, nat_le, replicate};
+ghost use Rattle.std.specs.Prelude.{◌≡◌, ◌≤◌, ◌+◌, ◌-◌, ◌++◌, ◌∷◌, [], All, IfOk, IfErr, OnOk, length, map, nat_le, replicate};
 ghost use Rattle.toml.specs.View.{view, items_view};
 ghost use Rattle.command_parts.specs.Outside.{files};
-ghost use Rattle.cloak_base.specs.Constants.{ram_end, ram_start};
-ghost use Rattle.cloak_model.specs.Bundle.{IsSegmentIn};
+ghost use Rattle.cloak_base.specs.Constants.{ram_end};
+ghost use Rattle.cloak_model.specs.Bundle.{IsSegmentIn, frame_counts, segment_counts};
+ghost use Rattle.cloak_model.specs.BundleFault.{lies_in_ram};
 ghost use Rattle.elf_image.specs.Image.{IsPart};
 ghost use Rattle.elf_image.specs.Views.{seen};
 ghost use Rattle.manifest.specs.declared.key.Key.TheVariants as keys;
@@ -29,7 +30,7 @@ use toml::Value;
 
 /// This many bytes from this address of RAM on lie in RAM.
 fn is_in_ram(address: u32, size: usize, frames: u32) -> bool
-    requires frames { frames ≤ 4096 }
+    requires frames { frames ≤ frame_counts.high }
     ensures { result ≡ nat_le (address + size) (ram_end frames) }
 {
     let end = ram_end(frames);
@@ -40,7 +41,7 @@ fn is_in_ram(address: u32, size: usize, frames: u32) -> bool
 /// The segment of these bytes that a table means.
 #[tactic(auto, unfolding(crate::specs::Parts::segment_at))]
 fn placed_segment(place: NamedTable<'_>, bytes: Vec<u8>, frames: u32) -> Result<Segment, FaultyKey>
-    requires frames { frames ≤ 4096 }
+    requires frames { frames ≤ frame_counts.high }
     ensures read { result ≡ segment_at place.entry.part (view place.entry.table.now) frames bytes.items }
     ensures in_ram { IfOk result (IsSegmentIn frames) }
 {
@@ -60,7 +61,7 @@ fn push_segment(segments: &mut Vec<Segment>, segment: Segment) -> Result<(), Pac
         (λ r. r ≡ by_keys (with_segment segments.old.items segment)) result }
     ensures no_read { IfErr result IsNoReadFault }
     ensures pushed { OnOk result (segments.new.items ≡ segments.old.items ++ segment ∷ []) }
-    ensures few { OnOk result (length segments.new.items ≤ 16) }
+    ensures few { OnOk result (length segments.new.items ≤ segment_counts.high) }
 {
     if segments.len() >= 16 {
         return Err(PackError::from(FaultyKey {
@@ -75,9 +76,8 @@ fn push_segment(segments: &mut Vec<Segment>, segment: Segment) -> Result<(), Pac
 
 /// A part of memory lies in RAM.
 fn part_is_in_ram(part: &ElfPart<'_>, frames: u32) -> bool
-    requires frames { frames ≤ 4096 }
-    ensures { result
-        ≡ (nat_le ram_start part.now.address && nat_le (part.now.address + part.now.size) (ram_end frames)) }
+    requires frames { frames ≤ frame_counts.high }
+    ensures { result ≡ lies_in_ram frames part.now.address part.now.size }
 {
     RAM_START <= part.address && is_in_ram(part.address, part.size as usize, frames)
 }
@@ -102,7 +102,7 @@ fn part_segment(
     part: &ElfPart<'_>,
     frames: u32,
 ) -> Result<Segment, PackError>
-    requires frames { frames ≤ 4096 }
+    requires frames { frames ≤ frame_counts.high }
     requires inside { length part.now.bytes.now ≤ part.now.size }
     ensures read { ReturnsRead (λ s. s)
         (λ r. r ≡ by_keys (spec.part_segment place.entry.part frames (seen part.now))) result }
@@ -126,14 +126,14 @@ fn add_parts(
     frames: u32,
     segments: &mut Vec<Segment>,
 ) -> Result<(), PackError>
-    requires frames { frames ≤ 4096 }
+    requires frames { frames ≤ frame_counts.high }
     requires parts { All IsPart (map seen parts.now) }
-    requires few { length segments.old.items ≤ 16 }
+    requires few { length segments.old.items ≤ segment_counts.high }
     requires in_ram { All (IsSegmentIn frames) segments.old.items }
     ensures read { ReturnsRead (λ _. segments.new.items)
         (λ r. r ≡ by_keys (with_parts place.entry.part frames segments.old.items (map seen parts.now))) result }
     ensures no_read { IfErr result IsNoReadFault }
-    ensures few { OnOk result (length segments.new.items ≤ 16) }
+    ensures few { OnOk result (length segments.new.items ≤ segment_counts.high) }
     ensures in_ram { OnOk result (All (IsSegmentIn frames) segments.new.items) }
 {
     for part in parts {
@@ -151,13 +151,13 @@ fn add_elf(
     frames: u32,
     segments: &mut Vec<Segment>,
 ) -> Result<(), PackError>
-    requires frames { frames ≤ 4096 }
-    requires few { length segments.old.items ≤ 16 }
+    requires frames { frames ≤ frame_counts.high }
+    requires few { length segments.old.items ≤ segment_counts.high }
     requires in_ram { All (IsSegmentIn frames) segments.old.items }
     ensures read { ReturnsRead (λ _. segments.new.items)
         (λ r. r ≡ by_keys (with_elf place.entry.part frames segments.old.items file.now)) result }
     ensures no_read { IfErr result IsNoReadFault }
-    ensures few { OnOk result (length segments.new.items ≤ 16) }
+    ensures few { OnOk result (length segments.new.items ≤ segment_counts.high) }
     ensures in_ram { OnOk result (All (IsSegmentIn frames) segments.new.items) }
 {
     let image = image_of(place, file)?;
@@ -171,12 +171,12 @@ fn add_flat(
     frames: u32,
     segments: &mut Vec<Segment>,
 ) -> Result<(), PackError>
-    requires frames { frames ≤ 4096 }
+    requires frames { frames ≤ frame_counts.high }
     requires in_ram { All (IsSegmentIn frames) segments.old.items }
     ensures read { ReturnsRead (λ _. segments.new.items) (λ r. r ≡ by_keys (with_flat place.entry.part
         (view place.entry.table.now) frames segments.old.items bytes.items)) result }
     ensures no_read { IfErr result IsNoReadFault }
-    ensures few { OnOk result (length segments.new.items ≤ 16) }
+    ensures few { OnOk result (length segments.new.items ≤ segment_counts.high) }
     ensures in_ram { OnOk result (All (IsSegmentIn frames) segments.new.items) }
 {
     let segment = placed_segment(place, bytes, frames)?;
@@ -193,13 +193,13 @@ fn add_segments<S: Shelf>(
     segments: &mut Vec<Segment>,
 ) -> Result<(), PackError>
     requires settled { S.is_settled shelf.old }
-    requires frames { frames ≤ 4096 }
-    requires few { length segments.old.items ≤ 16 }
+    requires frames { frames ≤ frame_counts.high }
+    requires few { length segments.old.items ≤ segment_counts.high }
     requires in_ram { All (IsSegmentIn frames) segments.old.items }
     ensures read { ReturnsRead (λ _. segments.new.items)
         (SegmentsBy (S.held shelf.old) manifest.now place.entry.part frames (view place.entry.table.now)
         (stands_at keys.Elf (view place.entry.table.now)) segments.old.items) result }
-    ensures few { OnOk result (length segments.new.items ≤ 16) }
+    ensures few { OnOk result (length segments.new.items ≤ segment_counts.high) }
     ensures in_ram { OnOk result (All (IsSegmentIn frames) segments.new.items) }
     ensures reads { ReadsParts (files S.Shelf shelf.old) (files S.Shelf shelf.new) result }
     ensures settled { S.is_settled shelf.new }
@@ -223,12 +223,12 @@ fn segment<S: Shelf>(
     segments: &mut Vec<Segment>,
 ) -> Result<(), PackError>
     requires settled { S.is_settled shelf.old }
-    requires frames { frames ≤ 4096 }
-    requires few { length segments.old.items ≤ 16 }
+    requires frames { frames ≤ frame_counts.high }
+    requires few { length segments.old.items ≤ segment_counts.high }
     requires in_ram { All (IsSegmentIn frames) segments.old.items }
     ensures read { ReturnsRead (λ _. segments.new.items)
         (SegmentReads (S.held shelf.old) manifest.now frames number (view table.now) segments.old.items) result }
-    ensures few { OnOk result (length segments.new.items ≤ 16) }
+    ensures few { OnOk result (length segments.new.items ≤ segment_counts.high) }
     ensures in_ram { OnOk result (All (IsSegmentIn frames) segments.new.items) }
     ensures reads { ReadsParts (files S.Shelf shelf.old) (files S.Shelf shelf.new) result }
     ensures settled { S.is_settled shelf.new }
@@ -248,10 +248,10 @@ pub fn segments<S: Shelf>(
     frames: u32,
 ) -> Result<Vec<Segment>, PackError>
     requires settled { S.is_settled shelf.old }
-    requires frames { frames ≤ 4096 }
+    requires frames { frames ≤ frame_counts.high }
     ensures read { ReturnsRead (λ v. v.items)
         (SegmentsRead (S.held shelf.old) manifest.now frames (items_view tables.now)) result }
-    ensures few { IfOk result (λ v. length v.items ≤ 16) }
+    ensures few { IfOk result (λ v. length v.items ≤ segment_counts.high) }
     ensures in_ram { IfOk result (λ v. All (IsSegmentIn frames) v.items) }
     ensures reads { ReadsParts (files S.Shelf shelf.old) (files S.Shelf shelf.new) result }
     ensures settled { S.is_settled shelf.new }

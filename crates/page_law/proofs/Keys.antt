@@ -12,7 +12,7 @@ use Rattle.cloak_base.specs.declared.names.PageId.{PageId}
 use Rattle.cloak_model.specs.declared.image.Bundle.{Bundle}
 use Rattle.cloak_model.specs.declared.image.Program.{Program}
 use Rattle.cloak_model.specs.Beginning.{stored_keys}
-use Rattle.cloak_model.specs.Bundle.{IsProgramIn}
+use Rattle.cloak_model.specs.Bundle.{key_numbers, IsProgramIn}
 use Rattle.cloak_model.specs.Ledger.{key_in}
 use Rattle.cloak_model.specs.Opening.{key_count, drawn_keys, filled_up, keys_for}
 use Rattle.page_law.specs.Ciphers.{numbered_draw, draw_at}
@@ -108,7 +108,7 @@ group_is programs d p few found =
 
 -- the key of a page as a run begins
 pub programs_have_keys : (programs : List Program) (stream : Random) (draw : List (List ℕ) × Random) →
-    length programs ≤ 4 → ((d : ℕ) (p : Program) → slice_get programs d ≡ Some p → p.key < 4) →
+    length programs ≤ 4 → ((d : ℕ) (p : Program) → slice_get programs d ≡ Some p → p.key ≤ key_numbers.high) →
     drawn_keys (key_count programs) stream ≡ Some draw → (page : PageId) (p : Program) →
     slice_get programs page.domain ≡ Some p →
     draw_at p.key stream ≡ Some (key_in (keys_for programs draw.0) page)
@@ -117,8 +117,9 @@ programs_have_keys programs stream draw few low is page p found =
     let numbered : List (List ℕ) = filled_up (replicate 16 0) draw.0 in
     let below = key_below programs page.domain p found in
     let count = drawn.count in
+    let few_keys : p.key ≤ 3 = low page.domain p found in
     let key : slice_index_or numbered p.key [] ≡ slice_index_or draw.0 p.key [] =
-    filled_at (replicate 16 0) draw.0 p.key [] (low page.domain p found) (omega (arith, below, count)) in
+    filled_at (replicate 16 0) draw.0 p.key [] (omega arith) (omega (arith, below, count)) in
     drawn.each p.key below
     ∙ ap (λ (k : List ℕ). Some k)
     (sym (ap (λ (g : ℕ). slice_index_or numbered g []) (group_is programs page.domain p few found) ∙ key))

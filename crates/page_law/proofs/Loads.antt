@@ -4,7 +4,7 @@ use Rattle.cloak_base.specs.declared.names.PageId.{PageId}
 use Rattle.cloak_model.specs.declared.context.Phase.{Phase}
 use Rattle.cloak_model.specs.declared.context.Phase.TheVariants.{Plain, CopyIn, Waiting, CopyOut}
 use Rattle.cloak_model.specs.declared.context.ResumeFault.{ResumeFault}
-use Rattle.cloak_model.specs.declared.context.WordPlace.{WordPlace}
+use Rattle.cloak_model.specs.declared.context.PageWord.{PageWord}
 use Rattle.cloak_model.specs.declared.image.Bundle.{Bundle}
 use Rattle.cloak_model.specs.declared.inside.Copied.{Copied}
 use Rattle.cloak_model.specs.declared.inside.Copied.TheVariants as copied
@@ -73,7 +73,7 @@ loads_stay was plain found made same (NoLoad is) = NoLoad (same ∙ is)
 loads_stay was plain found made same (OneLoad slot c there va value is of) = OneLoad slot c there va value (same ∙ is) of
 
 -- a word that was written in changes no load
-written_loads : (wrote : Option WordPlace) (s : DomainStepped) → (after_write wrote s).domain.loads ≡ s.domain.loads
+written_loads : (wrote : Option PageWord) (s : DomainStepped) → (after_write wrote s).domain.loads ≡ s.domain.loads
 written_loads None s = refl
 written_loads (Some place) s = refl
 

@@ -52,7 +52,7 @@ offer_shows : {count : ℕ} (q : PageId) (g : ℕ) (write : Bool) (c : MidStep) 
     (record c {
       memory = o.memory;
       items = c.items ++ cipher_items o.ciphers;
-      events = c.events ++ offer_events q g c.memory o.answer;
+      events = c.events ++ offer_events q g c.memory o.granted;
     }))
 offer_shows q g write c low =
     shows_by c _ (cipher_items (offer q g write c.memory).ciphers) refl (offer_draws q g write c.memory low)
@@ -95,7 +95,7 @@ pub shows_reach : {count : ℕ} (q : PageId) (va : ℕ) (kind : Kind) (w : World
 shows_reach {count} q va kind w low =
     keeps_reached_page (OnlyShows count) show_replies q va (record {
       offered = λ g write c. offer_shows q g write c low;
-      granted = λ kind w. shows_noted _ w;
+      granted = λ kind walked w. shows_noted _ w;
       mismatched = λ g c. shows_by c _ [] (sym (append-nil c.items)) (draws_same c.memory _ refl refl);
     }) kind w
 

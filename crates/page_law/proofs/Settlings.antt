@@ -11,10 +11,10 @@ use Rattle.cloak_model.specs.declared.item.Item.{Item}
 use Rattle.cloak_model.specs.declared.item.Item.TheVariants as item
 use Rattle.cloak_model.specs.Ahead.{is_owed, settle_found, settle_while, settle_touched}
 use Rattle.cloak_model.specs.Beginning.{Beginning}
-use Rattle.cloak_model.specs.Cloaking.{CloakedMemory, AfterSettling, AfterOffer, Ready, Mismatch, owed_in, settle_owed, settle_if, settle, settle_frame_if, owing_frame, owes, with_owed, with_comparison, taken, compared, unless_missed, offer}
+use Rattle.cloak_model.specs.Cloaking.{CloakedMemory, AfterSettling, AfterOffer, owed_in, settle_owed, settle_if, settle, settle_frame_if, owing_frame, owes, with_owed, with_comparison, taken, compared, unless_missed, offer}
 use Rattle.cloak_model.specs.Hart.{Hart}
 use Rattle.cloak_model.specs.Ledger.{key_of, vector_of}
-use Rattle.cloak_model.specs.Touched.{touched}
+use Rattle.cloak_model.specs.StepFrames.{step_frames}
 use Rattle.cloak_model.specs.World.{cipher_items}
 use Rattle.page_law.specs.Ciphers.{shown_under, ShowsPage}
 use Rattle.page_law.proofs.Draws.{OwesPagesOf, owed_at, owed_set, HasDrawn, draw_made, draw_missed, Draws, draws_none, draws_same, draws_then}
@@ -111,7 +111,7 @@ while_draws frames (suc n) m =
 pub touched_draws : {count : ℕ} (h : Hart) (disk : List ℕ) (m : CloakedMemory) →
     SettlingDraws count m (settle_touched h disk m)
 unfolding settle_touched
-touched_draws h disk m = while_draws (λ ram. touched h ram disk) (length m.ledger.owed) m
+touched_draws h disk m = while_draws (λ ram. step_frames h ram disk) (length m.ledger.owed) m
 
 -- Offers, of pages of programs that there are.
 
@@ -137,8 +137,8 @@ compared_draws q g write None m low = owes_draws q g m low
 compared_draws {count} q g write (Some c) m low =
     let there : List ℕ = slice_index_or m.ram g [] in
     let after : CloakedMemory = with_comparison there c m in
-    let same : AfterOffer = record { memory = taken q g write after; ciphers = []; answer = Ready } in
-    let other : AfterOffer = record { memory = after; ciphers = []; answer = Mismatch } in
+    let same : AfterOffer = record { memory = taken q g write after; ciphers = []; granted = true } in
+    let other : AfterOffer = record { memory = after; ciphers = []; granted = false } in
     let marked : Draws count m [] after = draws_none m after refl refl (λ all enough owes. owes) refl in
     either (OfferDraws count m) (bytes_eq there c) same other (taken_draws q g write m after low marked) marked
 

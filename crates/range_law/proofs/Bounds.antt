@@ -72,9 +72,6 @@ rest_below n = omega arith
 pub word_at : (words : List ℕ) (i : ℕ) → AreWords words → IsWord (slice_index_or words i 0)
 word_at words i all = all_or IsWord words i 0 all (omega arith)
 
-pub words_set : (words : List ℕ) (i w : ℕ) → AreWords words → IsWord w → AreWords (slice_set words i w)
-words_set words i w all here = all_set IsWord words i w all here
-
 -- Bytes.
 
 pub byte_at : (bytes : List ℕ) (i : ℕ) → AreBytes bytes → slice_index_or bytes i 0 < 256

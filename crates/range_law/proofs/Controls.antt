@@ -8,7 +8,7 @@ use Rattle.cloak_base.specs.Registers.{register}
 use Rattle.cloak_model.specs.declared.context.Phase.{Phase}
 use Rattle.cloak_model.specs.declared.context.Phase.TheVariants.{Plain, CopyIn, Waiting, CopyOut}
 use Rattle.cloak_model.specs.declared.context.ResumeFault.{ResumeFault}
-use Rattle.cloak_model.specs.declared.context.WordPlace.{WordPlace}
+use Rattle.cloak_model.specs.declared.context.PageWord.{PageWord}
 use Rattle.cloak_model.specs.declared.context.Why.{Why}
 use Rattle.cloak_model.specs.declared.context.Why.TheVariants as why
 use Rattle.cloak_model.specs.declared.inside.Copied.{Copied}
@@ -378,7 +378,7 @@ copy_ended_fits slot d c _ low fits here e = step_of d _ (stays_fits slot c d.co
 
 -- a word was written in
 
-unreserved_fits : (place : WordPlace) (o : Option Context) → SlotFits o → SlotFits (unless_reserved place o)
+unreserved_fits : (place : PageWord) (o : Option Context) → SlotFits o → SlotFits (unless_reserved place o)
 unreserved_fits place None fits = tt
 unreserved_fits place (Some c) fits =
     either ContextFits (is_reserved place c.mark) (record c { mark = None }) c (record {
@@ -386,7 +386,7 @@ unreserved_fits place (Some c) fits =
       pc = fits.pc;
     }) fits
 
-after_write_fits : (wrote : Option WordPlace) (s : DomainStepped) → DomainStepFits s →
+after_write_fits : (wrote : Option PageWord) (s : DomainStepped) → DomainStepFits s →
     DomainStepFits (after_write wrote s)
 after_write_fits None s fits = fits
 after_write_fits (Some place) s fits =

@@ -8,12 +8,12 @@ use Rattle.cloak_base.specs.Random.{Random}
 use Rattle.cloak_base.specs.Pages.{zero_page}
 use Rattle.cloak_base.specs.declared.names.PageId.{PageId}
 use Rattle.cloak_model.specs.Ahead.{is_owed, settle_found, settle_while, settle_touched, with_shown}
-use Rattle.cloak_model.specs.Cloaking.{CloakedMemory, AfterSettling, AfterOffer, owed_in, settle_owed, settle_if, settle, settle_frame_if, owing_frame, owes, with_owed, with_comparison, taken, Ready, Mismatch, compared, unless_missed, offer, seen_in}
+use Rattle.cloak_model.specs.Cloaking.{CloakedMemory, AfterSettling, AfterOffer, owed_in, settle_owed, settle_if, settle, settle_frame_if, owing_frame, owes, with_owed, with_comparison, taken, compared, unless_missed, offer, seen_in}
 use Rattle.cloak_model.specs.Hart.{Hart}
 use Rattle.cloak_model.specs.Ledger.{Keys, key_in, key_of, vector_of}
 use Rattle.cloak_model.specs.Memory.{Seen, filled}
 use Rattle.cloak_model.specs.Record.{IsItem}
-use Rattle.cloak_model.specs.Touched.{touched}
+use Rattle.cloak_model.specs.StepFrames.{step_frames}
 use Rattle.cloak_model.specs.World.{cipher_items}
 use Rattle.kernel_isolation.proofs.Settlings.{HasPlaces, ShownBy, settle_shown}
 use Rattle.kernel_isolation.proofs.Shown.{AreFrames, either}
@@ -149,7 +149,7 @@ while_fits frames (suc n) m fits =
 pub touched_fits : (h : Hart) (disk : List ℕ) (m : CloakedMemory) → MemoryFits m →
     let s = settle_touched h disk m in ShowsFit s.ciphers s.memory
 unfolding settle_touched
-touched_fits h disk m fits = while_fits (λ ram. touched h ram disk) (length m.ledger.owed) m fits
+touched_fits h disk m fits = while_fits (λ ram. step_frames h ram disk) (length m.ledger.owed) m fits
 
 -- Offers.
 
@@ -186,8 +186,8 @@ compared_fits q g write (Some c) m fits =
     let there : List ℕ = slice_index_or m.ram g [] in
     let m' : CloakedMemory = with_comparison there c m in
     let marked = comparison_fits there c m fits in
-    let same : AfterOffer = record { memory = taken q g write m'; ciphers = []; answer = Ready } in
-    let other : AfterOffer = record { memory = m'; ciphers = []; answer = Mismatch } in
+    let same : AfterOffer = record { memory = taken q g write m'; ciphers = []; granted = true } in
+    let other : AfterOffer = record { memory = m'; ciphers = []; granted = false } in
     either OfferFits (bytes_eq there c) same other (shows_none _ (taken_fits q g write m' marked)) (shows_none m' marked)
 
 unless_fits : (s : AfterSettling) (next : CloakedMemory → AfterOffer) → ShowsFit s.ciphers s.memory →

@@ -15,7 +15,7 @@ use Rattle.cloak_model.specs.declared.image.Segment.{Segment}
 use Rattle.cloak_model.specs.declared.item.Item.TheVariants as item
 use Rattle.cloak_model.specs.declared.resource.Resource.{Resource}
 use Rattle.cloak_model.specs.Beginning.{Beginning, Fresh, Stored, stored_keys, opening_from}
-use Rattle.cloak_model.specs.Bundle.{IsKernelImage, IsProgramIn, IsInGrammar}
+use Rattle.cloak_model.specs.Bundle.{IsKernelImage, IsProgramIn, IsInGrammar, key_numbers}
 use Rattle.cloak_model.specs.Cloaking.{CloakedMemory, ciphertext_of}
 use Rattle.cloak_model.specs.Contexts.{Context, started_contexts}
 use Rattle.cloak_model.specs.DomainState.{started_control, started_domain}
@@ -122,7 +122,7 @@ four_fit : (frames : ℕ) (programs : List Program) (keys : List (List ℕ)) →
     AllByRecursion (IsProgramIn frames) programs → length keys ≡ 4 → All (IsBytes 16) keys → (q : PageId) →
     IsBytes 16 (key_in (record { numbered = keys; group = groups programs }) q)
 four_fit frames programs keys are long all q =
-    let IsNumber : ℕ → Type 0 = λ k. k < 4 in
+    let IsNumber : ℕ → Type 0 = λ k. k ≤ key_numbers.high in
     let numbers : List ℕ = map (λ (p : Program). p.key) programs in
     let each = all_map (IsProgramIn frames) IsNumber (λ (p : Program). p.key) programs (λ p is. is.key) are in
     let group = all_or IsNumber (filled_up 0 numbers) q.domain 0 (filled_fits IsNumber 0 numbers each (omega arith))

@@ -15,7 +15,7 @@ use Rattle.cloak_model.specs.declared.answer.Answer.{Answer}
 use Rattle.cloak_model.specs.declared.answer.Answer.TheVariants as told
 use Rattle.cloak_model.specs.declared.context.Phase.{Phase}
 use Rattle.cloak_model.specs.declared.context.Phase.TheVariants.{Plain, CopyIn, Waiting, CopyOut}
-use Rattle.cloak_model.specs.declared.context.WordPlace.{WordPlace}
+use Rattle.cloak_model.specs.declared.context.PageWord.{PageWord}
 use Rattle.cloak_model.specs.declared.context.Why.{Why}
 use Rattle.cloak_model.specs.declared.context.Why.TheVariants as why
 use Rattle.cloak_model.specs.declared.inside.Copied.{Copied}
@@ -170,7 +170,7 @@ written_fits : (c : Context) (rd value : ℕ) → ContextFits c → IsWord value
     ContextFits (moved_on (set_word c rd value))
 written_fits c rd value fits here = moved_on_fits _ (set_word_fits c rd value fits here)
 
-marked_fits : (c : Context) (rd value : ℕ) (mark : Option WordPlace) → ContextFits c → IsWord value →
+marked_fits : (c : Context) (rd value : ℕ) (mark : Option PageWord) → ContextFits c → IsWord value →
     ContextFits (moved_on (record (set_word c rd value) { mark = mark }))
 marked_fits c rd value mark fits here =
     let wrote = written_fits c rd value fits here in record { regs = wrote.regs; pc = wrote.pc }

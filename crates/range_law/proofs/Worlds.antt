@@ -12,14 +12,15 @@ use Rattle.cloak_base.specs.declared.names.Kind.TheVariants.{Fetch, Load, Store}
 use Rattle.cloak_base.specs.declared.names.PageId.{PageId}
 use Rattle.cloak_base.specs.Pages.{same_page, is_of, page_in}
 use Rattle.cloak_model.specs.declared.access.Access.{Access}
+use Rattle.cloak_model.specs.declared.access.Walked.{Walked}
 use Rattle.cloak_model.specs.declared.answer.Answer.{Answer}
 use Rattle.cloak_model.specs.declared.answer.Answer.TheVariants as answer
 use Rattle.cloak_model.specs.declared.item.Item.{Item}
 use Rattle.cloak_model.specs.Ask.{ask_word, ask_walk, ask_in_ram, ask_translate, ask_led, opened, ask_count, ask_value, ask_store, loaded_at, ask_load, stored_to, ask_store_at, ask_mark, ask_unmark, ask_marked, reserved_at, ask_reserve, is_reserved, stored_value, stored_if, conditional_at, ask_store_conditional, combined_at, ask_combine, ask_frame, ask_fill}
 use Rattle.cloak_model.proofs.WalkParts.{ask_second, ask_after, ask_first}
-use Rattle.cloak_model.specs.AskPages.{answer_item, replies, if_drawn, inside_access, ask_inside_address, is_store, offered_by, ask_offer, reached, reach_by_table, get_at, got, get_by_table, put_at, stored_inside, put_by_table, settled_if_marked, clear_from, ask_reach, ask_read, ask_write, ask_get, ask_put, ask_clear, ask_copy, ask_forget}
+use Rattle.cloak_model.specs.AskPages.{answer_item, replies, if_drawn, inside_access, ask_led_inside, is_store, offered_by, ask_offer, reached, reach_by_table, get_at, got, get_by_table, put_at, stored_inside, put_by_table, settled_if_marked, clear_from, ask_reach, ask_read, ask_write, ask_get, ask_put, ask_clear, ask_copy, ask_forget}
 use Rattle.cloak_model.specs.Asking.{Told, Asking, answered, then_ask}
-use Rattle.cloak_model.specs.Cloaking.{OfferEnd, Ready, Mismatch, Missed, seen_in, with_seen}
+use Rattle.cloak_model.specs.Cloaking.{offer, seen_in, with_seen}
 use Rattle.cloak_model.specs.Effect.{IsWidth}
 use Rattle.cloak_model.specs.Events.{Event}
 use Rattle.cloak_base.specs.Constants.{frame_of, place_of}
@@ -209,8 +210,8 @@ walk_told satp a w fits =
 
 -- where an access leads
 
-abbrev pub LeadFits : Result ℕ ℕ → Type 0
-LeadFits (Ok pa) = IsWord pa
+abbrev pub LeadFits : Walk → Type 0
+LeadFits (Ok walked) = IsWord walked.pa
 LeadFits (Err cause) = IsWord cause
 
 in_ram_fits : (ram : List (List ℕ)) (pa : ℕ) → FramesFit ram → is_in_ram ram pa ≡ true → IsWord pa
@@ -225,7 +226,7 @@ inside_told : (a : Access) (walk : Walk) (w : World) → CauseFits walk → Worl
 unfolding ask_in_ram
 inside_told a (Err cause) w walks fits = record { answer = walks; world = fits }
 inside_told a (Ok walked) w walks fits = record {
-  answer = cond_both (is_in_ram (ram_of w) walked.pa) (Ok walked.pa) (Err (access_fault a.kind)) LeadFits
+  answer = cond_both (is_in_ram (ram_of w) walked.pa) (Ok walked) (Err (access_fault a.kind)) LeadFits
       (λ is. in_ram_fits (ram_of w) walked.pa (frames_of w fits) is) (λ is. access_fault_fits a.kind);
   world = fits;
 }
@@ -240,8 +241,8 @@ led_told : (satp : ℕ) (a : Access) (w : World) → WorldFits w → ToldFits Le
 unfolding ask_led
 led_told satp a w fits = translate_told satp a _ (noted_fits _ w fits)
 
-opened_fits : (satp : ℕ) (a : Access) (pa : ℕ) (w : World) → WorldFits w → WorldFits (opened satp a pa w)
-opened_fits satp a pa w fits = noted_fits _ _ (settled_fits (frame_of pa) w fits)
+opened_fits : (satp : ℕ) (a : Access) (walked : Walked) (w : World) → WorldFits w → WorldFits (opened satp a walked w)
+opened_fits satp a walked w fits = noted_fits _ _ (settled_fits (frame_of walked.pa) w fits)
 
 -- Memory.
 
@@ -252,30 +253,30 @@ count_told w fits = record { answer = tt; world = fits }
 value_fits : (pa width : ℕ) (w : World) → WorldFits w → IsWord (value_at (ram_of w) pa width)
 value_fits pa width w fits = value_in_below _ (place_of pa) width (frame_bytes (ram_of w) (frame_of pa) (frames_of w fits))
 
-value_told : (satp : ℕ) (a : Access) (pa width : ℕ) (w : World) → WorldFits w →
-    ToldFits IsWord (ask_value satp a pa width w)
+value_told : (satp : ℕ) (a : Access) (walked : Walked) (width : ℕ) (w : World) → WorldFits w →
+    ToldFits IsWord (ask_value satp a walked width w)
 unfolding ask_value
-value_told satp a pa width w fits =
-    let there = opened_fits satp a pa w fits in
-    record { answer = value_fits pa width (opened satp a pa w) there; world = noted_fits _ _ there }
+value_told satp a walked width w fits =
+    let there = opened_fits satp a walked w fits in
+    record { answer = value_fits walked.pa width (opened satp a walked w) there; world = noted_fits _ _ there }
 
-store_told : (satp : ℕ) (a : Access) (pa width value : ℕ) (w : World) → WorldFits w →
-    ToldFits Anything (ask_store satp a pa width value w)
+store_told : (satp : ℕ) (a : Access) (walked : Walked) (width value : ℕ) (w : World) → WorldFits w →
+    ToldFits Anything (ask_store satp a walked width value w)
 unfolding ask_store
-store_told satp a pa width value w fits =
-    record { answer = tt; world = stored_fits pa width value _ (opened_fits satp a pa w fits) }
+store_told satp a walked width value w fits =
+    record { answer = tt; world = stored_fits walked.pa width value _ (opened_fits satp a walked w fits) }
 
 -- what an access found
 abbrev pub FoundFits : {A : Type 0} → (A → Type 0) → Result A ℕ → Type 0
 FoundFits P (Ok found) = P found
 FoundFits P (Err cause) = IsWord cause
 
-loaded_told : (satp : ℕ) (a : Access) (width : ℕ) (to : Result ℕ ℕ) (w : World) → LeadFits to → WorldFits w →
+loaded_told : (satp : ℕ) (a : Access) (width : ℕ) (to : Walk) (w : World) → LeadFits to → WorldFits w →
     ToldFits (FoundFits IsWord) (loaded_at satp a width to w)
 unfolding loaded_at
 loaded_told satp a width (Err cause) w leads fits = record { answer = leads; world = fits }
-loaded_told satp a width (Ok pa) w leads fits =
-    let told = value_told satp a pa width w fits in record { answer = told.answer; world = told.world }
+loaded_told satp a width (Ok walked) w leads fits =
+    let told = value_told satp a walked width w fits in record { answer = told.answer; world = told.world }
 
 pub load_told : (satp : ℕ) (a : Access) (width : ℕ) (w : World) → WorldFits w →
     ToldFits (FoundFits IsWord) (ask_load satp a width w)
@@ -284,12 +285,12 @@ load_told satp a width w fits =
     then_fits LeadFits (FoundFits IsWord) (ask_led satp a) (loaded_at satp a width) w (led_told satp a w fits)
     (λ to v leads there. loaded_told satp a width to v leads there)
 
-stored_to_told : (satp : ℕ) (a : Access) (width value : ℕ) (to : Result ℕ ℕ) (w : World) → LeadFits to → WorldFits w →
+stored_to_told : (satp : ℕ) (a : Access) (width value : ℕ) (to : Walk) (w : World) → LeadFits to → WorldFits w →
     ToldFits (FoundFits Anything) (stored_to satp a width value to w)
 unfolding stored_to
 stored_to_told satp a width value (Err cause) w leads fits = record { answer = leads; world = fits }
-stored_to_told satp a width value (Ok pa) w leads fits =
-    let told = store_told satp a pa width value w fits in record { answer = tt; world = told.world }
+stored_to_told satp a width value (Ok walked) w leads fits =
+    let told = store_told satp a walked width value w fits in record { answer = tt; world = told.world }
 
 pub store_at_told : (satp : ℕ) (a : Access) (width value : ℕ) (w : World) → WorldFits w →
     ToldFits (FoundFits Anything) (ask_store_at satp a width value w)
@@ -312,14 +313,14 @@ marked_told : (hart : ℕ) (w : World) → WorldFits w → ToldFits Anything (as
 unfolding ask_marked
 marked_told hart w fits = record { answer = tt; world = fits }
 
-reserved_told : (satp : ℕ) (a : Access) (hart : ℕ) (to : Result ℕ ℕ) (w : World) → LeadFits to → WorldFits w →
+reserved_told : (satp : ℕ) (a : Access) (hart : ℕ) (to : Walk) (w : World) → LeadFits to → WorldFits w →
     ToldFits (FoundFits IsWord) (reserved_at satp a hart to w)
 unfolding reserved_at
 reserved_told satp a hart (Err cause) w leads fits = record { answer = leads; world = fits }
-reserved_told satp a hart (Ok pa) w leads fits =
-    then_fits IsWord (FoundFits IsWord) (ask_value satp a pa 4)
-    (λ value. then_ask (ask_mark hart pa) (λ done. answered (Ok value))) w (value_told satp a pa 4 w fits)
-    (λ value v below there. let told = mark_told hart pa v there in record { answer = below; world = told.world })
+reserved_told satp a hart (Ok walked) w leads fits =
+    then_fits IsWord (FoundFits IsWord) (ask_value satp a walked 4)
+    (λ value. then_ask (ask_mark hart walked.pa) (λ done. answered (Ok value))) w (value_told satp a walked 4 w fits)
+    (λ value v below there. let told = mark_told hart walked.pa v there in record { answer = below; world = told.world })
 
 pub reserve_told : (satp : ℕ) (a : Access) (hart : ℕ) (w : World) → WorldFits w →
     ToldFits (FoundFits IsWord) (ask_reserve satp a hart w)
@@ -337,15 +338,16 @@ stored_if_told true hart pa value w fits =
 stored_if_told false hart pa value w fits =
     let told = unmark_told hart w fits in record { answer = tt; world = told.world }
 
-conditional_told : (satp : ℕ) (a : Access) (hart value : ℕ) (to : Result ℕ ℕ) (w : World) → LeadFits to →
+conditional_told : (satp : ℕ) (a : Access) (hart value : ℕ) (to : Walk) (w : World) → LeadFits to →
     WorldFits w → ToldFits (FoundFits Anything) (conditional_at satp a hart value to w)
 unfolding conditional_at
 conditional_told satp a hart value (Err cause) w leads fits = record { answer = leads; world = fits }
-conditional_told satp a hart value (Ok pa) w leads fits =
+conditional_told satp a hart value (Ok walked) w leads fits =
+    let pa = walked.pa in
     let tested : Option ℕ → Asking (Result Bool ℕ) = λ mark.
     then_ask (stored_if (is_reserved pa mark) hart pa value) (λ done. answered (Ok done)) in
-    then_fits IsWord (FoundFits Anything) (ask_value satp a pa 4) (λ old. then_ask (ask_marked hart) tested) w
-    (value_told satp a pa 4 w fits)
+    then_fits IsWord (FoundFits Anything) (ask_value satp a walked 4) (λ old. then_ask (ask_marked hart) tested) w
+    (value_told satp a walked 4 w fits)
     (λ old v below there. then_fits Anything (FoundFits Anything) (ask_marked hart) tested v (marked_told hart v there)
     (λ mark u p last. let told = stored_if_told (is_reserved pa mark) hart pa value u last in record {
       answer = tt;
@@ -359,15 +361,15 @@ store_conditional_told satp a hart value w fits =
     then_fits LeadFits (FoundFits Anything) (ask_led satp a) (conditional_at satp a hart value) w
     (led_told satp a w fits) (λ to v leads there. conditional_told satp a hart value to v leads there)
 
-combined_told : (satp : ℕ) (a : Access) (op : AtomicOp) (operand : ℕ) (to : Result ℕ ℕ) (w : World) → LeadFits to →
+combined_told : (satp : ℕ) (a : Access) (op : AtomicOp) (operand : ℕ) (to : Walk) (w : World) → LeadFits to →
     WorldFits w → ToldFits (FoundFits IsWord) (combined_at satp a op operand to w)
 unfolding combined_at
 combined_told satp a op operand (Err cause) w leads fits = record { answer = leads; world = fits }
-combined_told satp a op operand (Ok pa) w leads fits =
-    then_fits IsWord (FoundFits IsWord) (ask_value satp a pa 4)
-    (λ old. then_ask (stored_value pa 4 (combined op old operand)) (λ done. answered (Ok old))) w
-    (value_told satp a pa 4 w fits)
-    (λ old v below there. record { answer = below; world = stored_fits pa 4 (combined op old operand) v there })
+combined_told satp a op operand (Ok walked) w leads fits =
+    then_fits IsWord (FoundFits IsWord) (ask_value satp a walked 4)
+    (λ old. then_ask (stored_value walked.pa 4 (combined op old operand)) (λ done. answered (Ok old))) w
+    (value_told satp a walked 4 w fits)
+    (λ old v below there. record { answer = below; world = stored_fits walked.pa 4 (combined op old operand) v there })
 
 pub combine_told : (satp : ℕ) (a : Access) (op : AtomicOp) (operand : ℕ) (w : World) → WorldFits w →
     ToldFits (FoundFits IsWord) (ask_combine satp a op operand w)
@@ -408,50 +410,51 @@ replies_told a w here fits = record {
   world = written_fits _ w fits (answer_item_fits (regime_of w).domain a here);
 }
 
-drawn_told : (ask : Asking Answer) (w : World) → WorldFits w → ToldFits AnswerFits (ask w) →
+drawn_told : (ask : Asking Answer) (w : World) → WorldFits w → (WorldFits w → ToldFits AnswerFits (ask w)) →
     ToldFits AnswerFits (if_drawn ask w)
 unfolding if_drawn
-drawn_told ask w fits told = either_told AnswerFits (is_missed w) _ _ (replies_told answer.Stopped w tt fits) told
+drawn_told ask w fits told =
+    either_told AnswerFits (is_missed w) _ _ (replies_told answer.Stopped w tt fits) (told fits)
 
-address_told : (va : ℕ) (kind : Kind) (w : World) → WorldFits w → ToldFits LeadFits (ask_inside_address va kind w)
-unfolding ask_inside_address
+address_told : (va : ℕ) (kind : Kind) (w : World) → WorldFits w → ToldFits LeadFits (ask_led_inside va kind w)
+unfolding ask_led_inside
 address_told va kind w fits = led_told _ _ w fits
 
-offered_told : (q : PageId) (va : ℕ) (kind : Kind) (g : ℕ) (o : OfferEnd) (w : World) → WorldFits w →
-    ToldFits AnswerFits (offered_by q va kind g o w)
+offered_told : (q : PageId) (va : ℕ) (kind : Kind) (walked : Walked) (granted : Bool) (w : World) → WorldFits w →
+    ToldFits AnswerFits (offered_by q va kind walked granted w)
 unfolding offered_by
-offered_told q va kind g Ready w fits = replies_told answer.Ok _ tt (noted_fits _ w fits)
-offered_told q va kind g Missed w fits = replies_told answer.Stopped w tt fits
-offered_told q va kind g Mismatch (Flat ram) fits = replies_told answer.Stopped (Flat ram) tt fits
-offered_told q va kind g Mismatch (Cloaked c) fits =
+offered_told q va kind walked true w fits = replies_told answer.Ok _ tt (noted_fits _ w fits)
+offered_told q va kind walked false (Flat ram) fits = replies_told answer.Stopped (Flat ram) tt fits
+offered_told q va kind walked false (Cloaked c) fits =
     replies_told answer.Stopped (Cloaked _) tt (record { memory = fits.memory; items = fits.items })
-offered_told q va kind g Mismatch (Alone h) fits = absurd fits
+offered_told q va kind walked false (Alone h) fits = absurd fits
 
-offer_told : (q : PageId) (va : ℕ) (kind : Kind) (g : ℕ) (w : World) → WorldFits w →
-    ToldFits AnswerFits (ask_offer q va kind g w)
+offer_told : (q : PageId) (va : ℕ) (kind : Kind) (walked : Walked) (w : World) → WorldFits w →
+    ToldFits AnswerFits (ask_offer q va kind walked w)
 unfolding ask_offer
-offer_told q va kind g (Flat ram) fits = record { answer = tt; world = fits }
-offer_told q va kind g (Cloaked c) fits =
+offer_told q va kind walked (Flat ram) fits = record { answer = tt; world = fits }
+offer_told q va kind walked (Cloaked c) fits =
+    let g = frame_of walked.pa in
     let o = offer_fits q g (is_store kind) c.memory fits.memory in
-    offered_told q va kind g _ (Cloaked _) (record {
-      memory = o.memory;
-      items = all_append IsItem c.items _ fits.items o.items;
-    })
-offer_told q va kind g (Alone h) fits = absurd fits
+    let granted = (offer q g (is_store kind) c.memory).granted in
+    drawn_told (offered_by q va kind walked granted) (Cloaked _)
+    (record { memory = o.memory; items = all_append IsItem c.items _ fits.items o.items })
+    (offered_told q va kind walked granted (Cloaked _))
+offer_told q va kind walked (Alone h) fits = absurd fits
 
-reached_told : (q : PageId) (va : ℕ) (kind : Kind) (to : Result ℕ ℕ) (w : World) → LeadFits to → WorldFits w →
+reached_told : (q : PageId) (va : ℕ) (kind : Kind) (to : Walk) (w : World) → LeadFits to → WorldFits w →
     ToldFits AnswerFits (reached q va kind to w)
 unfolding reached
 reached_told q va kind (Err cause) w leads fits = replies_told (answer.Absent cause) w leads fits
-reached_told q va kind (Ok pa) w leads fits = offer_told q va kind (frame_of pa) w fits
+reached_told q va kind (Ok walked) w leads fits = offer_told q va kind walked w fits
 
 reach_by_table_told : (q : PageId) (va : ℕ) (kind : Kind) (w : World) → WorldFits w →
     ToldFits AnswerFits (reach_by_table q va kind w)
 unfolding reach_by_table
 reach_by_table_told q va kind w fits =
-    then_fits LeadFits AnswerFits (ask_inside_address va kind) (λ to. if_drawn (reached q va kind to)) w
+    then_fits LeadFits AnswerFits (ask_led_inside va kind) (λ to. if_drawn (reached q va kind to)) w
     (address_told va kind w fits)
-    (λ to v leads there. drawn_told (reached q va kind to) v there (reached_told q va kind to v leads there))
+    (λ to v leads there. drawn_told (reached q va kind to) v there (reached_told q va kind to v leads))
 
 pub low_fits : (width n : ℕ) → IsWidth width → IsWord (n % 2 ^ (8 * width))
 low_fits width n (inl is) = subst (λ (k : ℕ). IsWord (n % 2 ^ (8 * k))) (sym is) (one n)
@@ -472,21 +475,21 @@ unfolding get_at
 get_at_told pa width w is fits =
     replies_told (answer.Word _) _ (low_fits width (value_at (ram_of w) pa width) is) (noted_fits _ w fits)
 
-got_told : (va width : ℕ) (to : Result ℕ ℕ) (w : World) → IsWidth width → LeadFits to → WorldFits w →
+got_told : (va width : ℕ) (to : Walk) (w : World) → IsWidth width → LeadFits to → WorldFits w →
     ToldFits AnswerFits (got va width to w)
 unfolding got
 got_told va width (Err cause) w is leads fits = replies_told (answer.Absent cause) w leads fits
-got_told va width (Ok pa) w is leads fits =
-    let there = opened_fits (regime_of w).satp (inside_access w va Load) pa w fits in
-    drawn_told (get_at pa width) _ there (get_at_told pa width _ is there)
+got_told va width (Ok walked) w is leads fits =
+    let there = opened_fits (regime_of w).satp (inside_access w va Load) walked w fits in
+    drawn_told (get_at walked.pa width) _ there (get_at_told walked.pa width _ is)
 
 get_by_table_told : (va width : ℕ) (w : World) → IsWidth width → WorldFits w →
     ToldFits AnswerFits (get_by_table va width w)
 unfolding get_by_table
 get_by_table_told va width w is fits =
-    then_fits LeadFits AnswerFits (ask_inside_address va Load) (λ to. if_drawn (got va width to)) w
+    then_fits LeadFits AnswerFits (ask_led_inside va Load) (λ to. if_drawn (got va width to)) w
     (address_told va Load w fits)
-    (λ to v leads there. drawn_told (got va width to) v there (got_told va width to v is leads there))
+    (λ to v leads there. drawn_told (got va width to) v there (got_told va width to v is leads))
 
 put_at_told : (pa width value : ℕ) (w : World) → IsWidth width → IsWord pa → WorldFits w →
     ToldFits AnswerFits (put_at pa width value w)
@@ -496,22 +499,22 @@ put_at_told pa width value w is here fits =
     (written_fits _ (stored_at pa width value w) (stored_fits pa width value w fits)
     (here, is, low_fits width value is))
 
-stored_inside_told : (va width value : ℕ) (to : Result ℕ ℕ) (w : World) → IsWidth width → LeadFits to → WorldFits w →
+stored_inside_told : (va width value : ℕ) (to : Walk) (w : World) → IsWidth width → LeadFits to → WorldFits w →
     ToldFits AnswerFits (stored_inside va width value to w)
 unfolding stored_inside
 stored_inside_told va width value (Err cause) w is leads fits = replies_told (answer.Absent cause) w leads fits
-stored_inside_told va width value (Ok pa) w is leads fits =
-    let there = opened_fits (regime_of w).satp (inside_access w va Store) pa w fits in
-    drawn_told (put_at pa width value) _ there (put_at_told pa width value _ is leads there)
+stored_inside_told va width value (Ok walked) w is leads fits =
+    let there = opened_fits (regime_of w).satp (inside_access w va Store) walked w fits in
+    drawn_told (put_at walked.pa width value) _ there (put_at_told walked.pa width value _ is leads)
 
 put_by_table_told : (va width value : ℕ) (w : World) → IsWidth width → WorldFits w →
     ToldFits AnswerFits (put_by_table va width value w)
 unfolding put_by_table
 put_by_table_told va width value w is fits =
-    then_fits LeadFits AnswerFits (ask_inside_address va Store) (λ to. if_drawn (stored_inside va width value to)) w
+    then_fits LeadFits AnswerFits (ask_led_inside va Store) (λ to. if_drawn (stored_inside va width value to)) w
     (address_told va Store w fits)
     (λ to v leads there. drawn_told (stored_inside va width value to) v there
-    (stored_inside_told va width value to v is leads there))
+    (stored_inside_told va width value to v is leads))
 
 -- Resources as wholes.
 
@@ -530,7 +533,7 @@ unfolding clear_from
 clear_from_told domain marked f zero w fits = replies_told answer.Ok w tt fits
 clear_from_told domain marked f (suc n) w fits =
     let there = marked_fits domain marked f w fits in
-    drawn_told (clear_from domain marked (f + 1) n) _ there (clear_from_told domain marked (f + 1) n _ there)
+    drawn_told (clear_from domain marked (f + 1) n) _ there (clear_from_told domain marked (f + 1) n _)
 
 -- The questions of a program.
 

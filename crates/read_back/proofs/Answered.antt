@@ -1,5 +1,5 @@
 -- The answers of `view` and `solo`.
-use Rattle.std.proofs.Common.{◌≡◌, ◌<◌, ◌-◌, ◌^◌, ℕ, List, Option, Some, Err, refl, sym, ap, subst, ◌∙◌, inl, inr}
+use Rattle.std.proofs.Common.{◌≡◌, ◌<◌, ◌-◌, ◌^◌, ℕ, List, Option, Some, refl, sym, ap, subst, ◌∙◌, inl, inr}
 use Rattle.io_traits.specs.Told.{SameFiles, Grows, GrowsByFront, Rose}
 use Rattle.cloak_model.specs.declared.image.Bundle.{Bundle}
 use Rattle.cloak_model.specs.declared.image.Program.{Program}
@@ -13,7 +13,7 @@ use Rattle.command_parts.specs.Outside.{Outside, Output, Raised}
 use Rattle.command_parts.specs.Refusal.{status_of_refusal}
 use Rattle.command_parts.specs.Refusing.{Refuses}
 use Rattle.command_parts.proofs.FaultFacts.{raised}
-use Rattle.command_parts.proofs.Refused.{IsUnread, unread}
+use Rattle.command_parts.proofs.Refused.{IsUnread}
 use Rattle.read_back.specs.Answering.{AsksView, AsksSolo, OnlyShows, HasView, HasSolo, ViewAnswers, SoloAnswers, viewed_unfit, viewed_text, program_unfit, program_text}
 use Rattle.read_back.specs.Reading.{IsReadTo, ReadsRecord, BreaksOff, ShowsRecord, status_of_ending}
 use Rattle.read_back.specs.declared.ending.Ending.{Ending}

@@ -1,4 +1,5 @@
 pub mod Answered
+pub mod ItemsRead
 pub mod KernelReads
 pub mod Lines
 pub mod NextItem

@@ -1,4 +1,5 @@
 pub mod Reading
+pub mod Items
 pub mod Text
 pub mod Screen
 pub mod Viewing

@@ -37,6 +37,10 @@ FitsAs unfit items (Some (ending.Fault fault)) = unfit items ≡ None
 FitsAs unfit items (Some ending.Unread) = unfit items ≡ None
 FitsAs unfit items None = unfit items ≡ None
 
+-- each item fits: they are only read
+abbrev pub never_unfit : List Item → Option ℕ
+never_unfit items = None
+
 -- A file begins with these items, as far as it was read.
 abbrev pub BeginsWith : List ℕ → List Item → Type 0
 BeginsWith file items = (items ≡ []) ⊎ ((rest : List ℕ) × Begins file items rest)

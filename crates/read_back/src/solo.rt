@@ -15,13 +15,26 @@ ghost use Rattle.read_back.specs.Text.{lines_or_fault};
 ghost use Rattle.read_back.specs.Viewing.{SolosTo};
 
 use crate::ending::{Ending, show_fault, status};
-use alone_views::DomainAlone;
+use crate::items::{TakeItems, for_each_item};
+use alone_views::{DomainAlone, Unfit};
 use cloak_base::Failed;
+use cloak_model::Item;
 use command_parts::{Refusal, Status, read_bundle, refuse};
 use command_words::SoloRequest;
 use io_traits::{Shelf, Sink};
-use record_reader::{KeptItems, NextFault, Reader};
 use std::alloc::Global;
+
+impl TakeItems for DomainAlone {
+    ghost use Rattle.read_back.specs.Viewing.{TookAlone};
+
+    type Stop = Unfit;
+
+    ghost took = { TookAlone };
+
+    fn take_item(&mut self, item: &Item) -> Result<(), Unfit> {
+        self.take(item)
+    }
+}
 
 /// Gives the items of a record to a program that runs alone, up to the first that does not fit or the first fault, and
 /// returns how reading ended.
@@ -34,19 +47,9 @@ fn read_program<S: Shelf>(program: &mut DomainAlone, name: &str, shelf: &mut S) 
     ensures files { SameFiles (S.held shelf.old) (S.held shelf.new) }
     ensures writing { S.writing_faults shelf.new ≡ S.writing_faults shelf.old }
 {
-    let mut reader = Reader::open(name);
-    let mut kept = KeptItems::new();
-    loop {
-        match reader.next(shelf, &mut kept) {
-            Ok(Some(tag)) => {
-                if let Err(unfit) = program.take(kept.item(tag)) {
-                    return Ending::Unfit(unfit.step);
-                }
-            }
-            Ok(None) => return Ending::Whole,
-            Err(NextFault::Read) => return Ending::Unread,
-            Err(NextFault::Record(fault)) => return Ending::Fault(fault),
-        }
+    match for_each_item(name, shelf, program) {
+        Ok(ending) => ending,
+        Err(unfit) => Ending::Unfit(unfit.step),
     }
 }
 

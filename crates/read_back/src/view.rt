@@ -15,14 +15,41 @@ ghost use Rattle.read_back.specs.Screen.{GaveScreen};
 ghost use Rattle.read_back.specs.Viewing.{ViewsTo};
 
 use crate::ending::{Ending, show_fault, status};
+use crate::items::{TakeItems, for_each_item};
 use crate::screen::Screen;
-use alone_views::KernelAlone;
+use alone_views::{KernelAlone, Unfit};
 use cloak_base::Failed;
+use cloak_model::Item;
 use command_parts::{Refusal, Status, read_bundle, refuse};
 use command_words::RecordRequest;
 use io_traits::{Shelf, Sink, put_all};
-use record_reader::{KeptItems, NextFault, Reader};
 use std::alloc::Global;
+
+/// A kernel that runs alone, and the screen that shows its console.
+#[derive(Drop)]
+struct Viewing<'a, 'o, O: Sink> {
+    kernel: &'a mut KernelAlone,
+    screen: &'a mut Screen<'o, O>,
+}
+
+impl<'a, 'o, O: Sink> TakeItems for Viewing<'a, 'o, O> {
+    ghost use Rattle.read_back.specs.Viewing.{TookInView};
+
+    /// What was unfit; nothing if the screen failed.
+    type Stop = Option<Unfit>;
+
+    ghost took = { TookInView O.Sink };
+
+    fn take_item(&mut self, item: &Item) -> Result<(), Option<Unfit>> {
+        if let Err(unfit) = self.kernel.take(item, self.screen) {
+            return Err(Some(unfit));
+        }
+        if self.screen.failed {
+            return Err(None);
+        }
+        Ok(())
+    }
+}
 
 /// Gives the items of a record to a kernel that runs alone, up to the first that does not fit or the first fault, and
 /// returns how reading ended. There is no ending if the screen failed before.
@@ -41,21 +68,12 @@ fn read_kernel<S: Shelf, O: Sink>(
     ensures files { SameFiles (S.held shelf.old) (S.held shelf.new) }
     ensures writing { S.writing_faults shelf.new ≡ S.writing_faults shelf.old }
 {
-    let mut reader = Reader::open(name);
-    let mut kept = KeptItems::new();
-    while !screen.failed {
-        match reader.next(shelf, &mut kept) {
-            Ok(Some(tag)) => {
-                if let Err(unfit) = kernel.take(kept.item(tag), screen) {
-                    return Some(Ending::Unfit(unfit.step));
-                }
-            }
-            Ok(None) => return Some(Ending::Whole),
-            Err(NextFault::Read) => return Some(Ending::Unread),
-            Err(NextFault::Record(fault)) => return Some(Ending::Fault(fault)),
-        }
+    let mut viewing = Viewing { kernel, screen };
+    match for_each_item(name, shelf, &mut viewing) {
+        Ok(ending) => Some(ending),
+        Err(Some(unfit)) => Some(Ending::Unfit(unfit.step)),
+        Err(None) => None,
     }
-    None
 }
 
 /// Shows the rest of the console's line, and the kernel's lines or why reading ended.

@@ -2,9 +2,8 @@
 use Rattle.std.proofs.Common.{◌≡◌, ℕ, List, Bool, sym, subst}
 use Rattle.command_parts.specs.Outside.{Outside}
 use Rattle.command_parts.specs.declared.status.Status.{Status}
-use Rattle.read_back.specs.Reading.{ShowsRecord}
+use Rattle.read_back.specs.Reading.{ShowsRecord, never_unfit}
 use Rattle.record_text.specs.declared.selection.Selection.{Selection}
-use Rattle.record_text.specs.Reading.{never_unfit}
 use Rattle.record_json.specs.JsonText.{json_by, json_text}
 
 -- the text by whether counts are asked for

@@ -1,20 +1,20 @@
 -- Items that are shown as objects as they are read.
-use Rattle.std.proofs.Common.{◌≡◌, ℕ, List, [], ◌∷◌, ◌++◌, Option, Some, None, Result, Ok, Err, refl, sym, ap, subst, ◌∙◌}
+use Rattle.std.proofs.Common.{◌≡◌, ℕ, List, [], ◌∷◌, ◌++◌, Option, None, Result, Ok, Err, refl, sym, ap, ◌∙◌}
 use Rattle.std.proofs.lemmas.List.Sums.{fold-append}
 use Rattle.cloak_base.specs.declared.causes.Failed.{Failed}
 use Rattle.cloak_model.specs.declared.item.Item.{Item}
-use Rattle.record_reader.specs.declared.reader.Reader.{Reader}
-use Rattle.read_back.specs.Reading.{ReadsAs}
+use Rattle.io_traits.specs.declared.sink.Sink as sinks
+use Rattle.read_back.specs.Items.{ReadsItems}
 use Rattle.read_back.specs.declared.ending.Ending.{Ending}
-use Rattle.kernel_report.specs.Putting.{Putting, PutsMore}
+use Rattle.kernel_report.specs.Putting.{Putting, PutsMore, putting}
 use Rattle.kernel_report.proofs.PutFacts.{PutsMore-none, then, text_is}
 use Rattle.record_text.specs.declared.place.RecordPlace.{RecordPlace}
 use Rattle.record_text.specs.declared.place.RecordPlace.TheVariants as place
 use Rattle.record_text.specs.declared.selection.Selection.{Selection}
-use Rattle.record_text.specs.Reading.{Finds, StandsAt}
-use Rattle.record_text.proofs.Shown.{read_on, read_to}
 use Rattle.record_json.specs.JsonText.{Objects, no_objects, object_more, objects, with_object}
-use Rattle.record_json.specs.Showing.{ShowsObjects, ShowsTo}
+use Rattle.record_json.specs.Showing.{ShowsObjects}
+use Rattle.record_json.specs.Taking.{TookAsObjects}
+use Rattle.record_json.specs.declared.showing.ObjectsOutput.{ObjectsOutput}
 
 -- one item more
 objects-more : (s : Selection) (items : List Item) (i : Item) →
@@ -22,71 +22,32 @@ objects-more : (s : Selection) (items : List Item) (i : Item) →
 unfolding objects
 objects-more s items i = fold-append (with_object s) no_objects items (i ∷ [])
 
--- the items before a reader were shown, and this is the place of what comes next
-pub record ShownSoFar (s : Selection) (told : Option (List ℕ)) (reader : Reader) (old new : Putting) (p : RecordPlace) :
-    Type 0 where
-  pub items : List Item
-  pub stands : StandsAt told reader items
-  pub text : PutsMore old new (objects s items).text
-  pub at : p ≡ (objects s items).place
+pub text_more : (s : Selection) (items : List Item) (i : Item) (p : RecordPlace) {old mid new : Putting} →
+    p ≡ (objects s items).place → PutsMore old mid (objects s items).text → PutsMore mid new (object_more s p i).text →
+    PutsMore old new (objects s (items ++ i ∷ [])).text
+text_more s items i p {old} {mid} {new} at before text = text_is (then before text)
+    (ap (λ (q : RecordPlace). (objects s items).text ++ (object_more s q i).text) at
+    ∙ ap (λ (x : Objects). x.text) (sym (objects-more s items i)))
+
+pub place_more : (s : Selection) (items : List Item) (i : Item) (p : RecordPlace) → p ≡ (objects s items).place →
+    (object_more s p i).place ≡ (objects s (items ++ i ∷ [])).place
+place_more s items i p at =
+    ap (λ (q : RecordPlace). (object_more s q i).place) at ∙ ap (λ (x : Objects). x.place) (sym (objects-more s items i))
 
 -- nothing yet
-pub opens : (s : Selection) (told : Option (List ℕ)) (reader : Reader) (old : Putting) →
-    StandsAt told reader [] → ShownSoFar s told reader old old place.Opening
+pub no_text : (s : Selection) (at : Putting) → PutsMore at at (objects s []).text
 unfolding objects
-opens s told reader old stands = record { items = []; stands = stands; text = PutsMore-none old; at = refl }
+no_text s at = PutsMore-none at
 
--- one item more
-pub goes_on : (s : Selection) (told : Option (List ℕ)) (was now : Reader) (old mid new : Putting) (p next : RecordPlace)
-    (i : Item) → (so_far : ShownSoFar s told was old mid p) → StandsAt told now (so_far.items ++ i ∷ []) →
-    PutsMore mid new (object_more s p i).text → next ≡ (object_more s p i).place →
-    ShownSoFar s told now old new next
-goes_on s told was now old mid new p next i so_far stands text is = record {
-  items = so_far.items ++ i ∷ [];
-  stands = stands;
-  text = text_is (then so_far.text text)
-      (ap (λ (q : RecordPlace). (objects s so_far.items).text ++ (object_more s q i).text) so_far.at
-      ∙ ap (λ (x : Objects). x.text) (sym (objects-more s so_far.items i)));
-  at = is ∙ (ap (λ (q : RecordPlace). (object_more s q i).place) so_far.at
-      ∙ ap (λ (x : Objects). x.place) (sym (objects-more s so_far.items i)));
-}
-
--- the output failed before
-pub stops : (s : Selection) (told : Option (List ℕ)) (reader : Reader) (reading reads : ℕ) (old : Putting)
-    (new : Result Unit Failed → Putting) (p : RecordPlace) (so_far : Result Unit Failed) (failed : Failed) →
-    so_far ≡ Err failed → reads ≡ reading → ShownSoFar s told reader old (new so_far) p →
-    ShowsObjects s told reading reads old new (Err failed)
-stops s told reader reading reads old new p so_far failed is counts shown = (
-  None,
-  record {
-    items = shown.items;
-    read = read_on told reader shown.items reading reads shown.stands counts;
-    text = subst (λ (r : Result Unit Failed). PutsMore old (new r) (objects s shown.items).text) is shown.text;
-  },
-)
+pub no_place : (s : Selection) → place.Opening ≡ (objects s []).place
+unfolding objects
+no_place s = refl
 
 -- what was shown as reading ended
-ends : (s : Selection) (told : Option (List ℕ)) (was next : Reader) (reading reads : ℕ) (old : Putting)
-    (new : Result Unit Failed → Putting) (p : RecordPlace) (ended : Ending) (so_far was_so : Result Unit Failed) →
-    so_far ≡ was_so → (shown : ShownSoFar s told was old (new so_far) p) → Finds told next shown.items (Err ended) →
-    ReadsAs reading reads (Some ended) → ShowsTo s told reading reads old (new was_so) (Some ended)
-ends s told was next reading reads old new p ended so_far was_so is shown found counts = record {
-  items = shown.items;
-  read = read_to told was next shown.items ended reading reads shown.stands found counts;
-  text = subst (λ (r : Result Unit Failed). PutsMore old (new r) (objects s shown.items).text) is shown.text;
-}
-
-pub ends_well : (s : Selection) (told : Option (List ℕ)) (was next : Reader) (reading reads : ℕ) (old : Putting)
-    (new : Result Unit Failed → Putting) (p : RecordPlace) (ended : Ending) (so_far : Result Unit Failed) (u : Unit) →
-    so_far ≡ Ok u → (shown : ShownSoFar s told was old (new so_far) p) → Finds told next shown.items (Err ended) →
-    ReadsAs reading reads (Some ended) → ShowsObjects s told reading reads old new (Ok ended)
-ends_well s told was next reading reads old new p ended so_far u is shown found counts =
-    ends s told was next reading reads old new p ended so_far (Ok u) is shown found counts
-
-pub ends_ill : (s : Selection) (told : Option (List ℕ)) (was next : Reader) (reading reads : ℕ) (old : Putting)
-    (new : Result Unit Failed → Putting) (p : RecordPlace) (ended : Ending) (so_far : Result Unit Failed)
-    (failed : Failed) → so_far ≡ Err failed → (shown : ShownSoFar s told was old (new so_far) p) →
-    Finds told next shown.items (Err ended) → ReadsAs reading reads (Some ended) →
-    ShowsObjects s told reading reads old new (Err failed)
-ends_ill s told was next reading reads old new p ended so_far failed is shown found counts =
-    (Some ended, ends s told was next reading reads old new p ended so_far (Err failed) is shown found counts)
+pub shows_so : {O : Type 0} {sink : sinks.Ghosts O} {first now : ObjectsOutput O} {told : Option (List ℕ)} {m n : ℕ}
+    (result : Result Ending Failed) → ReadsItems (TookAsObjects sink first now) told m n result →
+    ShowsObjects first.selection.now told m n (putting sink first.out.now (Ok tt)) (putting sink now.out.now) result
+shows_so {O} {sink} {first} {now} {told} {m} {n} (Ok ended) read =
+    record { items = read.items; read = read.read; text = read.taken.text }
+shows_so {O} {sink} {first} {now} {told} {m} {n} (Err failed) read =
+    (None, record { items = read.items; read = read.read; text = read.taken.text })

@@ -3,10 +3,9 @@ use Rattle.std.specs.Prelude.{ℕ, List, Option, Some, Result, Ok, Err}
 use Rattle.cloak_base.specs.declared.causes.Failed.{Failed}
 use Rattle.cloak_model.specs.declared.item.Item.{Item}
 use Rattle.kernel_report.specs.Putting.{Putting, PutsMore}
-use Rattle.read_back.specs.Reading.{IsReadTo}
+use Rattle.read_back.specs.Reading.{IsReadTo, never_unfit}
 use Rattle.read_back.specs.declared.ending.Ending.{Ending}
 use Rattle.record_text.specs.declared.selection.Selection.{Selection}
-use Rattle.record_text.specs.Reading.{never_unfit}
 use Rattle.record_json.specs.JsonText.{objects}
 
 -- Items were read up to where reading ended, if it did, and shown.

@@ -2,8 +2,8 @@
 ghost use Rattle.std.specs.Prelude.{◌≡◌, true, false};
 ghost use Rattle.io_traits.specs.Told.{SameFiles};
 ghost use Rattle.command_parts.specs.Outside.{outside};
-ghost use Rattle.read_back.specs.Reading.{ShowsRecord};
-ghost use Rattle.record_text.specs.Reading.{never_unfit, status_shown};
+ghost use Rattle.read_back.specs.Reading.{ShowsRecord, never_unfit};
+ghost use Rattle.record_text.specs.Reading.{status_shown};
 ghost use Rattle.record_json.specs.JsonText.{json_by, json_text};
 
 use crate::counting::put_counts;

@@ -6,10 +6,32 @@ ghost use Rattle.record_json.specs.Showing.{ShowsObjects};
 
 use crate::objects::put_next_object;
 use cloak_base::Failed;
+use cloak_model::Item;
 use io_traits::{Shelf, Sink};
-use read_back::Ending;
-use record_reader::{KeptItems, Reader};
-use record_text::{RecordPlace, Selection, next_item};
+use read_back::{Ending, TakeItems, for_each_item};
+use record_text::{RecordPlace, Selection};
+
+/// An output that shows items as objects, and the place of what comes next.
+#[derive(Drop)]
+struct ObjectsOutput<'a, O: Sink> {
+    out: &'a mut O,
+    selection: &'a Selection,
+    place: RecordPlace,
+}
+
+impl<'a, O: Sink> TakeItems for ObjectsOutput<'a, O> {
+    ghost use Rattle.record_json.specs.Taking.{TookAsObjects};
+
+    type Stop = Failed;
+
+    ghost took = { TookAsObjects O.Sink };
+
+    fn take_item(&mut self, item: &Item) -> Result<(), Failed> {
+        let (put, next) = put_next_object(self.out, Ok(()), self.place, item, self.selection);
+        self.place = next;
+        put
+    }
+}
 
 /// Shows the items of a record that are chosen, up to where reading ends or the output fails.
 pub fn show_objects<S: Shelf, O: Sink>(
@@ -25,26 +47,10 @@ pub fn show_objects<S: Shelf, O: Sink>(
     ensures files { SameFiles (S.held shelf.old) (S.held shelf.new) }
     ensures writing { S.writing_faults shelf.new ≡ S.writing_faults shelf.old }
 {
-    let mut so_far = Ok(());
-    let mut place = RecordPlace::Opening;
-    let mut reader = Reader::open(name);
-    let mut kept = KeptItems::new();
-    loop {
-        if let Err(failed) = so_far {
-            return Err(failed);
-        }
-        match next_item(&mut reader, shelf, &mut kept) {
-            Ok(tag) => {
-                let (put, next) = put_next_object(out, so_far, place, kept.item(tag), selection);
-                so_far = put;
-                place = next;
-            }
-            Err(ending) => {
-                return match so_far {
-                    Ok(()) => Ok(ending),
-                    Err(failed) => Err(failed),
-                };
-            }
-        }
-    }
+    let mut objects = ObjectsOutput {
+        out,
+        selection,
+        place: RecordPlace::Opening,
+    };
+    for_each_item(name, shelf, &mut objects)
 }

@@ -112,7 +112,7 @@ one_wrong file a b x y =
     x.fault_is ∙ ap (λ f. fault_of (length file) (length (record_of f)) x.wrong) same.0 ∙ ap (fault_of (length file) (length (record_of y.front))) wrong ∙ sym y.fault_is
 
 -- a file that begins with the magic has no fault there
-magic_right : (file rest : List ℕ) → record_magic ++ rest ≡ file → magic_fault file ≡ None
+pub magic_right : (file rest : List ℕ) → record_magic ++ rest ≡ file → magic_fault file ≡ None
 unfolding magic_fault
 magic_right file rest e =
     let long : length file ≡ 8 + length rest = sym (ap (λ (l : List ℕ). length l) e) ∙ length-append record_magic rest in

@@ -5,3 +5,5 @@ pub mod Orders
 pub mod Judged
 pub mod Rows
 pub mod Writing
+pub mod Pieces
+pub mod Staying

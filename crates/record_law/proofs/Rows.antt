@@ -1,11 +1,10 @@
 -- Worked records: no step, and damaged ones.
 use Rattle.std.proofs.Common.{◌≡◌, [], ◌∷◌, Some, refl, arith}
 use Rattle.cloak_model.specs.declared.item.Item.TheVariants as item
-use Rattle.cloak_model.specs.Exchange.{item_bytes, steps_items, record_of}
+use Rattle.cloak_model.specs.Exchange.{item_bytes, steps_items}
 use Rattle.cloak_model.specs.Record.{IsRecord}
 use Rattle.cloak_model.specs.declared.record.Stage.TheVariants.{Opening, Steps, Over}
 use Rattle.cloak_model.specs.declared.record.Wrong.TheVariants.{Cut, NoTag, NoNumber, More}
-use Rattle.cloak_model.specs.Fields.{number}
 use Rattle.cloak_model.specs.RecordFault.{wrong_behind, wrong_item}
 
 -- the run of no step: 14 bytes

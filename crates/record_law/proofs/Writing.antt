@@ -1,18 +1,14 @@
 -- The bytes of the record among the pieces of a run.
-use Rattle.std.proofs.Common.{◌≡◌, ◌∙◌, ℕ, suc, ◌+◌, List, [], ◌∷◌, ◌++◌, length, refl, sym, ap, append_assoc, add-one}
+use Rattle.std.proofs.Common.{◌≡◌, ◌∙◌, ℕ, suc, List, [], ◌∷◌, ◌++◌, length, refl, sym, ap, append_assoc}
 use Rattle.std.proofs.lemmas.List.{append-nil}
 use Rattle.std.specs.Prelude.{map, codes}
 use Rattle.std.specs.List.{flat_map}
 use Rattle.cloak_model.specs.declared.item.Item.{Item}
 use Rattle.cloak_model.specs.declared.item.Item.TheVariants as item
-use Rattle.cloak_model.specs.Exchange.{Piece, recorded, shown, recorded_bytes, item_pieces, shown_each, item_bytes, steps_items, record_magic}
+use Rattle.cloak_model.specs.Exchange.{Piece, shown, recorded_bytes, item_pieces, shown_each, item_bytes, steps_items, record_magic}
 use Rattle.cloak_model.specs.Joint.{Turn}
 use Rattle.cloak_model.specs.Run.{Run, turn_pieces, turns_pieces, due, record_bytes, report_of}
-
-recorded_bytes-append : (ps qs : List Piece) → recorded_bytes (ps ++ qs) ≡ recorded_bytes ps ++ recorded_bytes qs
-recorded_bytes-append [] qs = refl
-recorded_bytes-append (recorded bytes ∷ ps) qs = ap (λ rest. bytes ++ rest) (recorded_bytes-append ps qs) ∙ sym (append_assoc bytes (recorded_bytes ps) (recorded_bytes qs))
-recorded_bytes-append (shown bytes ∷ ps) qs = recorded_bytes-append ps qs
+use Rattle.record_law.proofs.Pieces.{recorded_bytes-append}
 
 bytes_of_items : (items : List Item) → recorded_bytes (item_pieces items) ≡ flat_map item_bytes items
 bytes_of_items [] = refl

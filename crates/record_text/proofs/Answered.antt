@@ -8,10 +8,10 @@ use Rattle.io_traits.specs.Told.{Puts}
 use Rattle.command_parts.specs.Outside.{Outside}
 use Rattle.command_parts.specs.declared.status.Status.{Status}
 use Rattle.command_parts.specs.declared.status.Status.TheVariants as status
-use Rattle.read_back.specs.Reading.{IsReadTo, ShowsRecord}
+use Rattle.read_back.specs.Reading.{IsReadTo, ShowsRecord, never_unfit}
 use Rattle.read_back.specs.declared.ending.Ending.{Ending}
 use Rattle.record_text.specs.declared.selection.Selection.{Selection}
-use Rattle.record_text.specs.Reading.{never_unfit, record_text, status_shown, text_by}
+use Rattle.record_text.specs.Reading.{record_text, status_shown, text_by}
 
 -- a text that was put when nothing had failed before
 pub puts_behind : (a b : Option (List ℕ)) (m n : ℕ) (u : Unit) (s : Result Unit Failed) (text : List ℕ) →

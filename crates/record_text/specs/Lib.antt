@@ -5,3 +5,4 @@ pub mod Lines
 pub mod Counting
 pub mod Reading
 pub mod Showing
+pub mod Taking

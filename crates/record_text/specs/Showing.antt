@@ -3,12 +3,12 @@ use Rattle.std.specs.Prelude.{ℕ, List, Option, Some, Result, Ok, Err}
 use Rattle.cloak_base.specs.declared.causes.Failed.{Failed}
 use Rattle.cloak_model.specs.declared.item.Item.{Item}
 use Rattle.kernel_report.specs.Putting.{Putting, PutsMore}
-use Rattle.read_back.specs.Reading.{IsReadTo}
+use Rattle.read_back.specs.Reading.{IsReadTo, never_unfit}
 use Rattle.read_back.specs.declared.ending.Ending.{Ending}
 use Rattle.record_text.specs.declared.counts.KindCounts.{KindCounts}
 use Rattle.record_text.specs.declared.selection.Selection.{Selection}
 use Rattle.record_text.specs.Counting.{AreCounts, chosen}
-use Rattle.record_text.specs.Reading.{items_text, never_unfit}
+use Rattle.record_text.specs.Reading.{items_text}
 
 -- Items were read up to where reading ended, if it did, and shown.
 pub record ShowsTo (s : Selection) (told : Option (List ℕ)) (reading reads : ℕ) (old new : Putting)

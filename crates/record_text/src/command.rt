@@ -3,9 +3,9 @@ ghost use Rattle.std.specs.Prelude.{◌≡◌, true, false};
 ghost use Rattle.kernel_report.specs.Putting.{PutsMore, putting};
 ghost use Rattle.io_traits.specs.Told.{SameFiles};
 ghost use Rattle.command_parts.specs.Outside.{outside};
-ghost use Rattle.read_back.specs.Reading.{ShowsRecord};
+ghost use Rattle.read_back.specs.Reading.{ShowsRecord, never_unfit};
 ghost use Rattle.read_back.specs.Text.{fault_line};
-ghost use Rattle.record_text.specs.Reading.{never_unfit, record_text, status_shown, text_by};
+ghost use Rattle.record_text.specs.Reading.{record_text, status_shown, text_by};
 
 use crate::selection::Selection;
 use crate::showing::{count_items, show_items};

@@ -2,8 +2,7 @@
 //!
 //! The layer above may rely on this: `show_command` shows each item that is chosen once, in the order of the record
 //! (`specs/Lines`, `specs/Items`), or how many are chosen of each kind (`specs/Counting`), up to the record's end or its
-//! first fault, for which it returns what `view` returns. No file is changed. `next_item` is how every tool reads a
-//! record.
+//! first fault, for which it returns what `view` returns. No file is changed.
 #![tactic(auto)]
 
 mod causes;
@@ -13,7 +12,6 @@ mod items;
 mod kinds;
 mod lines;
 mod place;
-mod reading;
 mod selection;
 mod showing;
 
@@ -23,6 +21,5 @@ pub use counts::KindCounts;
 pub use items::put_item;
 pub use kinds::Kinds;
 pub use place::{RecordPlace, place_marked};
-pub use reading::next_item;
 pub use selection::Selection;
 pub use showing::count_items;

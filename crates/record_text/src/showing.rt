@@ -6,15 +6,36 @@ ghost use Rattle.record_text.specs.Counting.{AreCounts, Chosen, chosen_more};
 ghost use Rattle.record_text.specs.Showing.{CountsItems, ShowsItems};
 
 use crate::counts::KindCounts;
-use crate::lines::{end_line, put_first, put_next};
+use crate::lines::{Line, end_line, put_first, put_next};
 use crate::place::{RecordPlace, place_marked};
-use crate::reading::next_item;
 use crate::selection::Selection;
 use cloak_base::Failed;
 use cloak_model::Item;
 use io_traits::{Shelf, Sink};
-use read_back::Ending;
+use read_back::{Ending, TakeItems, for_each_item, next_item};
 use record_reader::{KeptItems, Reader};
+
+/// An output that shows items in lines, and the line that was shown last.
+#[derive(Drop)]
+struct LinesOutput<'a, O: Sink> {
+    out: &'a mut O,
+    selection: &'a Selection,
+    line: Line,
+}
+
+impl<'a, O: Sink> TakeItems for LinesOutput<'a, O> {
+    ghost use Rattle.record_text.specs.Taking.{TookInLines};
+
+    type Stop = Failed;
+
+    ghost took = { TookInLines O.Sink };
+
+    fn take_item(&mut self, item: &Item) -> Result<(), Failed> {
+        let (put, next) = put_next(self.out, Ok(()), self.line, item, self.selection);
+        self.line = next;
+        put
+    }
+}
 
 /// Shows the items of a record that are chosen, up to where reading ends or the output fails.
 pub fn show_items<S: Shelf, O: Sink>(
@@ -30,26 +51,23 @@ pub fn show_items<S: Shelf, O: Sink>(
     ensures files { SameFiles (S.held shelf.old) (S.held shelf.new) }
     ensures writing { S.writing_faults shelf.new ≡ S.writing_faults shelf.old }
 {
-    let (mut so_far, mut line) = put_first(out, Ok(()), selection);
-    let mut reader = Reader::open(name);
-    let mut kept = KeptItems::new();
-    loop {
-        if let Err(failed) = so_far {
-            return Err(failed);
-        }
-        match next_item(&mut reader, shelf, &mut kept) {
-            Ok(tag) => {
-                let (put, next) = put_next(out, so_far, line, kept.item(tag), selection);
-                so_far = put;
-                line = next;
-            }
-            Err(ending) => {
-                return match end_line(out, so_far, line) {
-                    Ok(()) => Ok(ending),
-                    Err(failed) => Err(failed),
-                };
-            }
-        }
+    let (put, line) = put_first(out, Ok(()), selection);
+    if let Err(failed) = put {
+        return Err(failed);
+    }
+    let mut lines = LinesOutput {
+        out,
+        selection,
+        line,
+    };
+    let ending = match for_each_item(name, shelf, &mut lines) {
+        Ok(ending) => ending,
+        Err(failed) => return Err(failed),
+    };
+    let last = lines.line;
+    match end_line(out, Ok(()), last) {
+        Ok(()) => Ok(ending),
+        Err(failed) => Err(failed),
     }
 }
 

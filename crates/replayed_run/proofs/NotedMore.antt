@@ -106,33 +106,33 @@ watches_more b items i old new watched stand noted asked paged = record {
 
 -- for which context a hart asked, by how the last plain step ended
 
-asked_as : (s : model.KernelAlone) (place : model.KernelPlace) (ending : Kernel) →
-    ((number : ℕ) → place ≡ model.Outside number → ending ≡ plain_ending number s) →
-    asked_from place (λ hart. ending) ≡ asked_from place (λ hart. plain_ending hart s)
+asked_as : (s : model.KernelAlone) (stage : model.KernelStage) (ending : Kernel) →
+    ((number : ℕ) → stage ≡ model.Outside number → ending ≡ plain_ending number s) →
+    asked_from stage (λ hart. ending) ≡ asked_from stage (λ hart. plain_ending hart s)
 asked_as s (model.Outside hart) ending ends = ap (λ (e : Kernel). asked_from (model.Outside hart) (λ h. e)) (ends hart refl)
 asked_as s model.Between ending ends = refl
 asked_as s (model.Inside hart ctx) ending ends = refl
 asked_as s model.Left ending ends = refl
 
-pub asked_told : (s : model.KernelAlone) (place : model.KernelPlace) (ending : Kernel) (resumed : Bool) → s.place ≡ place →
-    ((number : ℕ) → s.place ≡ model.Outside number → ending ≡ plain_ending number s) →
-    asked_unless resumed place ending ≡ asked_at_end resumed s
-asked_told s place ending true is ends = refl
-asked_told s place ending false is ends =
-    asked_as s place ending (λ number at. ends number (is ∙ at))
-    ∙ ap (λ (p : model.KernelPlace). asked_from p (λ hart. plain_ending hart s)) (sym is)
+pub asked_told : (s : model.KernelAlone) (stage : model.KernelStage) (ending : Kernel) (resumed : Bool) → s.stage ≡ stage →
+    ((number : ℕ) → s.stage ≡ model.Outside number → ending ≡ plain_ending number s) →
+    asked_unless resumed stage ending ≡ asked_at_end resumed s
+asked_told s stage ending true is ends = refl
+asked_told s stage ending false is ends =
+    asked_as s stage ending (λ number at. ends number (is ∙ at))
+    ∙ ap (λ (p : model.KernelStage). asked_from p (λ hart. plain_ending hart s)) (sym is)
 
 -- a context that a hart outside resumed
 pub resumed_told : (b : Bundle) (items : List Item) (n : Notes) (ctx hart : ℕ) (c : StandingContext) (words : HartWords) →
-    (kernel_alone b.kernel items).place ≡ model.Outside hart → standing_told b items ctx ≡ Some c →
+    (kernel_alone b.kernel items).stage ≡ model.Outside hart → standing_told b items ctx ≡ Some c →
     words ≡ words_of (kernel_hart (kernel_alone b.kernel items).kernel hart) →
     resumed_at n.contexts ctx c.space words.satp n.step
-    ≡ resume_noted n ctx (kernel_alone b.kernel items).place (kernel_alone b.kernel items) (standing_told b items ctx)
+    ≡ resume_noted n ctx (kernel_alone b.kernel items).stage (kernel_alone b.kernel items) (standing_told b items ctx)
 resumed_told b items n ctx hart c words at there is =
     let s = kernel_alone b.kernel items in
     ap (λ (w : HartWords). resumed_at n.contexts ctx c.space w.satp n.step) is
     ∙ (ap (λ (o : Option StandingContext). resume_noted n ctx (model.Outside hart) s o) (sym there)
-    ∙ ap (λ (p : model.KernelPlace). resume_noted n ctx p s (standing_told b items ctx)) (sym at))
+    ∙ ap (λ (p : model.KernelStage). resume_noted n ctx p s (standing_told b items ctx)) (sym at))
 
 -- one context more is looked at
 pub left_more : (b : Bundle) (items : List Item) (space n : ℕ) →

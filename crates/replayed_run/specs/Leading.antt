@@ -9,7 +9,7 @@ use Rattle.cloak_base.specs.declared.names.Mode.TheVariants.{U, S}
 use Rattle.cloak_base.specs.declared.names.PageId.{PageId}
 use Rattle.cloak_model.specs.Csr.{mxr_of, satp_of, sum_of}
 use Rattle.cloak_model.specs.Hart.{Hart}
-use Rattle.cloak_model.specs.KernelAlone.{KernelAlone, KernelPlace, Between, Inside, Left, Outside}
+use Rattle.cloak_model.specs.KernelAlone.{KernelAlone, KernelStage, Between, Inside, Left, Outside}
 use Rattle.cloak_model.specs.Memory.{is_in_ram, value_in}
 use Rattle.cloak_model.specs.Walk.{Walk, walk}
 use Rattle.alone_views.specs.declared.asked.AskedAccess.{AskedAccess}
@@ -46,14 +46,14 @@ abbrev pub tables_by : Option Hart → Option Tables
 tables_by None = None
 tables_by (Some h) = Some (tables_of h)
 
-abbrev pub tables_at : KernelPlace → List Hart → Option Tables
+abbrev pub tables_at : KernelStage → List Hart → Option Tables
 tables_at (Outside hart) harts = tables_by (slice_get harts hart)
 tables_at (Inside hart ctx) harts = tables_by (slice_get harts hart)
 tables_at Between harts = None
 tables_at Left harts = None
 
 abbrev pub tables_in : KernelAlone → Option Tables
-tables_in s = tables_at s.place s.kernel.harts
+tables_in s = tables_at s.stage s.kernel.harts
 
 -- The page of a question, and the frame in which the kernel presents it.
 

@@ -38,7 +38,7 @@ pub record StandAlone (b : Bundle) (items : List Item) (machines : Machines) : T
 
 -- If this item ends a step of a hart outside, the last plain step is the one that the hart then makes.
 pub record EndsStep (b : Bundle) (items : List Item) (i : Item) (machines : Machines) : Type 0 where
-  pub ends : is_end i ≡ true → (number : ℕ) → (kernel_alone b.kernel items).place ≡ model.Outside number →
+  pub ends : is_end i ≡ true → (number : ℕ) → (kernel_alone b.kernel items).stage ≡ model.Outside number →
       ending_in machines.kernel ≡ plain_ending number (kernel_alone b.kernel items)
 
 -- After these items the machines took one more.

@@ -35,19 +35,19 @@ asked_by hart (outcome.Put byte) = None
 asked_by hart (outcome.Halt value) = None
 
 -- by how the plain step of the hart that is outside ends
-abbrev pub asked_from : model.KernelPlace → (ℕ → Kernel) → Option Asking
+abbrev pub asked_from : model.KernelStage → (ℕ → Kernel) → Option Asking
 asked_from (model.Outside hart) ends = asked_by hart (ends hart)
 asked_from model.Between ends = None
 asked_from (model.Inside hart ctx) ends = None
 asked_from model.Left ends = None
 
 -- unless a context was resumed in the step
-abbrev pub asked_unless : Bool → model.KernelPlace → Kernel → Option Asking
-asked_unless resumed place ending = if resumed then None else asked_from place (λ hart. ending)
+abbrev pub asked_unless : Bool → model.KernelStage → Kernel → Option Asking
+asked_unless resumed stage ending = if resumed then None else asked_from stage (λ hart. ending)
 
 -- It asks for one as the step that is open ends, and the step has no resume.
 abbrev pub asked_at_end : Bool → model.KernelAlone → Option Asking
-asked_at_end resumed s = if resumed then None else asked_from s.place (λ hart. plain_ending hart s)
+asked_at_end resumed s = if resumed then None else asked_from s.stage (λ hart. plain_ending hart s)
 
 -- Contexts.
 
@@ -63,7 +63,7 @@ is_left b items space (suc n) =
     is_left b items space n && not (is_in_space space (standing_told b items (space / 8 * 8 + n)))
 
 -- a hart that is outside resumed a context, which is there
-abbrev pub resume_noted : Notes → ℕ → model.KernelPlace → model.KernelAlone → Option StandingContext → ToldContexts
+abbrev pub resume_noted : Notes → ℕ → model.KernelStage → model.KernelAlone → Option StandingContext → ToldContexts
 resume_noted n ctx (model.Outside hart) s (Some c) =
     resumed_at n.contexts ctx c.space (words_of (kernel_hart s.kernel hart)).satp n.step
 resume_noted n ctx (model.Outside hart) s None = n.contexts
@@ -85,7 +85,7 @@ leave_noted b items n ctx None = gone_noted b items n ctx (told_of n.contexts ct
 abbrev pub resumed_notes : Bundle → List Item → Notes → ℕ → Notes
 resumed_notes b now n ctx = record n {
   has_resumed = true;
-  contexts = let s = kernel_alone b.kernel now in resume_noted n ctx s.place s (standing_told b now ctx);
+  contexts = let s = kernel_alone b.kernel now in resume_noted n ctx s.stage s (standing_told b now ctx);
 }
 
 abbrev pub left_notes : Bundle → List Item → Notes → ℕ → Notes

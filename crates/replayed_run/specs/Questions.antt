@@ -109,7 +109,7 @@ access_in_slot n p None = asked.Nothing
 access_in_slot n p (Some slot) = access_by n p (context_at p.domain.control.contexts slot)
 
 abbrev pub access_in : ℕ → DomainAlone → AskedAccess
-access_in n s = access_in_slot n s.part (running_in s.place)
+access_in n s = access_in_slot n s.part (running_in s.stage)
 
 -- of the program of a number
 abbrev pub access_if : Bundle → List Item → ℕ → ℕ → Option Program → AskedAccess

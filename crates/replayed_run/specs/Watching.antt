@@ -31,10 +31,10 @@ abbrev pub WatchTakes : {A : Type 0} → Bundle → List Item → Item → Watch
 WatchTakes b items i w (Ok a) = Watches b (items ++ i ∷ []) w
 WatchTakes b items i w (Err unfit) = IsUnfitAlone b (items ++ i ∷ []) unfit.step
 
--- The machines took an item, before which the kernel alone was at this place.
-pub record WatchTook (b : Bundle) (items : List Item) (i : Item) (at : model.KernelPlace) (w : Watch) : Type 0 where
+-- The machines took an item, before which the kernel alone was at this stage.
+pub record WatchTook (b : Bundle) (items : List Item) (i : Item) (at : model.KernelStage) (w : Watch) : Type 0 where
   pub took : TookItem b items i w.machines
-  pub place : (kernel_alone b.kernel items).place ≡ at
+  pub stage : (kernel_alone b.kernel items).stage ≡ at
 
 -- The machines took an item, of which this is the question. What it adds to notes and pages is not noted yet.
 pub record PagesNext (b : Bundle) (items : List Item) (i : Item) (asked : AskedAccess) (w : Watch) : Type 0 where

@@ -5,7 +5,7 @@ ghost use Rattle.cloak_model.specs.Record.{IsItem};
 ghost use Rattle.cloak_model.specs.declared.image.Bundle.{Bundle};
 ghost use Rattle.cloak_model.specs.declared.item.Item.{Item};
 ghost use Rattle.cloak_model.specs.KernelAlone.{kernel_alone, kernel_hart};
-ghost use Rattle.alone_views.specs.KernelPlaces.{stood_place};
+ghost use Rattle.alone_views.specs.KernelStages.{stood_stage};
 ghost use Rattle.replayed_run.specs.Alone as alone;
 ghost use Rattle.replayed_run.specs.Leading as leading;
 ghost use Rattle.replayed_run.specs.Questions as question;
@@ -14,7 +14,7 @@ ghost use Rattle.replayed_run.specs.Machines.{ProgramsStand, ProgramsTake, Stand
 use crate::frames::{PresentedPage, Tables, frame_at, tables_of};
 use crate::questions::access_in;
 use crate::silent::Silent;
-use alone_views::{AskedAccess, DomainAlone, KernelAlone, KernelPlace, Unfit};
+use alone_views::{AskedAccess, DomainAlone, KernelAlone, KernelStage, Unfit};
 use cloak_base::{HartId, Kind, Mode, NoMemory, PageId};
 use cloak_model::{Bundle, Item};
 use host_calls::Hart;
@@ -105,11 +105,11 @@ impl Machines {
     }
 
     /// Where the items of the kernel stand.
-    pub fn place(&self) -> KernelPlace
+    pub fn stage(&self) -> KernelStage
         ensures { (b : Bundle) (items : List Item) → StandAlone b items self.now →
-            stood_place result ≡ (kernel_alone b.kernel items).place }
+            stood_stage result ≡ (kernel_alone b.kernel items).stage }
     {
-        self.kernel.place()
+        self.kernel.stage()
     }
 
     /// What a hart says; of a number without a hart what one says as a run begins.
@@ -149,11 +149,11 @@ impl Machines {
         ensures { (b : Bundle) (items : List Item) → StandAlone b items self.now →
             result ≡ leading.tables_in (kernel_alone b.kernel items) }
     {
-        match self.place() {
-            KernelPlace::Outside { hart } => self.tables_at(hart),
-            KernelPlace::Inside { hart, .. } => self.tables_at(hart),
-            KernelPlace::Between => None,
-            KernelPlace::Left => None,
+        match self.stage() {
+            KernelStage::Outside { hart } => self.tables_at(hart),
+            KernelStage::Inside { hart, .. } => self.tables_at(hart),
+            KernelStage::Between => None,
+            KernelStage::Left => None,
         }
     }
 

@@ -1,10 +1,10 @@
 //! What is noted of a run besides its machines.
 ghost use Rattle.std.specs.Prelude.{◌≡◌, false};
-ghost use Rattle.alone_views.specs.KernelPlaces.{stood_place};
+ghost use Rattle.alone_views.specs.KernelStages.{stood_stage};
 ghost use Rattle.replayed_run.specs.Noted as spec;
 
 use crate::contexts::ToldContexts;
-use alone_views::KernelPlace;
+use alone_views::KernelStage;
 use cloak_model::Kernel;
 
 /// A hart that asks to resume a context.
@@ -40,14 +40,14 @@ fn asked_by(hart: usize, ending: Kernel) -> Option<Asking>
 }
 
 /// The context for which the hart asked that was outside, by how the last plain step ended.
-pub fn asked_from(place: KernelPlace, ending: Kernel) -> Option<Asking>
-    ensures { result ≡ spec.asked_from (stood_place place) (λ hart. ending) }
+pub fn asked_from(stage: KernelStage, ending: Kernel) -> Option<Asking>
+    ensures { result ≡ spec.asked_from (stood_stage stage) (λ hart. ending) }
 {
-    match place {
-        KernelPlace::Outside { hart } => asked_by(hart, ending),
-        KernelPlace::Between => None,
-        KernelPlace::Inside { .. } => None,
-        KernelPlace::Left => None,
+    match stage {
+        KernelStage::Outside { hart } => asked_by(hart, ending),
+        KernelStage::Between => None,
+        KernelStage::Inside { .. } => None,
+        KernelStage::Left => None,
     }
 }
 

@@ -6,7 +6,7 @@ ghost use Rattle.cloak_model.specs.KernelAlone.{kernel_alone, kernel_hart};
 ghost use Rattle.cloak_model.specs.Record.{IsItem};
 ghost use Rattle.cloak_model.specs.declared.image.Bundle.{Bundle};
 ghost use Rattle.cloak_model.specs.declared.item.Item.{Item};
-ghost use Rattle.alone_views.specs.KernelPlaces.{stood_place};
+ghost use Rattle.alone_views.specs.KernelStages.{stood_stage};
 ghost use Rattle.replayed_run.specs.Alone as alone;
 ghost use Rattle.replayed_run.specs.Alone.{standing_told};
 ghost use Rattle.replayed_run.specs.ContextsTold.{table_of, told_of};
@@ -26,7 +26,7 @@ use crate::machines::{HartWords, Machines, StandingContext};
 use crate::notes::{Asking, Notes, asked_from};
 use crate::pages::{Pages, Showing};
 use crate::questions::Questions;
-use alone_views::{AskedAccess, KernelPlace, Unfit};
+use alone_views::{AskedAccess, KernelStage, Unfit};
 use cloak_base::{Kind, NoMemory};
 use cloak_model::{Bundle, Item};
 use host_calls::Hart;
@@ -78,11 +78,11 @@ impl Watch {
     }
 
     /// Where the items of the kernel stand.
-    pub fn place(&self) -> KernelPlace
+    pub fn stage(&self) -> KernelStage
         ensures { (b : Bundle) (items : List Item) → Watches b items self.now →
-            stood_place result ≡ (kernel_alone b.kernel items).place }
+            stood_stage result ≡ (kernel_alone b.kernel items).stage }
     {
-        self.machines.place()
+        self.machines.stage()
     }
 
     /// What a hart says as it asks to resume a context.
@@ -210,7 +210,7 @@ impl Watch {
         ensures pages { self.new.pages ≡ self.old.pages }
     {
         self.notes.has_resumed = true;
-        if let KernelPlace::Outside { hart } = self.machines.place() {
+        if let KernelStage::Outside { hart } = self.machines.stage() {
             if let Some(context) = self.context(ctx) {
                 let satp = self.machines.words_of(hart).satp;
                 let step = self.notes.step;
@@ -236,10 +236,10 @@ impl Watch {
         }
     }
 
-    /// A step ended, before which the kernel was at this place.
-    fn note_end(&mut self, place: KernelPlace)
+    /// A step ended, before which the kernel was at this stage.
+    fn note_end(&mut self, stage: KernelStage)
         ensures notes { self.new.notes ≡ record self.old.notes {
-          asked = noted.asked_unless self.old.notes.has_resumed (stood_place place) self.old.machines.kernel.ending;
+          asked = noted.asked_unless self.old.notes.has_resumed (stood_stage stage) self.old.machines.kernel.ending;
         } }
         ensures machines { self.new.machines ≡ self.old.machines }
         ensures pages { self.new.pages ≡ self.old.pages }
@@ -247,7 +247,7 @@ impl Watch {
         self.notes.asked = if self.notes.has_resumed {
             None
         } else {
-            asked_from(place, self.machines.kernel.ending())
+            asked_from(stage, self.machines.kernel.ending())
         };
     }
 
@@ -261,19 +261,19 @@ impl Watch {
         self.notes.has_resumed = false;
     }
 
-    /// Notes an item that the machines took, before which the kernel was at this place.
-    fn note(&mut self, place: KernelPlace, item: &Item)
-        ensures notes { (b : Bundle) (items : List Item) → WatchTook b items item.now (stood_place place) self.old →
+    /// Notes an item that the machines took, before which the kernel was at this stage.
+    fn note(&mut self, stage: KernelStage, item: &Item)
+        ensures notes { (b : Bundle) (items : List Item) → WatchTook b items item.now (stood_stage stage) self.old →
             self.new.notes ≡ notes_after b items (items ++ item.now ∷ []) self.old.notes item.now }
         ensures machines { self.new.machines ≡ self.old.machines }
         ensures pages { self.new.pages ≡ self.old.pages }
     {
         match item {
             Item::Step { number } => {
-                self.note_end(place);
+                self.note_end(stage);
                 self.note_begin(*number);
             }
-            Item::Close { .. } => self.note_end(place),
+            Item::Close { .. } => self.note_end(stage),
             Item::Resume { ctx, .. } => self.note_resume(*ctx),
             Item::Leave(shown) => self.note_leave(shown.ctx),
             Item::Cipher { .. }
@@ -370,12 +370,12 @@ impl Watch {
         ensures shows { (b : Bundle) (items : List Item) → IsItem item.now → Watches b items self.old →
             IfOk result (λ showing. showing ≡ showing_told b items item.now) }
     {
-        let place = self.machines.place();
+        let stage = self.machines.stage();
         let question = self.machines.question_for(item, self.questions.answers);
         let questions = self.questions.after(item, question);
         self.machines.take(item)?;
         let showing = self.note_page(item, questions.last);
-        self.note(place, item);
+        self.note(stage, item);
         self.questions = questions;
         Ok(showing)
     }

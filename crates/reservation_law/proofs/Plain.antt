@@ -1,5 +1,5 @@
 -- What the plain step of a hart makes of RAM and of reservations, by its deed.
-use Rattle.std.proofs.Common.{◌≡◌, ◌∙◌, ◌<◌, ◌≤◌, ◌⊎◌, ℕ, ◌+◌, ◌-◌, ◌*◌, ◌/◌, ◌%◌, ◌^◌, Bool, true, false, ◌&&◌, nat_lt, nat_le, List, [], ◌∷◌, length, drop, Option, Some, None, Result, Ok, Err, inl, inr, refl, sym, ap, subst, arith, length-drop}
+use Rattle.std.proofs.Common.{◌≡◌, ◌∙◌, ◌<◌, ◌≤◌, ◌⊎◌, ℕ, ◌+◌, ◌-◌, ◌*◌, ◌/◌, ◌%◌, ◌^◌, Bool, true, false, ◌&&◌, nat_lt, nat_le, List, [], ◌∷◌, length, drop, Option, Some, None, Ok, Err, inl, inr, refl, sym, ap, subst, arith, length-drop}
 use Rattle.std.specs.Prelude.{◌==◌, if◌then◌else◌}
 use Rattle.std.proofs.lemmas.Bool.{cases_lt, cases_eq, ltb-true, leb-true, eqb-true}
 use Rattle.std.proofs.lemmas.List.{get_or_past, get_or-set_same, get_or-set_other, length-set, length-take}
@@ -20,6 +20,7 @@ use Rattle.cloak_model.specs.declared.outcome.Effect.{Effect}
 use Rattle.cloak_model.specs.declared.outcome.Effect.TheVariants as does
 use Rattle.cloak_model.specs.declared.outcome.Kernel.TheVariants.{Stay}
 use Rattle.cloak_model.specs.declared.access.Access.{Access}
+use Rattle.cloak_model.specs.declared.access.Walked.{Walked}
 use Rattle.cloak_model.specs.Ask.{is_reserved}
 use Rattle.cloak_model.specs.Asking.{Told}
 use Rattle.cloak_model.specs.Csr.{satp_of, interrupt_due, csr_read}
@@ -98,30 +99,31 @@ both_are true true is = (refl, refl)
 both_are true false is = absurd cc
 both_are false b is = absurd cc
 
-abbrev Reached : ℕ → Seen → ℕ → (Result ℕ ℕ → Plan (Close SteppedKernel)) → (ℕ → Deed) → Type 0
-Reached id s va next deed = (pa : ℕ) → ram_start ≤ pa → pa % 4 ≡ va % 4 → Does (deed pa) id s (next (Ok pa))
+abbrev Reached : ℕ → Seen → ℕ → (Walk → Plan (Close SteppedKernel)) → (ℕ → Deed) → Type 0
+Reached id s va next deed =
+    (walked : Walked) → ram_start ≤ walked.pa → walked.pa % 4 ≡ va % 4 → Does (deed walked.pa) id s (next (Ok walked))
 
-abbrev Faulted : ℕ → Seen → (Result ℕ ℕ → Plan (Close SteppedKernel)) → Type 0
+abbrev Faulted : ℕ → Seen → (Walk → Plan (Close SteppedKernel)) → Type 0
 Faulted id s next = (cause : ℕ) → Does Idle id s (next (Err cause))
 
-target_by : (id : ℕ) (s : Seen) (va pa fault : ℕ) (b : Bool) (next : Result ℕ ℕ → Plan (Close SteppedKernel))
-    (deed : ℕ → Deed) → (b ≡ true → ram_start ≤ pa) → Faulted id s next → Reached id s va next deed →
-    pa % 4 ≡ va % 4 →
-    Does (done_at deed (if b then Some pa else None)) id s (next (if b then Ok pa else Err fault))
-target_by id s va pa fault true next deed low faults reaches keeps = reaches pa (low refl) keeps
-target_by id s va pa fault false next deed low faults reaches keeps = faults fault
+target_by : (id : ℕ) (s : Seen) (va fault : ℕ) (walked : Walked) (b : Bool) (next : Walk → Plan (Close SteppedKernel))
+    (deed : ℕ → Deed) → (b ≡ true → ram_start ≤ walked.pa) → Faulted id s next → Reached id s va next deed →
+    walked.pa % 4 ≡ va % 4 →
+    Does (done_at deed (if b then Some walked.pa else None)) id s (next (if b then Ok walked else Err fault))
+target_by id s va fault walked true next deed low faults reaches keeps = reaches walked (low refl) keeps
+target_by id s va fault walked false next deed low faults reaches keeps = faults fault
 
-walked_by : (id : ℕ) (s : Seen) (a : Access) (w : Walk) (next : Result ℕ ℕ → Plan (Close SteppedKernel))
+walked_by : (id : ℕ) (s : Seen) (a : Access) (w : Walk) (next : Walk → Plan (Close SteppedKernel))
     (deed : ℕ → Deed) → Faulted id s next → Reached id s a.va next deed → KeepsPlace a.va w →
     Does (done_at deed (target s.ram w)) id s (next (inside (length s.ram) a w))
 walked_by id s a (Err cause) next deed faults reaches keeps = faults cause
 walked_by id s a (Ok walked) next deed faults reaches keeps =
-    target_by id s a.va walked.pa (access_fault a.kind) (is_in_frames (length s.ram) walked.pa) next deed
+    target_by id s a.va (access_fault a.kind) walked (is_in_frames (length s.ram) walked.pa) next deed
     (λ there. leb-true ram_start walked.pa (both_are (nat_le ram_start walked.pa) (nat_lt (frame_of walked.pa)
     (length s.ram)) there).0)
     faults reaches keeps
 
-does_access : (h : Hart) (s : Seen) (kind : Kind) (va : ℕ) (next : Result ℕ ℕ → Plan (Close SteppedKernel))
+does_access : (h : Hart) (s : Seen) (kind : Kind) (va : ℕ) (next : Walk → Plan (Close SteppedKernel))
     (deed : ℕ → Deed) → Faulted h.id s next → Reached h.id s va next deed →
     Does (done_at deed (target_of h s.ram kind va)) h.id s (then_plan (plan_access (length s.ram) h kind va) next)
 does_access h s kind va next deed faults reaches =
@@ -132,7 +134,7 @@ does_access h s kind va next deed faults reaches =
     let w = walk s.ram satp a in
     let same : answer_in (then_plan (plan_access n h kind va) next) s.ram ≡ answer_in (next (inside n a w)) s.ram =
     answer_then (plan_access n h kind va) next s.ram
-    ∙ ap (λ (to : Result ℕ ℕ). answer_in (next to) s.ram)
+    ∙ ap (λ (to : Walk). answer_in (next to) s.ram)
     (answer_then p (λ walk. Gives (inside n a walk)) s.ram ∙ ap (λ (x : Walk). inside n a x)
     (walk_answer s.ram satp a)) in
     subst (λ (close : Close SteppedKernel). DoneBy (done_at deed (target s.ram w)) h.id s (close s)) (sym same)
@@ -204,7 +206,7 @@ does_load h s disk rd va width signed =
     (then_plan (plan_access (length s.ram) h Load va) (plan_loaded h disk rd va width signed))
     (idle_at (target_of h s.ram Load va))
     (does_access h s Load va (plan_loaded h disk rd va width signed) (λ pa. Idle)
-    (λ cause. does_raised h s disk cause va) (λ pa low keeps. does_gives h.id s _ (loaded_id h rd width _ signed)))
+    (λ cause. does_raised h s disk cause va) (λ walked low keeps. does_gives h.id s _ (loaded_id h rd width _ signed)))
 
 does_store : (h : Hart) (s : Seen) (disk : List ℕ) (va width value : ℕ) → va % width ≡ 0 → IsWidth width →
     Does (done_at (λ pa. Stores pa width) (target_of h s.ram Store va)) h.id s
@@ -212,8 +214,9 @@ does_store : (h : Hart) (s : Seen) (disk : List ℕ) (va width value : ℕ) → 
 does_store h s disk va width value at is =
     does_access h s Store va (plan_stored h disk va width value) (λ pa. Stores pa width)
     (λ cause. does_raised h s disk cause va)
-    (λ pa low keeps. done_kept (Stores pa width) h.id s _ refl
-    (keeps_stored pa width value s low (eqb-true (pa % width) 0 (is_aligned va pa width keeps at is)) is)
+    (λ walked low keeps. done_kept (Stores walked.pa width) h.id s _ refl
+    (keeps_stored walked.pa width value s low
+    (eqb-true (walked.pa % width) 0 (is_aligned va walked.pa width keeps at is)) is)
     (λ x same. cc))
 
 -- Atomic instructions.
@@ -264,7 +267,8 @@ does_reserve : (h : Hart) (s : Seen) (disk : List ℕ) (rd va : ℕ) → va % 4 
     (then_plan (plan_access (length s.ram) h Load va) (plan_reserved h disk rd va))
 does_reserve h s disk rd va at =
     does_access h s Load va (plan_reserved h disk rd va) (atomic_deed Lr (mark_of h.id s.marks))
-    (λ cause. does_raised h s disk cause va) (λ pa low keeps. done_reserves h.id pa s _ refl (aligned va pa at keeps))
+    (λ cause. does_raised h s disk cause va)
+    (λ walked low keeps. done_reserves h.id walked.pa s _ refl (aligned va walked.pa at keeps))
 
 reserved_is : (pa : ℕ) (mark : Option ℕ) → is_reserved pa mark ≡ true → mark ≡ Some pa
 reserved_is pa None is = cc
@@ -290,7 +294,7 @@ does_conditional : (h : Hart) (s : Seen) (disk : List ℕ) (rd va operand : ℕ)
 does_conditional h s disk rd va operand at =
     does_access h s Store va (plan_conditioned h disk rd va operand) (atomic_deed Sc (mark_of h.id s.marks))
     (λ cause. does_raised h s disk cause va)
-    (λ pa low keeps. done_conditional _ h s disk rd pa operand refl low (aligned va pa at keeps))
+    (λ walked low keeps. done_conditional _ h s disk rd walked.pa operand refl low (aligned va walked.pa at keeps))
 
 does_combine : (h : Hart) (s : Seen) (disk : List ℕ) (rd : ℕ) (op : AtomicOp) (va operand : ℕ) → va % 4 ≡ 0 →
     Does (done_at (λ pa. Stores pa 4) (target_of h s.ram Store va)) h.id s
@@ -298,8 +302,8 @@ does_combine : (h : Hart) (s : Seen) (disk : List ℕ) (rd : ℕ) (op : AtomicOp
 does_combine h s disk rd op va operand at =
     does_access h s Store va (plan_combined h disk rd op va operand) (λ pa. Stores pa 4)
     (λ cause. does_raised h s disk cause va)
-    (λ pa low keeps. done_kept (Stores pa 4) h.id s _ refl (keeps_stored pa 4 _ s low
-    (aligned va pa at keeps) four) (λ x same. cc))
+    (λ walked low keeps. done_kept (Stores walked.pa 4) h.id s _ refl (keeps_stored walked.pa 4 _ s low
+    (aligned va walked.pa at keeps) four) (λ x same. cc))
 
 does_atomic_access : (h : Hart) (s : Seen) (disk : List ℕ) (rd : ℕ) (op : AtomicOp) (va operand : ℕ) → va % 4 ≡ 0 →
     Does (done_at (atomic_deed op (mark_of h.id s.marks)) (target_of h s.ram (atomic_kind op) va)) h.id s
@@ -479,7 +483,7 @@ does_fetched : (h : Hart) (s : Seen) (disk : List ℕ) →
 does_fetched h s disk =
     does_access h s Fetch h.pc (plan_fetched (length s.ram) h disk) (fetched_deed h s disk)
     (λ cause. does_raised h s disk cause h.pc)
-    (λ pa low keeps. does_decoded h s disk (value_at s.ram pa 4) (instruction (value_at s.ram pa 4)))
+    (λ walked low keeps. let word = value_at s.ram walked.pa 4 in does_decoded h s disk word (instruction word))
 
 does_interrupted : (due : Bool) (h : Hart) (s : Seen) (disk : List ℕ) →
     Does (deed_after due h s disk) h.id s (plan_interrupted due (length s.ram) h disk)

@@ -1,5 +1,5 @@
 -- What is written while a program asks: a Cipher has the 4096 bytes of a page, and a Put a width.
-use Rattle.std.proofs.Common.{◌≡◌, ℕ, zero, suc, ◌*◌, ◌%◌, ◌^◌, Bool, true, List, [], ◌∷◌, ◌++◌, length, take, drop, slice_index_or, Option, Some, None, refl, sym, subst, arith, append_assoc}
+use Rattle.std.proofs.Common.{◌≡◌, ℕ, zero, suc, ◌*◌, ◌%◌, ◌^◌, Bool, true, false, List, [], ◌∷◌, ◌++◌, length, take, drop, slice_index_or, Option, Some, None, refl, sym, subst, arith, append_assoc}
 use Rattle.std.specs.List.{AllByRecursion, concat, find}
 use Rattle.std.specs.Str.{bytes_eq}
 use Rattle.std.proofs.lemmas.Bool.{false≢true}
@@ -19,14 +19,14 @@ use Rattle.cloak_model.specs.Chain.{chained, blocks_of, cbc}
 use Rattle.cloak_model.specs.DomainState.{Domain}
 use Rattle.cloak_model.specs.DomainStep.{domain_step}
 use Rattle.cloak_model.specs.Ending.{ask_end}
-use Rattle.cloak_model.specs.Cloaking.{CloakedMemory, AfterSettling, AfterOffer, Ready, Mismatch, Missed, owed_in, owes, owing_frame, settle_owed, settle_if, settle, settle_frame_if, compared, with_comparison, taken, unless_missed, offer}
+use Rattle.cloak_model.specs.Cloaking.{CloakedMemory, AfterSettling, AfterOffer, owed_in, owes, owing_frame, settle_owed, settle_if, settle, settle_frame_if, compared, with_comparison, taken, unless_missed, offer}
 use Rattle.cloak_model.specs.Effect.{IsWidth}
 use Rattle.cloak_model.specs.Events.{Event}
 use Rattle.cloak_model.specs.Hart.{Hart}
 use Rattle.cloak_model.specs.Ledger.{key_of, vector_of}
 use Rattle.cloak_model.specs.Memory.{Seen}
 use Rattle.cloak_model.specs.PageMoves.{copy_pages, drop_pages}
-use Rattle.cloak_model.specs.Touched.{touched}
+use Rattle.cloak_model.specs.StepFrames.{step_frames}
 use Rattle.cloak_model.specs.World.{World, MidStep, Flat, Cloaked, Alone, Handed, items_of, noted, settled, settled_in, cipher_items}
 use Rattle.script_fold.proofs.ByQuestions.{StepKept, keeps_by}
 use Rattle.script_fold.proofs.Endings.{keeps_end}
@@ -111,7 +111,7 @@ while_pages frames (suc n) m =
 
 pub touched_pages : (h : Hart) (disk : List ℕ) (m : CloakedMemory) → ArePages (settle_touched h disk m).ciphers
 unfolding settle_touched
-touched_pages h disk m = while_pages (λ ram. touched h ram disk) (length m.ledger.owed) m
+touched_pages h disk m = while_pages (λ ram. step_frames h ram disk) (length m.ledger.owed) m
 
 frame_if_pages : (o : Option ℕ) (m : CloakedMemory) → ArePages (settle_frame_if o m).ciphers
 frame_if_pages None m = tt
@@ -127,24 +127,24 @@ compared_pages q g write None m = record { pages = tt }
 compared_pages q g write (Some c) m =
     let there : List ℕ = slice_index_or m.ram g [] in
     let n : CloakedMemory = with_comparison there c m in
-    let ready : AfterOffer = record { memory = taken q g write n; ciphers = []; answer = Ready } in
-    let other : AfterOffer = record { memory = n; ciphers = []; answer = Mismatch } in
+    let ready : AfterOffer = record { memory = taken q g write n; ciphers = []; granted = true } in
+    let other : AfterOffer = record { memory = n; ciphers = []; granted = false } in
     either OffersPages (bytes_eq there c) ready other (record { pages = tt }) (record { pages = tt })
 
 unless_pages : (s : AfterSettling) (next : CloakedMemory → AfterOffer) → ArePages s.ciphers →
     ((n : CloakedMemory) → OffersPages (next n)) → OffersPages (unless_missed s next)
 unfolding unless_missed
 unless_pages s next here more =
-    let missed : AfterOffer = record { memory = s.memory; ciphers = s.ciphers; answer = Missed } in
+    let missed : AfterOffer = record { memory = s.memory; ciphers = s.ciphers; granted = false } in
     let o : AfterOffer = next s.memory in
-    let gone : AfterOffer = record { memory = o.memory; ciphers = s.ciphers ++ o.ciphers; answer = o.answer } in
+    let gone : AfterOffer = record { memory = o.memory; ciphers = s.ciphers ++ o.ciphers; granted = o.granted } in
     either OffersPages s.missed missed gone (record { pages = here })
     (record { pages = pages_both s.ciphers (next s.memory).ciphers here (more s.memory).pages })
 
 pub offer_pages : (q : PageId) (g : ℕ) (write : Bool) (m : CloakedMemory) → ArePages (offer q g write m).ciphers
 unfolding offer
 offer_pages q g write m =
-    let ready : AfterOffer = record { memory = m; ciphers = []; answer = Ready } in
+    let ready : AfterOffer = record { memory = m; ciphers = []; granted = true } in
     (either OffersPages (owes q (owed_in m g)) ready _ (record { pages = tt })
     (unless_pages (settle g m) _ (settle_pages g m)
     (λ m'. unless_pages (settle_frame_if (owing_frame m' q) m') _ (frame_if_pages (owing_frame m' q) m')
@@ -266,7 +266,7 @@ size_step d = record {
   replies = size_replies;
   offers = λ q own va. record {
     offered = λ g write c. offer_sizes q g write _ c;
-    granted = λ kind w. Sizes-noted _ w;
+    granted = λ kind walked w. Sizes-noted _ w;
     mismatched = λ g c. same_sizes c _ refl;
   };
   puts = λ va width value at w.

@@ -37,14 +37,3 @@ end_of {E} {gave} {e} {f} b steps o machine stopped cause end all unwrapped each
       refused = λ i. any_refused (ends.ended i) (ends.refused i);
       short = ends.short ∙ (λ i. short_report (stop_is i) (count i) closed.joint);
     }
-
--- a front that was shown has one length, whatever stood before it
-pub fixed_front : (old new : Option (List ℕ)) (piece : List ℕ) → GrowsByFront old new piece →
-    (n : ℕ) × Grows old new (take n piece)
-fixed_front (Some x) new piece front =
-    let f = front x refl in (f.0, λ before told. subst (λ (l : List ℕ). Tells new (l ++ take f.0 piece)) told f.2)
-fixed_front None None piece front = (0, λ before told. tt)
-fixed_front None (Some y) piece front =
-    let f = front (y ++ 0 ∷ []) tt in
-    absurd (let long = ap (λ (l : List ℕ). length l) f.2 in let one = length-append y (0 ∷ []) in let more =
-    length-append (y ++ 0 ∷ []) (take f.0 piece) in omega (arith, long, one, more))

@@ -9,26 +9,13 @@ use Rattle.io_traits.specs.declared.sink.Sink as sinks
 use Rattle.io_traits.specs.Told.{Tells, Puts, Grows, GrowsByFront, Counts, SameFiles, OtherFiles}
 use Rattle.io_traits.proofs.ToldFacts.{Grows-none, Grows-append, GrowsByFront-whole, Rose-after}
 use Rattle.cloak_model.specs.Exchange.{Piece, recorded, shown, recorded_bytes, shown_bytes, Emits}
+use Rattle.record_law.proofs.Pieces.{recorded_bytes-append, shown_bytes-append}
 use Rattle.run_command.specs.declared.outlet.Outlet.{Outlet}
 use Rattle.command_parts.specs.Outside.{FilesOutside, Output, Outside, files, output, outside}
 use Rattle.run_command.specs.Adding.{Adds}
 use Rattle.run_command.specs.Outlet.{Wrote, WroteAll, WroteFront, Writes, Gave}
 
 -- Bytes of pieces.
-
-pub recorded_bytes-append : (ps qs : List Piece) → recorded_bytes (ps ++ qs) ≡ recorded_bytes ps ++ recorded_bytes qs
-recorded_bytes-append [] qs = refl
-recorded_bytes-append (recorded bytes ∷ ps) qs =
-    ap (λ (l : List ℕ). bytes ++ l) (recorded_bytes-append ps qs) ∙ sym
-    (append_assoc bytes (recorded_bytes ps) (recorded_bytes qs))
-recorded_bytes-append (shown bytes ∷ ps) qs = recorded_bytes-append ps qs
-
-pub shown_bytes-append : (ps qs : List Piece) → shown_bytes (ps ++ qs) ≡ shown_bytes ps ++ shown_bytes qs
-shown_bytes-append [] qs = refl
-shown_bytes-append (recorded bytes ∷ ps) qs = shown_bytes-append ps qs
-shown_bytes-append (shown bytes ∷ ps) qs =
-    ap (λ (l : List ℕ). bytes ++ l) (shown_bytes-append ps qs) ∙ sym
-    (append_assoc bytes (shown_bytes ps) (shown_bytes qs))
 
 recorded_one : (ps : List Piece) (bytes : List ℕ) →
     recorded_bytes ps ++ bytes ≡ recorded_bytes (ps ++ recorded bytes ∷ [])
@@ -46,7 +33,7 @@ shown_same : (ps : List Piece) (bytes : List ℕ) → shown_bytes ps ≡ shown_b
 shown_same ps bytes = sym (append-nil (shown_bytes ps)) ∙ sym (shown_bytes-append ps (recorded bytes ∷ []))
 
 -- A front that was written has one length, whatever stood before it.
-fixed_front : (old new : Option (List ℕ)) (piece : List ℕ) → GrowsByFront old new piece →
+pub fixed_front : (old new : Option (List ℕ)) (piece : List ℕ) → GrowsByFront old new piece →
     (n : ℕ) × Grows old new (take n piece)
 fixed_front (Some x) new piece front = let f = front x refl in
     (f.0, λ before told. subst (λ (l : List ℕ). Tells new (l ++ take f.0 piece)) told f.2)

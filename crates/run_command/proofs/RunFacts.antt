@@ -21,20 +21,10 @@ use Rattle.command_parts.specs.declared.status.Status.{Status}
 use Rattle.run_command.specs.Running.{BeginsRun, RunsSteps, EndsRun, WritesRun, first_pieces, last_pieces, moment_behind, status_of}
 use Rattle.cloak_model.specs.Run.{NoClashYet}
 use Rattle.run_command.proofs.ClashFacts.{rest_unclashed, turns_unclashed}
+use Rattle.record_law.proofs.Pieces.{joint_after-append, last_stop-append, turns_pieces-append}
 use Rattle.cloaked_side.proofs.Emitting.{emits_then}
 
 -- Steps after steps.
-
-turns_pieces-append : (number : ℕ) (ts us : List Turn) →
-    turns_pieces number (ts ++ us) ≡ turns_pieces number ts ++ turns_pieces (number + length ts) us
-unfolding turns_pieces
-turns_pieces-append number [] us = ap (λ n. turns_pieces n us) (let e : number ≡ number + 0 = omega arith in e)
-turns_pieces-append number (t ∷ ts) us =
-    ap (λ (ps : List Piece). turn_pieces number t ++ ps)
-    (turns_pieces-append (suc number) ts us ∙ ap (λ n. turns_pieces (suc number) ts ++ turns_pieces n us)
-    (let e : suc number + length ts ≡ number + suc (length ts) = omega arith in e))
-    ∙ sym (append_assoc (turn_pieces number t) (turns_pieces (suc number) ts)
-    (turns_pieces (number + suc (length ts)) us))
 
 turns_pieces-last : (number : ℕ) (ts : List Turn) (t : Turn) →
     turns_pieces number ts ++ turn_pieces (number + length ts) t ≡ turns_pieces number (ts ++ t ∷ [])
@@ -42,17 +32,6 @@ unfolding turns_pieces
 turns_pieces-last number ts t =
     ap (λ (ps : List Piece). turns_pieces number ts ++ ps) (sym (append-nil (turn_pieces (number + length ts) t)))
     ∙ sym (turns_pieces-append number ts (t ∷ []))
-
-pub joint_after-append : (j : Joint) (ts us : List Turn) → joint_after j (ts ++ us) ≡ joint_after (joint_after j ts) us
-unfolding joint_after
-joint_after-append j [] us = refl
-joint_after-append j (t ∷ ts) us = joint_after-append t.joint ts us
-
-pub last_stop-append : (so_far : Option Stop) (ts us : List Turn) →
-    last_stop so_far (ts ++ us) ≡ last_stop (last_stop so_far ts) us
-unfolding last_stop
-last_stop-append so_far [] us = refl
-last_stop-append so_far (t ∷ ts) us = last_stop-append (stop_of t) ts us
 
 pub last_stop-last : (so_far : Option Stop) (ts : List Turn) (t : Turn) → last_stop so_far (ts ++ t ∷ []) ≡ stop_of t
 unfolding last_stop

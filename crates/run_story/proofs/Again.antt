@@ -2,14 +2,15 @@
 use Rattle.std.proofs.Common.{◌≡◌, ◌∙◌, ◌≢◌, ◌<◌, ℕ, List, [], ◌∷◌, ◌++◌, length, length-append, Option, Some, None, IfOk, Result, Ok, Err, inl, inr, refl, sym, subst, arith}
 use Rattle.cloak_model.specs.declared.image.Bundle.{Bundle}
 use Rattle.cloak_model.specs.declared.item.Item.{Item}
-use Rattle.cloak_model.specs.DomainAlone.{DomainAlone, domain_taken, opened_domain, take_domain_item}
-use Rattle.cloak_model.specs.KernelAlone.{KernelAlone, kernel_taken, opened_kernel, take_kernel_item}
+use Rattle.cloak_model.specs.DomainAlone.{opened_domain}
+use Rattle.cloak_model.specs.KernelAlone.{opened_kernel}
+use Rattle.record_law.proofs.Staying.{kernel_stays, program_stays}
 use Rattle.record_reader.specs.Ahead.{readable}
 use Rattle.record_reader.specs.declared.reader.Reader.{Reader}
 use Rattle.read_back.proofs.NextItem.{told_begins}
 use Rattle.read_back.specs.declared.ending.Ending.{Ending}
 use Rattle.read_back.specs.declared.ending.Ending.TheVariants as ending
-use Rattle.record_text.specs.Reading.{Finds, StandsAt}
+use Rattle.read_back.specs.Items.{Finds, StandsAt}
 use Rattle.replayed_run.specs.Alone.{FitsAlone, IsUnfitAlone}
 use Rattle.replayed_run.specs.Watching.{Watches}
 use Rattle.replayed_run.specs.declared.watch.Watch.{Watch}
@@ -21,35 +22,6 @@ use Rattle.run_story.specs.declared.deeds.Deeds.{Deeds}
 use Rattle.run_story.specs.declared.presented.Presented.{Presented}
 use Rattle.run_story.specs.declared.untold.Untold.{Untold}
 use Rattle.run_story.proofs.Fronts.{longer_goes_on, no_end, no_fault}
-
--- What does not fit never does.
-
-kernel_same : (schedule : List ℕ) (s : KernelAlone) (items : List Item) (step : ℕ) → s.unfit ≡ Some step →
-    (kernel_taken schedule s items).unfit ≡ Some step
-unfolding kernel_taken take_kernel_item
-kernel_same schedule s [] step is = is
-kernel_same schedule s (i ∷ items) step is = kernel_same schedule (take_kernel_item schedule s i) items step (rw is refl)
-
-kernel_stays : (schedule : List ℕ) (s : KernelAlone) (front more : List Item) (step : ℕ) →
-    (kernel_taken schedule s front).unfit ≡ Some step → (kernel_taken schedule s (front ++ more)).unfit ≡ Some step
-unfolding kernel_taken
-kernel_stays schedule s [] more step is = kernel_same schedule s more step is
-kernel_stays schedule s (i ∷ front) more step is =
-    kernel_stays schedule (take_kernel_item schedule s i) front more step is
-
-program_same : (d : ℕ) (schedule : List ℕ) (s : DomainAlone) (items : List Item) (step : ℕ) → s.unfit ≡ Some step →
-    (domain_taken d schedule s items).unfit ≡ Some step
-unfolding domain_taken take_domain_item
-program_same d schedule s [] step is = is
-program_same d schedule s (i ∷ items) step is =
-    program_same d schedule (take_domain_item d schedule s i) items step (rw is refl)
-
-program_stays : (d : ℕ) (schedule : List ℕ) (s : DomainAlone) (front more : List Item) (step : ℕ) →
-    (domain_taken d schedule s front).unfit ≡ Some step → (domain_taken d schedule s (front ++ more)).unfit ≡ Some step
-unfolding domain_taken
-program_stays d schedule s [] more step is = program_same d schedule s more step is
-program_stays d schedule s (i ∷ front) more step is =
-    program_stays d schedule (take_domain_item d schedule s i) front more step is
 
 -- of items that fit, a front does
 front_fits : (b : Bundle) (front more : List Item) (step : ℕ) → IsUnfitAlone b front step → FitsAlone b (front ++ more) → ⊥

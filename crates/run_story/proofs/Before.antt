@@ -66,8 +66,8 @@ page_before : (ctx n m : ℕ) (p : Option Presented) → n < m → StandsAfter n
 page_before ctx n m None less is = tt
 page_before ctx n m (Some p) less is = omega (arith, is, less)
 
-question_before : (place : model.KernelPlace) (n m : ℕ) (presented : ℕ → ℕ → Option Presented) → n < m →
-    ((hart ctx : ℕ) → StandsAfter n (presented hart ctx)) → IsBefore m (question_due place presented)
+question_before : (stage : model.KernelStage) (n m : ℕ) (presented : ℕ → ℕ → Option Presented) → n < m →
+    ((hart ctx : ℕ) → StandsAfter n (presented hart ctx)) → IsBefore m (question_due stage presented)
 question_before (model.Inside hart ctx) n m presented less is =
     page_before ctx n m (presented hart ctx) less (is hart ctx)
 question_before (model.Outside hart) n m presented less is = tt
@@ -76,7 +76,7 @@ question_before model.Left n m presented less is = tt
 
 in_before : (b : Bundle) (items : List Item) (n m : ℕ) → n < m → IsBefore m (question_in b items n)
 in_before b items n m less =
-    question_before (kernel_alone b.kernel items).place n m (λ hart ctx. presented_in b items n hart ctx) less
+    question_before (kernel_alone b.kernel items).stage n m (λ hart ctx. presented_in b items n hart ctx) less
     (λ hart ctx. in_after b items n hart ctx)
 
 -- What is met with an item.
@@ -102,8 +102,8 @@ resume_before b items notes d n hart w =
     let why = refused_for notes w.ctx w.satp (standing_told b items w.ctx) in
     if_before (domain_of w.ctx == d) (due_for asking why) n (asked_before asking why n)
 
-at_before : (b : Bundle) (items : List Item) (notes : Notes) (due : Due) (d n : ℕ) (place : model.KernelPlace) →
-    IsBefore n due → IsBefore n (due_at b items notes due d place)
+at_before : (b : Bundle) (items : List Item) (notes : Notes) (due : Due) (d n : ℕ) (stage : model.KernelStage) →
+    IsBefore n due → IsBefore n (due_at b items notes due d stage)
 at_before b items notes due d n (model.Outside hart) is =
     resume_before b items notes d n hart (words_of (kernel_hart (kernel_alone b.kernel items).kernel hart))
 at_before b items notes due d n model.Between is = own_before d due n is
@@ -113,7 +113,7 @@ at_before b items notes due d n model.Left is = own_before d due n is
 met_before : (b : Bundle) (items : List Item) (notes : Notes) (due : Due) (n : ℕ) (i : Item) → IsBefore n due →
     IsBefore n (due_met b items notes due i)
 met_before b items notes due n (item.Ended d) is =
-    at_before b items notes due d n (kernel_alone b.kernel items).place is
+    at_before b items notes due d n (kernel_alone b.kernel items).stage is
 met_before b items notes due n _ is = is
 
 -- What is due after items.

@@ -7,8 +7,8 @@ use Rattle.record_reader.specs.declared.reader.Reader.{Reader}
 use Rattle.read_back.specs.Reading.{ReadsAs}
 use Rattle.read_back.specs.declared.ending.Ending.{Ending}
 use Rattle.read_back.specs.declared.ending.Ending.TheVariants as ending
-use Rattle.record_text.specs.Reading.{Finds, StandsAt}
-use Rattle.record_text.proofs.Shown.{finds}
+use Rattle.read_back.specs.Items.{Finds, StandsAt}
+use Rattle.read_back.proofs.ItemsRead.{finds}
 use Rattle.run_story.specs.Answering.{BeginsSo, EndsAfter, LacksStory, TellsItem, TellsPage, TellsStory}
 use Rattle.run_story.specs.Gathering.{GathersAgain}
 use Rattle.run_story.specs.Passages.{IsPageTold, lines_of, page_text}

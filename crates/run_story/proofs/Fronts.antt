@@ -13,7 +13,7 @@ use Rattle.cloak_model.specs.declared.item.Item.{Item}
 use Rattle.cloak_model.specs.declared.record.Stage.{Stage}
 use Rattle.cloak_model.specs.declared.record.Stage.TheVariants.{Opening}
 use Rattle.record_law.proofs.Following.{Succeeds}
-use Rattle.record_law.proofs.Judged.{Begins-front, end_stops, front_bytes, magic_same, same_item, wrong_stops}
+use Rattle.record_law.proofs.Judged.{Begins-front, end_stops, front_bytes, magic_right, magic_same, same_item, wrong_stops}
 use Rattle.record_law.proofs.Orders.{Stands}
 use Rattle.record_reader.specs.Reading.{HasFaultAt}
 use Rattle.read_back.specs.Reading.{BeginsWith}
@@ -89,17 +89,6 @@ no_end file front longer is long less =
     let next = goes_on Opening front longer [] there.0 b.stands is.fields b.fields less
     (append-nil _ ∙ magic_same _ _ (is.spells ∙ sym b.spells)) in
     end_stops _ next.item _ next.fits next.follows next.bytes
-
--- a file that begins with the magic has no fault there
-magic_right : (file rest : List ℕ) → record_magic ++ rest ≡ file → magic_fault file ≡ None
-unfolding magic_fault
-magic_right file rest e =
-    let long : length file ≡ 8 + length rest =
-    sym (ap (λ (l : List ℕ). length l) e) ∙ length-append record_magic rest in
-    let test : ltb (length file) 8 ≡ false = le-ltb _ _ (omega arith) in
-    let front : take 8 file ≡ record_magic = sym (ap (take 8) e) in
-    let same : bytes_eq (take 8 file) record_magic ≡ true = (bytes_eq-Decides (take 8 file) record_magic).1 front in
-    rw (test, same) refl
 
 -- nothing is wrong there
 pub no_fault : (file : List ℕ) (front longer : List Item) (fault : RecordFault) → HasFaultAt file front fault →

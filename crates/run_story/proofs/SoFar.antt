@@ -4,8 +4,8 @@ use Rattle.cloak_model.specs.declared.image.Bundle.{Bundle}
 use Rattle.cloak_model.specs.declared.item.Item.{Item}
 use Rattle.record_reader.specs.declared.reader.Reader.{Reader}
 use Rattle.read_back.proofs.NextItem.{told_begins}
-use Rattle.record_text.specs.Reading.{Finds, StandsAt}
-use Rattle.record_text.proofs.Shown.{finds}
+use Rattle.read_back.specs.Items.{Finds, StandsAt}
+use Rattle.read_back.proofs.ItemsRead.{finds}
 use Rattle.run_story.specs.Answering.{BeginsSo, TellsItem, TellsStory}
 use Rattle.run_story.specs.Telling.{Tells}
 use Rattle.run_story.specs.declared.story.Story.{Story}

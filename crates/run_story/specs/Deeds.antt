@@ -146,7 +146,7 @@ hart_events p step hart None was now = []
 hart_events p step hart (Some h) was now = step_events p step hart (disk_call was.ram h) was now
 
 -- a hart that is outside made its step
-abbrev pub made_events : Presented → ℕ → model.KernelPlace → KernelPart → KernelPart → List PageEvent
+abbrev pub made_events : Presented → ℕ → model.KernelStage → KernelPart → KernelPart → List PageEvent
 made_events p step (model.Outside hart) was now = hart_events p step hart (slice_get was.harts hart) was now
 made_events p step model.Between was now = []
 made_events p step (model.Inside hart ctx) was now = []
@@ -156,7 +156,7 @@ made_events p step model.Left was now = []
 
 abbrev pub item_events : Bundle → Presented → List Item → Item → List PageEvent
 item_events b p items (item.Step number) =
-    made_events p (noted_in b items).notes.step (kernel_alone b.kernel items).place (kernel_alone b.kernel items).kernel
+    made_events p (noted_in b items).notes.step (kernel_alone b.kernel items).stage (kernel_alone b.kernel items).kernel
     (kernel_alone b.kernel (items ++ item.Step number ∷ [])).kernel
 item_events b p items i = showing_events p (showing_told b items i)
 

@@ -54,7 +54,7 @@ pub record StandsAhead (does : KernelPart → List PageEvent) (was : KernelPart)
 -- what the step does that an item ends after these items, by the kernel after it
 abbrev pub ended_events : Bundle → Presented → List Item → Item → KernelPart → List PageEvent
 ended_events b p items (item.Step number) now =
-    made_events p (noted_in b items).notes.step (kernel_alone b.kernel items).place
+    made_events p (noted_in b items).notes.step (kernel_alone b.kernel items).stage
     (kernel_alone b.kernel items).kernel now
 ended_events b p items _ now = []
 

@@ -102,7 +102,7 @@ own_due d (Resume asking why) = Nothing
 own_due d Nothing = Nothing
 
 -- By what a program of this number ends, if it does after these items.
-abbrev pub due_at : Bundle → List Item → Notes → Due → ℕ → model.KernelPlace → Due
+abbrev pub due_at : Bundle → List Item → Notes → Due → ℕ → model.KernelStage → Due
 due_at b items n due d (model.Outside hart) =
     resume_due b items n d hart (words_of (kernel_hart (kernel_alone b.kernel items).kernel hart))
 due_at b items n due d model.Between = own_due d due
@@ -111,7 +111,7 @@ due_at b items n due d model.Left = own_due d due
 
 -- with this item
 abbrev pub due_met : Bundle → List Item → Notes → Due → Item → Due
-due_met b items n due (item.Ended d) = due_at b items n due d (kernel_alone b.kernel items).place
+due_met b items n due (item.Ended d) = due_at b items n due d (kernel_alone b.kernel items).stage
 due_met b items n due _ = due
 
 -- A question of a context was stopped, and this is known of the page that was presented for it.
@@ -120,7 +120,7 @@ page_due ctx None = Question ctx
 page_due ctx (Some p) = Page p
 
 -- it was one of the context that runs
-abbrev pub question_due : model.KernelPlace → (ℕ → ℕ → Option Presented) → Due
+abbrev pub question_due : model.KernelStage → (ℕ → ℕ → Option Presented) → Due
 question_due (model.Inside hart ctx) presented = page_due ctx (presented hart ctx)
 question_due (model.Outside hart) presented = Nothing
 question_due model.Between presented = Nothing
@@ -129,7 +129,7 @@ question_due model.Left presented = Nothing
 -- What was presented for the last question of these items, before which there were so many.
 abbrev pub question_in : Bundle → List Item → ℕ → Due
 question_in b items before =
-    question_due (kernel_alone b.kernel items).place (λ hart ctx. presented_in b items before hart ctx)
+    question_due (kernel_alone b.kernel items).stage (λ hart ctx. presented_in b items before hart ctx)
 
 -- What is presented after an item, if this was presented for a question that it stopped, and this was met with it.
 abbrev pub due_after : Due → Due → Item → Due

@@ -21,9 +21,8 @@ use crate::untold::Untold;
 use cloak_model::{Bundle, Item};
 use command_parts::{Refusal, Status, read_bundle, refuse};
 use io_traits::{Shelf, Sink, put_all};
-use read_back::{Ending, show_fault, status};
+use read_back::{Ending, next_item, show_fault, status};
 use record_reader::{KeptItems, Reader};
-use record_text::next_item;
 use replayed_run::Watch;
 use std::alloc::Global;
 

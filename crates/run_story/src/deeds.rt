@@ -15,7 +15,7 @@ ghost use Rattle.run_story.specs.declared.deeds.PageEvent.{PageEvent};
 ghost use Rattle.run_story.specs.declared.presented.Presented.{Presented};
 
 use crate::presented::Presented;
-use alone_views::KernelPlace;
+use alone_views::KernelStage;
 use cloak_base::{NoMemory, PageId};
 use cloak_model::Item;
 use host_calls::Hart;
@@ -423,15 +423,15 @@ impl Deeds {
     /// What the open step of the kernel is about to find and to do, if one is open.
     fn open_ahead(&mut self, watch: &Watch) -> Option<StepAhead>
         ensures ahead { (b : Bundle) (items : List Item) → Watches b items watch.now →
-            StandsAhead (spec.made_events self.new.target (notes_of watch.now).step (kernel_alone b.kernel items).place
+            StandsAhead (spec.made_events self.new.target (notes_of watch.now).step (kernel_alone b.kernel items).stage
             (kernel_alone b.kernel items).kernel) (kernel_alone b.kernel items).kernel self.new result }
         ensures same { KeepsDeeds self.old self.new }
     {
-        match watch.place() {
-            KernelPlace::Outside { hart } => self.hart_ahead(watch, hart),
-            KernelPlace::Between => None,
-            KernelPlace::Inside { .. } => None,
-            KernelPlace::Left => None,
+        match watch.stage() {
+            KernelStage::Outside { hart } => self.hart_ahead(watch, hart),
+            KernelStage::Between => None,
+            KernelStage::Inside { .. } => None,
+            KernelStage::Left => None,
         }
     }
 

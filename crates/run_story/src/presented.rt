@@ -9,7 +9,7 @@ ghost use Rattle.run_story.specs.Presenting as model;
 ghost use Rattle.run_story.specs.Told as spec;
 ghost use Rattle.run_story.specs.Telling.{due_of};
 
-use alone_views::KernelPlace;
+use alone_views::KernelStage;
 use cloak_base::HartId;
 use replayed_run::{
     FirstTable, HartWords, PresentedPage, Showing, StandingContext, Tables, ToldContext, Watch,
@@ -150,8 +150,8 @@ pub fn question_target(watch: &Watch, before: u64) -> Target
     ensures { (b : Bundle) (items : List Item) → Watches b items watch.now →
         due_of result ≡ spec.question_in b items before }
 {
-    match watch.place() {
-        KernelPlace::Inside { hart, ctx } => {
+    match watch.stage() {
+        KernelStage::Inside { hart, ctx } => {
             let question = StoppedQuestion {
                 step: watch.step(),
                 hart,
@@ -160,9 +160,9 @@ pub fn question_target(watch: &Watch, before: u64) -> Target
             };
             page_target(ctx, presented_for(watch, question, watch.presented()))
         }
-        KernelPlace::Outside { .. } => Target::Nothing,
-        KernelPlace::Between => Target::Nothing,
-        KernelPlace::Left => Target::Nothing,
+        KernelStage::Outside { .. } => Target::Nothing,
+        KernelStage::Between => Target::Nothing,
+        KernelStage::Left => Target::Nothing,
     }
 }
 
@@ -253,12 +253,12 @@ fn own_target(target: Target, domain: u32) -> Target
 pub fn end_target(watch: &Watch, target: Target, domain: u32) -> Target
     ensures { (b : Bundle) (items : List Item) → Watches b items watch.now →
         due_of result ≡ spec.due_at b items (notes_of watch.now) (due_of target) domain
-        (kernel_alone b.kernel items).place }
+        (kernel_alone b.kernel items).stage }
 {
-    match watch.place() {
-        KernelPlace::Outside { hart } => resume_target(watch, domain, hart),
-        KernelPlace::Between => own_target(target, domain),
-        KernelPlace::Inside { .. } => own_target(target, domain),
-        KernelPlace::Left => own_target(target, domain),
+    match watch.stage() {
+        KernelStage::Outside { hart } => resume_target(watch, domain, hart),
+        KernelStage::Between => own_target(target, domain),
+        KernelStage::Inside { .. } => own_target(target, domain),
+        KernelStage::Left => own_target(target, domain),
     }
 }

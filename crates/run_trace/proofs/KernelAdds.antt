@@ -6,7 +6,7 @@ use Rattle.cloak_model.specs.Exchange.{Piece}
 use Rattle.cloak_model.specs.KernelAlone as model
 use Rattle.cloak_model.specs.KernelAlone.{kernel_hart, take_kernel_item}
 use Rattle.alone_views.specs.KernelEnding.{EndsAs, ending_in, is_end, plain_ending}
-use Rattle.alone_views.specs.KernelPlaces.{stood_place}
+use Rattle.alone_views.specs.KernelStages.{stood_stage}
 use Rattle.alone_views.specs.KernelStanding.{StandsForKernel, TakesItem, answer_for, unfit_step}
 use Rattle.alone_views.specs.declared.kernel.KernelAlone.{KernelAlone}
 use Rattle.alone_views.specs.declared.unfit.Unfit.{Unfit}
@@ -35,9 +35,9 @@ if_chosen true o P p = p
 if_chosen false o P p = tt
 
 -- the step that was open ended as the machine tells
-pub ended_as : (c : TraceChoice) (machine : KernelAlone) (s : model.KernelAlone) (place : model.KernelPlace) →
-    s.place ≡ place → ((number : ℕ) → s.place ≡ model.Outside number → ending_in machine ≡ plain_ending number s) →
-    EndedAs (open_at c place s) machine s
+pub ended_as : (c : TraceChoice) (machine : KernelAlone) (s : model.KernelAlone) (stage : model.KernelStage) →
+    s.stage ≡ stage → ((number : ℕ) → s.stage ≡ model.Outside number → ending_in machine ≡ plain_ending number s) →
+    EndedAs (open_at c stage s) machine s
 ended_as c machine s (model.Outside number) at ends = if_chosen (has_step c s.steps (Some number))
     (record { step = s.steps; hart = number; ahead = ahead_of s.kernel.ram (kernel_hart s.kernel number) })
     (λ x. ending_in machine ≡ plain_ending x.hart s) (ends number at)
@@ -63,7 +63,7 @@ adds_marker {E} {gave} {e} {e'} {old} {new} {was} {now} {given} c turns s i o is
     let next = take_kernel_item turns s i in
     let ended : EndedAs o now s =
     subst (λ (x : Option OpenStep). EndedAs x now s) (sym open_is)
-    (ended_as c now s s.place refl (λ number at. ending is (none_unfit was turns s stands fits) turns s stands number at)) in
+    (ended_as c now s s.stage refl (λ number at. ending is (none_unfit was turns s stands fits) turns s stands number at)) in
     record {
       stands = takes.gains.stands;
       answer = takes.answer;
@@ -88,7 +88,7 @@ added_outward c s next i no_end is =
 pub adds_outward : {E : Type 0} {gave : E → E → List Piece → Type 0} {e e' : E} {old new : Putting}
     {now : KernelAlone} {given : Result Unit Unfit} (c : TraceChoice) (turns : List ℕ) (s : model.KernelAlone) (i : Item)
     (step : ℕ) (hart : Option ℕ) (chosen : Bool) → is_end i ≡ false → is_outward i ≡ true →
-    TakesItem gave e e' now given turns s (take_kernel_item turns s i) → step ≡ s.steps → hart ≡ hart_there s.place →
+    TakesItem gave e e' now given turns s (take_kernel_item turns s i) → step ≡ s.steps → hart ≡ hart_there s.stage →
     chosen ≡ has_step c step hart →
     PutsMore old new (if is_ok given && chosen then item_line step hart i else []) → AddsItem old new now given c turns s i
 adds_outward {E} {gave} {e} {e'} {old} {new} {now} {given} c turns s i step hart chosen no_end is takes at there has puts =
@@ -127,11 +127,11 @@ adds_none {E} {gave} {e} {e'} {old} {new} {now} {given} c turns s i no_end inwar
 
 -- The step that is open.
 
-pub open_of : (c : TraceChoice) (machine : KernelAlone) (turns : List ℕ) (s : model.KernelAlone) (place : model.KernelPlace)
-    (o : Option OpenStep) → stood_place machine.place ≡ place → StandsForKernel machine turns s → o ≡ open_at c place s →
+pub open_of : (c : TraceChoice) (machine : KernelAlone) (turns : List ℕ) (s : model.KernelAlone) (stage : model.KernelStage)
+    (o : Option OpenStep) → stood_stage machine.stage ≡ stage → StandsForKernel machine turns s → o ≡ open_at c stage s →
     o ≡ open_step c s
-open_of c machine turns s place o is stands at =
-    at ∙ ap (λ (p : model.KernelPlace). open_at c p s) (sym is ∙ sym (ap (λ (t : model.KernelAlone). t.place) stands.state))
+open_of c machine turns s stage o is stands at =
+    at ∙ ap (λ (p : model.KernelStage). open_at c p s) (sym is ∙ sym (ap (λ (t : model.KernelAlone). t.stage) stands.state))
 
 -- the step of this hart, if it is chosen
 is_chosen : (c : TraceChoice) (s : model.KernelAlone) (hart step : ℕ) (b truth : Bool) → step ≡ s.steps →

@@ -19,7 +19,7 @@ use Rattle.read_back.specs.Answering.{viewed_unfit}
 use Rattle.read_back.specs.Reading.{IsReadTo}
 use Rattle.read_back.specs.declared.ending.Ending.{Ending}
 use Rattle.read_back.specs.declared.ending.Ending.TheVariants as ending
-use Rattle.read_back.proofs.KernelReads.{at_front}
+use Rattle.read_back.proofs.ItemsRead.{at_front}
 use Rattle.read_back.proofs.NextItem.{told_begins}
 use Rattle.run_trace.specs.KernelTrace.{added_by, kernel_trace, traced}
 use Rattle.run_trace.specs.Tracing.{AddsItem, Traces, TracesTo}
@@ -43,7 +43,7 @@ trace_opens c k machine told reader at stands front = record {
   items = [];
   fits = refl;
   stands = stands;
-  behind = at_front reader told front;
+  behind = at_front told reader front;
   text = PutsMore-none at;
 }
 

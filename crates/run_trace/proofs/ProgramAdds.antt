@@ -35,7 +35,7 @@ added_own : (c : TraceChoice) (d : ℕ) (turns : List ℕ) (s next : model.Domai
 unfolding program_added
 added_own c d turns s next i is =
     sym (ap (λ (b : Bool). let t : List ℕ = if b then own_line c turns (is_none next.unfit) s i else
-    made_if (is_made next.unfit next.place i) (open_context c d turns s) next i in t) is)
+    made_if (is_made next.unfit next.stage i) (open_context c d turns s) next i in t) is)
 
 pub adds_own : {old new : Putting} {now : DomainAlone} {given : Result Unit Unfit} (c : TraceChoice) (d : ℕ)
     (turns : List ℕ) (s : model.DomainAlone) (i : Item) (step hart : ℕ) (chosen : Bool) → is_own d i ≡ true →
@@ -61,19 +61,19 @@ adds_own {old} {new} {now} {given} c d turns s i step hart chosen is takes at th
 -- Others.
 
 added_step : (c : TraceChoice) (d : ℕ) (turns : List ℕ) (s next : model.DomainAlone) (i : Item) → is_own d i ≡ false →
-    made_if (is_made next.unfit next.place i) (open_context c d turns s) next i ≡ program_added c d turns s next i
+    made_if (is_made next.unfit next.stage i) (open_context c d turns s) next i ≡ program_added c d turns s next i
 unfolding program_added
 added_step c d turns s next i other =
     sym (ap (λ (b : Bool). let t : List ℕ = if b then own_line c turns (is_none next.unfit) s i else
-    made_if (is_made next.unfit next.place i) (open_context c d turns s) next i in t) other)
+    made_if (is_made next.unfit next.stage i) (open_context c d turns s) next i in t) other)
 
 pub adds_step : {old new : Putting} {now : DomainAlone} {given : Result Unit Unfit} (c : TraceChoice) (d : ℕ)
     (turns : List ℕ) (s : model.DomainAlone) (i : Item) (o : Option OpenContext) (made : Bool) → is_own d i ≡ false →
     TakesDomainItem d turns now given (take_domain_item d turns s i) → o ≡ open_context c d turns s →
     ((number : ℕ) (turns : List ℕ) (next : model.DomainAlone) → StandsForDomain number turns now next →
-    is_ok given ≡ is_none next.unfit → made ≡ is_made next.unfit next.place i) →
+    is_ok given ≡ is_none next.unfit → made ≡ is_made next.unfit next.stage i) →
     ((number : ℕ) (turns : List ℕ) (next : model.DomainAlone) → StandsForDomain number turns now next →
-    made ≡ is_made next.unfit next.place i → PutsMore old new (made_if made o next i)) →
+    made ≡ is_made next.unfit next.stage i → PutsMore old new (made_if made o next i)) →
     AddsOwn old new now given c d turns s i
 adds_step {old} {new} {now} {given} c d turns s i o made other takes is told puts =
     let next = take_domain_item d turns s i in
@@ -83,28 +83,28 @@ adds_step {old} {new} {now} {given} c d turns s i o made other takes is told put
       answer = takes.answer;
       text = text_is (puts d turns next takes.stands makes)
           (ap (λ (b : Bool). made_if b o next i) makes
-          ∙ (ap (λ (x : Option OpenContext). made_if (is_made next.unfit next.place i) x next i) is
+          ∙ (ap (λ (x : Option OpenContext). made_if (is_made next.unfit next.stage i) x next i) is
           ∙ added_step c d turns s next i other));
     }
 
 -- an item that was unfit made no step
-pub none_made : (u : Option ℕ) (place : model.DomainPlace) (i : Item) → false ≡ is_none u → false ≡ is_made u place i
-none_made None place i is = absurd (let clash : false ≡ true = is in cc)
-none_made (Some step) place i is = refl
+pub none_made : (u : Option ℕ) (stage : model.DomainStage) (i : Item) → false ≡ is_none u → false ≡ is_made u stage i
+none_made None stage i is = absurd (let clash : false ≡ true = is in cc)
+none_made (Some step) stage i is = refl
 
 pub none_fit : (u : Option ℕ) → true ≡ is_none u → u ≡ None
 none_fit None is = refl
 none_fit (Some step) is = absurd (let clash : true ≡ false = is in cc)
 
-pub made_fit : (u : Option ℕ) (place : model.DomainPlace) (i : Item) → true ≡ is_none u →
-    is_end i || is_none (running_in place) ≡ is_made u place i
-made_fit None place i is = refl
-made_fit (Some step) place i is = absurd (let clash : true ≡ false = is in cc)
+pub made_fit : (u : Option ℕ) (stage : model.DomainStage) (i : Item) → true ≡ is_none u →
+    is_end i || is_none (running_in stage) ≡ is_made u stage i
+made_fit None stage i is = refl
+made_fit (Some step) stage i is = absurd (let clash : true ≡ false = is in cc)
 
 -- with an item that made one none was unfit
-pub fit_by_made : (u : Option ℕ) (place : model.DomainPlace) (i : Item) → true ≡ is_made u place i → u ≡ None
-fit_by_made None place i is = refl
-fit_by_made (Some step) place i is = absurd (let clash : true ≡ false = is in cc)
+pub fit_by_made : (u : Option ℕ) (stage : model.DomainStage) (i : Item) → true ≡ is_made u stage i → u ≡ None
+fit_by_made None stage i is = refl
+fit_by_made (Some step) stage i is = absurd (let clash : true ≡ false = is in cc)
 
 -- The step that is open.
 

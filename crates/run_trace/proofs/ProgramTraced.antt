@@ -19,7 +19,7 @@ use Rattle.read_back.specs.Answering.{program_unfit}
 use Rattle.read_back.specs.Reading.{IsReadTo}
 use Rattle.read_back.specs.declared.ending.Ending.{Ending}
 use Rattle.read_back.specs.declared.ending.Ending.TheVariants as ending
-use Rattle.read_back.proofs.KernelReads.{at_front}
+use Rattle.read_back.proofs.ItemsRead.{at_front}
 use Rattle.read_back.proofs.NextItem.{told_begins}
 use Rattle.run_trace.specs.ProgramTrace.{program_added, program_trace, program_traced}
 use Rattle.run_trace.specs.ProgramTracing.{AddsOwn, TracesOwn, TracesProgram}
@@ -43,7 +43,7 @@ own_opens c d k p machine told reader at stands front = record {
   items = [];
   fits = refl;
   stands = stands;
-  behind = at_front reader told front;
+  behind = at_front told reader front;
   text = PutsMore-none at;
 }
 

@@ -14,7 +14,7 @@ use Rattle.run_trace.specs.declared.choice.TraceChoice.{TraceChoice}
 use Rattle.run_trace.specs.declared.kernel_side.OpenStep.{OpenStep}
 
 -- The step of a hart outside that is open, if it is chosen: what the hart is about to do.
-abbrev pub open_at : TraceChoice → model.KernelPlace → model.KernelAlone → Option OpenStep
+abbrev pub open_at : TraceChoice → model.KernelStage → model.KernelAlone → Option OpenStep
 open_at c (model.Outside number) s =
     if has_step c s.steps (Some number)
     then Some (record { step = s.steps; hart = number; ahead = ahead_of s.kernel.ram (kernel_hart s.kernel number) })
@@ -24,7 +24,7 @@ open_at c (model.Inside number ctx) s = None
 open_at c model.Left s = None
 
 abbrev pub open_step : TraceChoice → model.KernelAlone → Option OpenStep
-open_step c s = open_at c s.place s
+open_step c s = open_at c s.stage s
 
 -- The line of a step that was open, over the states before and after the marker that ends it. (A step of a hart inside
 -- has no line of its own.)
@@ -38,7 +38,7 @@ abbrev pub ended_step : TraceChoice → model.KernelAlone → model.KernelAlone 
 ended_step c s next = made_line (open_step c s) s next
 
 -- the hart in whose step the items stand
-abbrev pub hart_there : model.KernelPlace → Option ℕ
+abbrev pub hart_there : model.KernelStage → Option ℕ
 hart_there (model.Outside number) = Some number
 hart_there (model.Inside number ctx) = Some number
 hart_there model.Between = None
@@ -54,7 +54,7 @@ is_outward other = false
 -- it is shown if it fits and is chosen
 abbrev pub outward_line : TraceChoice → Bool → model.KernelAlone → Item → List ℕ
 outward_line c fits s i =
-    if fits && has_step c s.steps (hart_there s.place) then item_line s.steps (hart_there s.place) i else []
+    if fits && has_step c s.steps (hart_there s.stage) then item_line s.steps (hart_there s.stage) i else []
 
 -- What an item adds: a marker the step that it ends, and an item that the kernel could see itself.
 unfoldable pub added_by : TraceChoice → model.KernelAlone → model.KernelAlone → Item → List ℕ

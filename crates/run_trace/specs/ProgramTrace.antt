@@ -124,7 +124,7 @@ open_slot c d turns s None = None
 open_slot c d turns s (Some slot) = open_with c d turns s slot (context_at s.part.domain.control.contexts slot)
 
 abbrev pub open_context : TraceChoice → ℕ → List ℕ → model.DomainAlone → Option OpenContext
-open_context c d turns s = open_slot c d turns s (running_in s.place)
+open_context c d turns s = open_slot c d turns s (running_in s.stage)
 
 -- The last answer that a step got, by the item after which it was made.
 
@@ -150,9 +150,9 @@ made_context (Some o) next i =
     (value_after next.part o.space o.ahead.reached)
 
 -- the step was made: it has its items, or it ended without one
-abbrev pub is_made : Option ℕ → model.DomainPlace → Item → Bool
-is_made None place i = is_end i || is_none (running_in place)
-is_made (Some unfit) place i = false
+abbrev pub is_made : Option ℕ → model.DomainStage → Item → Bool
+is_made None stage i = is_end i || is_none (running_in stage)
+is_made (Some unfit) stage i = false
 
 abbrev pub made_if : Bool → Option OpenContext → model.DomainAlone → Item → List ℕ
 made_if made o next i = if made then made_context o next i else []
@@ -172,7 +172,7 @@ own_line c turns fits s i =
 unfoldable pub program_added : TraceChoice → ℕ → List ℕ → model.DomainAlone → model.DomainAlone → Item → List ℕ
 program_added c d turns s next i =
     if is_own d i then own_line c turns (is_none next.unfit) s i else
-    made_if (is_made next.unfit next.place i) (open_context c d turns s) next i
+    made_if (is_made next.unfit next.stage i) (open_context c d turns s) next i
 
 -- the items in their order
 unfoldable pub program_traced : TraceChoice → ℕ → List ℕ → model.DomainAlone → List Item → List ℕ

@@ -5,7 +5,7 @@ ghost use Rattle.cloak_model.specs.KernelAlone.{kernel_hart};
 ghost use Rattle.cloak_model.specs.Record.{IsItem};
 ghost use Rattle.alone_views.specs.KernelEnding as endings;
 ghost use Rattle.alone_views.specs.KernelEnding.{is_end};
-ghost use Rattle.alone_views.specs.KernelPlaces.{stood_place};
+ghost use Rattle.alone_views.specs.KernelStages.{stood_stage};
 ghost use Rattle.alone_views.specs.KernelStanding.{StandsForKernel};
 ghost use Rattle.kernel_report.specs.Putting.{PutsMore, putting};
 ghost use Rattle.step_lines.specs.Ahead.{ahead_of};
@@ -16,7 +16,7 @@ ghost use Rattle.run_trace.specs.Tracing.{AddsItem, EndedAs};
 
 use crate::choice::TraceChoice;
 use crate::silent::Silence;
-use alone_views::{KernelAlone, KernelPlace, Unfit};
+use alone_views::{KernelAlone, KernelStage, Unfit};
 use cloak_model::Item;
 use host_calls::Hart;
 use io_traits::Sink;
@@ -80,11 +80,11 @@ fn open_step(kernel: &KernelAlone, choice: &TraceChoice) -> Option<OpenStep>
     ensures { (turns : List ℕ) (s : model.KernelAlone) → StandsForKernel kernel.now turns s →
         result ≡ spec.open_step choice.now s }
 {
-    match kernel.place() {
-        KernelPlace::Outside { hart } => open_at(kernel, choice, hart),
-        KernelPlace::Between => None,
-        KernelPlace::Inside { .. } => None,
-        KernelPlace::Left => None,
+    match kernel.stage() {
+        KernelStage::Outside { hart } => open_at(kernel, choice, hart),
+        KernelStage::Between => None,
+        KernelStage::Inside { .. } => None,
+        KernelStage::Left => None,
     }
 }
 
@@ -137,14 +137,14 @@ fn trace_marker<O: Sink>(
 }
 
 /// The hart in whose step the items stand.
-fn hart_there(place: KernelPlace) -> Option<usize>
-    ensures { result ≡ spec.hart_there (stood_place place) }
+fn hart_there(stage: KernelStage) -> Option<usize>
+    ensures { result ≡ spec.hart_there (stood_stage stage) }
 {
-    match place {
-        KernelPlace::Outside { hart } => Some(hart),
-        KernelPlace::Inside { hart, .. } => Some(hart),
-        KernelPlace::Between => None,
-        KernelPlace::Left => None,
+    match stage {
+        KernelStage::Outside { hart } => Some(hart),
+        KernelStage::Inside { hart, .. } => Some(hart),
+        KernelStage::Between => None,
+        KernelStage::Left => None,
     }
 }
 
@@ -188,7 +188,7 @@ fn trace_outward<O: Sink>(
         result.1 choice.now turns s item.now }
 {
     let step = kernel.step();
-    let hart = hart_there(kernel.place());
+    let hart = hart_there(kernel.stage());
     let chosen = choice.has(step, hart);
     let taken = kernel.take(item, &mut Silence {});
     let so_far = put_fitting(out, so_far, &taken, chosen, step, hart, item);

@@ -181,7 +181,7 @@ fn is_last(ends: bool, running: Option<u32>) -> bool
 fn made_with(program: &DomainAlone, item: &Item) -> bool
     ensures { (number : ℕ) (turns : List ℕ) (next : model.DomainAlone) →
         StandsForDomain number turns program.now next → next.unfit ≡ None →
-        result ≡ endings.is_end item.now || is_none (running_in next.place) }
+        result ≡ endings.is_end item.now || is_none (running_in next.stage) }
 {
     is_last(is_end(item), program.running())
 }
@@ -190,7 +190,7 @@ fn made_with(program: &DomainAlone, item: &Item) -> bool
 fn is_made(taken: &Result<(), Unfit>, program: &DomainAlone, item: &Item) -> bool
     ensures { (number : ℕ) (turns : List ℕ) (next : model.DomainAlone) →
         StandsForDomain number turns program.now next → is_ok taken.now ≡ is_none next.unfit →
-        result ≡ spec.is_made next.unfit next.place item.now }
+        result ≡ spec.is_made next.unfit next.stage item.now }
 {
     match taken {
         Err(_) => false,
@@ -208,7 +208,7 @@ fn put_made_if<O: Sink>(
     item: &Item,
 ) -> SoFar
     ensures { (number : ℕ) (turns : List ℕ) (next : model.DomainAlone) →
-        StandsForDomain number turns program.now next → made ≡ spec.is_made next.unfit next.place item.now →
+        StandsForDomain number turns program.now next → made ≡ spec.is_made next.unfit next.stage item.now →
         PutsMore (putting O.Sink out.old so_far) (putting O.Sink out.new result)
         (spec.made_if made open.now next item.now) }
 {

@@ -13,6 +13,7 @@ use Rattle.rv_atomic.specs.declared.atomic.Atomic.{Atomic}
 use Rattle.rv_atomic.specs.declared.atomic.AtomicOp.{AtomicOp}
 use Rattle.rv_atomic.specs.declared.atomic.AtomicOp.TheVariants.{Lr, Sc}
 use Rattle.cloak_model.specs.declared.access.Access.{Access}
+use Rattle.cloak_model.specs.declared.access.Walked.{Walked}
 use Rattle.cloak_model.specs.declared.outcome.Effect.{Effect}
 use Rattle.cloak_model.specs.declared.outcome.Effect.TheVariants as does
 use Rattle.cloak_model.specs.Ask.{ask_value, ask_store, loaded_at, ask_load, stored_to, ask_store_at, reserved_at, ask_reserve, stored_if, conditional_at, ask_store_conditional, combined_at, ask_combine, ask_count, ask_frame, ask_fill, ask_mark, ask_unmark, ask_marked, opened}
@@ -24,6 +25,7 @@ use Rattle.cloak_model.specs.HartStep.{with_word, gone_on, stays, raised, system
 use Rattle.cloak_model.specs.HostCalls.{SteppedKernel, ends, block_at, is_transfer, read_block, write_block, read_call, write_call, host_call, ecall_in, ecall}
 use Rattle.cloak_model.specs.KernelStep.{access, extended, misaligned, is_ecall, or_trap, carried_out, atomic_access, atomic_executed, executed, instruction_step, ticked, ends_reservation, released, kernel_step}
 use Rattle.cloak_model.specs.Memory.{with_mark}
+use Rattle.cloak_model.specs.Walk.{Walk}
 use Rattle.cloak_model.specs.World.{World, marks_of, with_marks, settled, stored_at, filled_frame}
 use Rattle.script_fold.proofs.Questions.{Opens, keeps_led}
 
@@ -55,30 +57,31 @@ module _ (R : World → World → Type 0) (k : Reaches R) where
 
   -- words of memory
 
-  value_kept : (satp : ℕ) (a : Access) (pa width : ℕ) (w : World) → R w (ask_value satp a pa width w).world
+  value_kept : (satp : ℕ) (a : Access) (walked : Walked) (width : ℕ) (w : World) → R w (ask_value satp a walked width w).world
   unfolding ask_value
-  value_kept satp a pa width w = and_then _ _ _ (k.opens.opened satp a pa w) (k.opens.read _ _)
+  value_kept satp a walked width w = and_then _ _ _ (k.opens.opened satp a walked w) (k.opens.read _ _)
 
-  store_kept : (satp : ℕ) (a : Access) (pa width value : ℕ) (w : World) → R w (ask_store satp a pa width value w).world
+  store_kept : (satp : ℕ) (a : Access) (walked : Walked) (width value : ℕ) (w : World) →
+      R w (ask_store satp a walked width value w).world
   unfolding ask_store
-  store_kept satp a pa width value w =
-      and_then _ _ _ (k.opens.opened satp a pa w) (k.stored_at pa width value (opened satp a pa w))
+  store_kept satp a walked width value w =
+      and_then _ _ _ (k.opens.opened satp a walked w) (k.stored_at walked.pa width value (opened satp a walked w))
 
-  loaded_kept : (satp : ℕ) (a : Access) (width : ℕ) (to : Result ℕ ℕ) (w : World) →
+  loaded_kept : (satp : ℕ) (a : Access) (width : ℕ) (to : Walk) (w : World) →
       R w (loaded_at satp a width to w).world
   unfolding loaded_at
   loaded_kept satp a width (Err cause) w = nothing w
-  loaded_kept satp a width (Ok pa) w = value_kept satp a pa width w
+  loaded_kept satp a width (Ok walked) w = value_kept satp a walked width w
 
   load_kept : (satp : ℕ) (a : Access) (width : ℕ) (w : World) → R w (ask_load satp a width w).world
   unfolding ask_load
   load_kept satp a width w = and_then _ _ _ (keeps_led R k.opens satp a w) (loaded_kept satp a width _ _)
 
-  stored_kept : (satp : ℕ) (a : Access) (width value : ℕ) (to : Result ℕ ℕ) (w : World) →
+  stored_kept : (satp : ℕ) (a : Access) (width value : ℕ) (to : Walk) (w : World) →
       R w (stored_to satp a width value to w).world
   unfolding stored_to
   stored_kept satp a width value (Err cause) w = nothing w
-  stored_kept satp a width value (Ok pa) w = store_kept satp a pa width value w
+  stored_kept satp a width value (Ok walked) w = store_kept satp a walked width value w
 
   store_at_kept : (satp : ℕ) (a : Access) (width value : ℕ) (w : World) →
       R w (ask_store_at satp a width value w).world
@@ -93,11 +96,11 @@ module _ (R : World → World → Type 0) (k : Reaches R) where
   unfolding ask_unmark
   unmark_kept hart w = k.marked hart None w
 
-  reserved_kept : (satp : ℕ) (a : Access) (hart : ℕ) (to : Result ℕ ℕ) (w : World) →
+  reserved_kept : (satp : ℕ) (a : Access) (hart : ℕ) (to : Walk) (w : World) →
       R w (reserved_at satp a hart to w).world
   unfolding reserved_at
   reserved_kept satp a hart (Err cause) w = nothing w
-  reserved_kept satp a hart (Ok pa) w = and_then _ _ _ (value_kept satp a pa 4 w) (mark_kept hart pa _)
+  reserved_kept satp a hart (Ok walked) w = and_then _ _ _ (value_kept satp a walked 4 w) (mark_kept hart walked.pa _)
 
   reserve_kept : (satp : ℕ) (a : Access) (hart : ℕ) (w : World) → R w (ask_reserve satp a hart w).world
   unfolding ask_reserve
@@ -108,11 +111,11 @@ module _ (R : World → World → Type 0) (k : Reaches R) where
   if_kept true hart pa value w = and_then _ _ _ (k.stored_at pa 4 value w) (unmark_kept hart _)
   if_kept false hart pa value w = unmark_kept hart w
 
-  conditional_kept : (satp : ℕ) (a : Access) (hart value : ℕ) (to : Result ℕ ℕ) (w : World) →
+  conditional_kept : (satp : ℕ) (a : Access) (hart value : ℕ) (to : Walk) (w : World) →
       R w (conditional_at satp a hart value to w).world
   unfolding conditional_at ask_marked
   conditional_kept satp a hart value (Err cause) w = nothing w
-  conditional_kept satp a hart value (Ok pa) w = and_then _ _ _ (value_kept satp a pa 4 w) (if_kept _ hart pa value _)
+  conditional_kept satp a hart value (Ok walked) w = and_then _ _ _ (value_kept satp a walked 4 w) (if_kept _ hart walked.pa value _)
 
   store_conditional_kept : (satp : ℕ) (a : Access) (hart value : ℕ) (w : World) →
       R w (ask_store_conditional satp a hart value w).world
@@ -120,11 +123,11 @@ module _ (R : World → World → Type 0) (k : Reaches R) where
   store_conditional_kept satp a hart value w =
       and_then _ _ _ (keeps_led R k.opens satp a w) (conditional_kept satp a hart value _ _)
 
-  combined_kept : (satp : ℕ) (a : Access) (op : AtomicOp) (operand : ℕ) (to : Result ℕ ℕ) (w : World) →
+  combined_kept : (satp : ℕ) (a : Access) (op : AtomicOp) (operand : ℕ) (to : Walk) (w : World) →
       R w (combined_at satp a op operand to w).world
   unfolding combined_at
   combined_kept satp a op operand (Err cause) w = nothing w
-  combined_kept satp a op operand (Ok pa) w = and_then _ _ _ (value_kept satp a pa 4 w) (k.stored_at pa 4 _ _)
+  combined_kept satp a op operand (Ok walked) w = and_then _ _ _ (value_kept satp a walked 4 w) (k.stored_at walked.pa 4 _ _)
 
   combine_kept : (satp : ℕ) (a : Access) (op : AtomicOp) (operand : ℕ) (w : World) →
       R w (ask_combine satp a op operand w).world

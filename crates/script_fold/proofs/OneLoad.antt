@@ -2,7 +2,7 @@
 use Rattle.std.proofs.Common.{◌≤◌, ◌+◌, ℕ, List, [], ◌∷◌, ◌++◌, length, Option, Some, None, arith, length-append}
 use Rattle.cloak_model.specs.declared.context.Phase.{Phase}
 use Rattle.cloak_model.specs.declared.context.Phase.TheVariants.{Plain, CopyIn, Waiting, CopyOut}
-use Rattle.cloak_model.specs.declared.context.WordPlace.{WordPlace}
+use Rattle.cloak_model.specs.declared.context.PageWord.{PageWord}
 use Rattle.cloak_model.specs.declared.inside.Copied.{Copied}
 use Rattle.cloak_model.specs.declared.inside.Copied.TheVariants as copied
 use Rattle.cloak_model.specs.declared.inside.Ran.{Ran}
@@ -36,7 +36,7 @@ loads_copy slot d c (copied.Loaded address byte) = one_load d address byte
 loads_copy slot d c _ = no_load (length d.loads)
 
 -- a write after a step
-loads_written : (wrote : Option WordPlace) (d : Domain) (s : DomainStepped) → LoadsOnce d s →
+loads_written : (wrote : Option PageWord) (d : Domain) (s : DomainStepped) → LoadsOnce d s →
     LoadsOnce d (after_write wrote s)
 loads_written None d s once = once
 loads_written (Some place) d s once = once

@@ -1,8 +1,9 @@
 -- What each change of a world keeps, each question of a program keeps.
-use Rattle.std.proofs.Common.{true, false, cond, ℕ, Bool, List, Ok, Err, zero, suc, ◌+◌, ◌++◌, [], ◌∷◌, Result, Some, if◌then◌else◌}
+use Rattle.std.proofs.Common.{true, false, cond, ℕ, Bool, List, Ok, Err, zero, suc, ◌+◌, ◌++◌, [], ◌∷◌, Some, if◌then◌else◌}
 use Rattle.cloak_base.specs.declared.names.PageId.{PageId}
 use Rattle.cloak_base.specs.declared.causes.Violation.TheVariants as violation
 use Rattle.cloak_model.specs.declared.access.Access.{Access}
+use Rattle.cloak_model.specs.declared.access.Walked.{Walked}
 use Rattle.cloak_base.specs.Constants.{frame_of}
 use Rattle.cloak_model.specs.Events.{Event, Look, Read}
 use Rattle.cloak_model.specs.World.{World, MidStep, Flat, Cloaked, Alone, noted, stored_at, settled, Handed, written, with_plain, cipher_items, regime_of}
@@ -13,8 +14,8 @@ use Rattle.cloak_model.proofs.WalkParts.{ask_second, ask_after, ask_first}
 use Rattle.cloak_base.specs.declared.names.Kind.{Kind}
 use Rattle.cloak_model.specs.declared.answer.Answer.{Answer}
 use Rattle.cloak_model.specs.declared.item.Item.{Item}
-use Rattle.cloak_model.specs.AskPages.{is_store, inside_access, replies, if_drawn, ask_inside_address, offered_by, offer_events, ask_offer, reached, reach_by_table, get_at, got, get_by_table, put_at, stored_inside, put_by_table, settled_if_marked, clear_from, next_answer, ask_reach, ask_write, ask_get, ask_put, ask_clear}
-use Rattle.cloak_model.specs.Cloaking.{OfferEnd, Ready, Mismatch, Missed, offer}
+use Rattle.cloak_model.specs.AskPages.{is_store, inside_access, replies, if_drawn, ask_led_inside, offered_by, offer_events, ask_offer, reached, reach_by_table, get_at, got, get_by_table, put_at, stored_inside, put_by_table, settled_if_marked, clear_from, next_answer, ask_reach, ask_write, ask_get, ask_put, ask_clear}
+use Rattle.cloak_model.specs.Cloaking.{offer}
 
 -- What settling a frame keeps.
 pub record Settles (R : World → World → Type 0) : Type 0 where
@@ -26,7 +27,7 @@ pub record Settles (R : World → World → Type 0) : Type 0 where
 pub record Opens (R : World → World → Type 0) : Type 0 where
   pub settles : Settles R
   pub looked : (satp : ℕ) (a : Access) (w : World) → R w (noted (Look satp a ∷ []) w)
-  pub opened : (satp : ℕ) (a : Access) (pa : ℕ) (w : World) → R w (opened satp a pa w)
+  pub opened : (satp : ℕ) (a : Access) (walked : Walked) (w : World) → R w (opened satp a walked w)
   pub read : (f : ℕ) (w : World) → R w (noted (Read f ∷ []) w)
 
 -- if each event keeps it
@@ -35,7 +36,7 @@ pub opens_by : (R : World → World → Type 0) → Settles R → ((events : Lis
 opens_by R s notes = record {
   settles = s;
   looked = λ satp a w. notes _ w;
-  opened = λ satp a pa w. s.chained _ _ _ (s.settled (frame_of pa) w) (notes _ _);
+  opened = λ satp a walked w. s.chained _ _ _ (s.settled (frame_of walked.pa) w) (notes _ _);
   read = λ f w. notes _ w;
 }
 
@@ -53,9 +54,10 @@ pub record Offers (R : World → World → Type 0) (q : PageId) (va : ℕ) : Typ
       R (Cloaked c) (Cloaked (record c {
         memory = o.memory;
         items = c.items ++ cipher_items o.ciphers;
-        events = c.events ++ offer_events q g c.memory o.answer;
+        events = c.events ++ offer_events q g c.memory o.granted;
       }))
-  pub granted : (kind : Kind) (w : World) → R w (known (regime_of w).satp (inside_access w va kind) (Some q) w)
+  pub granted : (kind : Kind) (walked : Walked) (w : World) →
+      R w (known (regime_of w).satp (inside_access w va kind) (Some q) walked w)
   pub mismatched : (g : ℕ) (c : MidStep) →
       R (Cloaked c) (Cloaked (record c { violation = Some (violation.Page q (record { 0 = g })) }))
 
@@ -73,7 +75,7 @@ pub record Kept (R : World → World → Type 0) : Type 0 where
       R (Cloaked c) (Cloaked (record c {
         memory = o.memory;
         items = c.items ++ cipher_items o.ciphers;
-        events = c.events ++ offer_events q g c.memory o.answer;
+        events = c.events ++ offer_events q g c.memory o.granted;
       }))
   pub mismatched : (q : PageId) (g : ℕ) (c : MidStep) →
       R (Cloaked c) (Cloaked (record c { violation = Some (violation.Page q (record { 0 = g })) }))
@@ -141,9 +143,9 @@ module _ (R : World → World → Type 0) (k : Opens R) where
   unfolding ask_led
   keeps_led satp a w = k.settles.chained _ _ _ (k.looked satp a w) (keeps_translate satp a _)
 
-  pub keeps_inside_address : (va : ℕ) (kind : Kind) (w : World) → R w (ask_inside_address va kind w).world
-  unfolding ask_inside_address
-  keeps_inside_address va kind w = keeps_led _ _ w
+  pub keeps_led_inside : (va : ℕ) (kind : Kind) (w : World) → R w (ask_led_inside va kind w).world
+  unfolding ask_led_inside
+  keeps_led_inside va kind w = keeps_led _ _ w
 
 -- The questions.
 
@@ -164,14 +166,14 @@ module _ (R : World → World → Type 0) (k : Replies R) where
   unfolding get_at
   keeps_get_at pa width w = then_keeps _ _ _ (k.opens.read _ w) (k.replied _ _)
 
-  keeps_got : (va width : ℕ) (to : Result ℕ ℕ) (w : World) → R w (got va width to w).world
+  keeps_got : (va width : ℕ) (to : Walk) (w : World) → R w (got va width to w).world
   unfolding got
   keeps_got va width (Err cause) w = k.replied _ w
-  keeps_got va width (Ok pa) w = then_keeps _ _ _ (k.opens.opened _ _ pa w) (keeps_drawn _ _ (keeps_get_at pa width _))
+  keeps_got va width (Ok walked) w = then_keeps _ _ _ (k.opens.opened _ _ walked w) (keeps_drawn _ _ (keeps_get_at walked.pa width _))
 
   keeps_get_by_table : (va width : ℕ) (w : World) → R w (get_by_table va width w).world
   unfolding get_by_table
-  keeps_get_by_table va width w = then_keeps _ _ _ (keeps_inside_address R k.opens va _ w) (keeps_drawn _ _ (keeps_got va width _ _))
+  keeps_get_by_table va width w = then_keeps _ _ _ (keeps_led_inside R k.opens va _ w) (keeps_drawn _ _ (keeps_got va width _ _))
 
   pub keeps_get : (va width : ℕ) (w : World) → R w (ask_get va width w).world
   unfolding ask_get
@@ -192,14 +194,14 @@ module _ (R : World → World → Type 0) (k : Replies R) where
 
   -- a store of one width, if it is kept at an address
   module _ (width : ℕ) (put : (pa value : ℕ) (w : World) → R w (put_at pa width value w).world) where
-    keeps_stored_inside : (va value : ℕ) (to : Result ℕ ℕ) (w : World) → R w (stored_inside va width value to w).world
+    keeps_stored_inside : (va value : ℕ) (to : Walk) (w : World) → R w (stored_inside va width value to w).world
     unfolding stored_inside
     keeps_stored_inside va value (Err cause) w = k.replied _ w
-    keeps_stored_inside va value (Ok pa) w = then_keeps _ _ _ (k.opens.opened _ _ pa w) (keeps_drawn _ _ (put pa value _))
+    keeps_stored_inside va value (Ok walked) w = then_keeps _ _ _ (k.opens.opened _ _ walked w) (keeps_drawn _ _ (put walked.pa value _))
 
     keeps_put_by_table : (va value : ℕ) (w : World) → R w (put_by_table va width value w).world
     unfolding put_by_table
-    keeps_put_by_table va value w = then_keeps _ _ _ (keeps_inside_address R k.opens va _ w) (keeps_drawn _ _ (keeps_stored_inside va value _ _))
+    keeps_put_by_table va value w = then_keeps _ _ _ (keeps_led_inside R k.opens va _ w) (keeps_drawn _ _ (keeps_stored_inside va value _ _))
 
     pub keeps_stored : (va value : ℕ) (w : World) → R w (ask_put va width value w).world
     unfolding ask_put
@@ -209,28 +211,30 @@ module _ (R : World → World → Type 0) (k : Replies R) where
 
   -- a question for a page, if offers of it are kept
   module _ (q : PageId) (va : ℕ) (o : Offers R q va) where
-    keeps_offered : (kind : Kind) (g : ℕ) (a : OfferEnd) (w : World) → R w (offered_by q va kind g a w).world
+    keeps_offered : (kind : Kind) (walked : Walked) (granted : Bool) (w : World) →
+        R w (offered_by q va kind walked granted w).world
     unfolding offered_by
-    keeps_offered kind g Ready w = then_keeps _ _ _ (o.granted kind w) (k.replied _ _)
-    keeps_offered kind g Missed w = k.replied _ w
-    keeps_offered kind g Mismatch (Flat ram) = k.replied _ (Flat ram)
-    keeps_offered kind g Mismatch (Cloaked c) = then_keeps _ (Cloaked _) _ (o.mismatched g c) (k.replied _ _)
-    keeps_offered kind g Mismatch (Alone h) = k.replied _ (Alone h)
+    keeps_offered kind walked true w = then_keeps _ _ _ (o.granted kind walked w) (k.replied _ _)
+    keeps_offered kind walked false (Flat ram) = k.replied _ (Flat ram)
+    keeps_offered kind walked false (Cloaked c) = then_keeps _ (Cloaked _) _ (o.mismatched (frame_of walked.pa) c) (k.replied _ _)
+    keeps_offered kind walked false (Alone h) = k.replied _ (Alone h)
 
-    keeps_offer : (kind : Kind) (g : ℕ) (w : World) → R w (ask_offer q va kind g w).world
+    keeps_offer : (kind : Kind) (walked : Walked) (w : World) → R w (ask_offer q va kind walked w).world
     unfolding ask_offer
-    keeps_offer kind g (Flat ram) = k.opens.settles.same (Flat ram)
-    keeps_offer kind g (Cloaked c) = then_keeps _ (Cloaked _) _ (o.offered g (is_store kind) c) (keeps_offered kind g _ _)
-    keeps_offer kind g (Alone h) = k.opens.settles.same (Alone h)
+    keeps_offer kind walked (Flat ram) = k.opens.settles.same (Flat ram)
+    keeps_offer kind walked (Cloaked c) =
+        then_keeps _ (Cloaked _) _ (o.offered (frame_of walked.pa) (is_store kind) c)
+        (keeps_drawn _ _ (keeps_offered kind walked _ _))
+    keeps_offer kind walked (Alone h) = k.opens.settles.same (Alone h)
 
-    keeps_reached : (kind : Kind) (to : Result ℕ ℕ) (w : World) → R w (reached q va kind to w).world
+    keeps_reached : (kind : Kind) (to : Walk) (w : World) → R w (reached q va kind to w).world
     unfolding reached
     keeps_reached kind (Err cause) w = k.replied _ w
-    keeps_reached kind (Ok pa) w = keeps_offer kind _ w
+    keeps_reached kind (Ok walked) w = keeps_offer kind walked w
 
     keeps_reach_by_table : (kind : Kind) (w : World) → R w (reach_by_table q va kind w).world
     unfolding reach_by_table
-    keeps_reach_by_table kind w = then_keeps _ _ _ (keeps_inside_address R k.opens va kind w) (keeps_drawn _ _ (keeps_reached kind _ _))
+    keeps_reach_by_table kind w = then_keeps _ _ _ (keeps_led_inside R k.opens va kind w) (keeps_drawn _ _ (keeps_reached kind _ _))
 
     pub keeps_reached_page : (kind : Kind) (w : World) → R w (ask_reach q va kind w).world
     unfolding ask_reach
@@ -241,7 +245,7 @@ module _ (R : World → World → Type 0) (k : Replies R) where
 pub offers_of : (R : World → World → Type 0) → Kept R → (q : PageId) (va : ℕ) → Offers R q va
 offers_of R k q va = record {
   offered = k.offered q;
-  granted = λ kind w. k.noted _ w;
+  granted = λ kind walked w. k.noted _ w;
   mismatched = k.mismatched q;
 }
 

@@ -10,7 +10,7 @@ use Rattle.cloak_model.specs.Resources.{first_free}
 use Rattle.cloak_model.specs.DomainState.{Control}
 use Rattle.cloak_model.specs.Hypercalls.{with_slot}
 use Rattle.cloak_model.specs.DomainAlone.{is_hart, runs_on}
-use Rattle.cloak_model.specs.declared.context.WordPlace.{WordPlace}
+use Rattle.cloak_model.specs.declared.context.PageWord.{PageWord}
 
 -- the context of a slot runs on a hart
 abbrev pub runs_in : ℕ → List (Option Context) → ℕ → Bool
@@ -119,14 +119,14 @@ mark_ended : (hart : ℕ) (ends : Bool) (c : Context) →
 mark_ended hart true c = refl
 mark_ended hart false c = refl
 
-written_same : (hart : ℕ) (place : WordPlace) (contexts : List (Option Context)) (s : ℕ) →
+written_same : (hart : ℕ) (place : PageWord) (contexts : List (Option Context)) (s : ℕ) →
     runs_in hart (map (unless_reserved place) contexts) s ≡ runs_in hart contexts s
 written_same hart place [] s = refl
 written_same hart place (None ∷ contexts) zero = refl
 written_same hart place (Some c ∷ contexts) zero = mark_ended hart (is_reserved place c.mark) c
 written_same hart place (c ∷ contexts) (suc s) = written_same hart place contexts s
 
-pub slot_written : (slot : ℕ) (left : Bool) (place : WordPlace) (old new : Control) → MovesSlot slot left old new →
+pub slot_written : (slot : ℕ) (left : Bool) (place : PageWord) (old new : Control) → MovesSlot slot left old new →
     MovesSlot slot left old (record new { contexts = map (unless_reserved place) new.contexts })
 slot_written slot left place old new moves = record {
   number = moves.number;

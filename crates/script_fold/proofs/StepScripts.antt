@@ -34,7 +34,7 @@ use Rattle.script_fold.proofs.Scripts.{EndClaims, IsStop, Scripted, provided, sc
 use Rattle.script_fold.proofs.InstructionScripts.{RunsOn, of_instruction, instruction_scripted}
 use Rattle.script_fold.proofs.CopyScripts.{GoesOn, of_copy, copy_in_scripted, copy_out_scripted}
 use Rattle.script_fold.proofs.ForkScripts.{HasForked, HasEnded, of_fork, fork_scripted, of_end, end_scripted}
-use Rattle.cloak_model.specs.declared.context.WordPlace.{WordPlace}
+use Rattle.cloak_model.specs.declared.context.PageWord.{PageWord}
 
 -- Hypercalls.
 
@@ -309,38 +309,38 @@ only_instruction slot d c ran.Stopped on = absurd on
 
 -- A write, after an end.
 
-moves_written : (slot : ℕ) (d : Domain) (wrote : Option WordPlace) (s : steps.DomainStepped) →
+moves_written : (slot : ℕ) (d : Domain) (wrote : Option PageWord) (s : steps.DomainStepped) →
     (of_domain slot d).each s → (of_domain slot d).each (steps.after_write wrote s)
 moves_written slot d None s moves = moves
 moves_written slot d (Some place) s moves = slot_written slot (has_left s.went) place d.control s.domain.control moves
 
-went_written : (wrote : Option WordPlace) (s : steps.DomainStepped) → (steps.after_write wrote s).went ≡ s.went
+went_written : (wrote : Option PageWord) (s : steps.DomainStepped) → (steps.after_write wrote s).went ≡ s.went
 went_written None s = refl
 went_written (Some place) s = refl
 
-goes_written : (wrote : Option WordPlace) (s : steps.DomainStepped) → HasGone s.went →
+goes_written : (wrote : Option PageWord) (s : steps.DomainStepped) → HasGone s.went →
     HasGone (steps.after_write wrote s).went
 goes_written None s goes = goes
 goes_written (Some place) s goes = goes
 
 -- a script, and then the write
-abbrev then_written : Option WordPlace → Script steps.DomainStepped → Script steps.DomainStepped
+abbrev then_written : Option PageWord → Script steps.DomainStepped → Script steps.DomainStepped
 then_written wrote script = script >>= (λ s. Gives (steps.after_write wrote s))
 
-stop_written : (slot : ℕ) (d : Domain) (wrote : Option WordPlace) (script : Script steps.DomainStepped) →
+stop_written : (slot : ℕ) (d : Domain) (wrote : Option PageWord) (script : Script steps.DomainStepped) →
     IsStop (of_domain slot d) script → IsStop (of_domain slot d) (then_written wrote script)
 unfolding IsStop
 stop_written slot d wrote script is =
     stop_then (of_domain slot d) (of_domain slot d) script (λ s. Gives (steps.after_write wrote s)) is
     (λ s stopped. went_written wrote s ∙ stopped)
 
-only_written : (wrote : Option WordPlace) (script : Script steps.DomainStepped) →
+only_written : (wrote : Option PageWord) (script : Script steps.DomainStepped) →
     ChangesOnly (λ (s : steps.DomainStepped). HasGone s.went) script →
     ChangesOnly (λ (s : steps.DomainStepped). HasGone s.went) (then_written wrote script)
 unfolding ChangesOnly
 only_written wrote script only = only_then _ _ script _ only (λ s goes. goes_written wrote s goes)
 
-written_scripted : (n slot : ℕ) (d : Domain) (P : Type 0) (wrote : Option WordPlace)
+written_scripted : (n slot : ℕ) (d : Domain) (P : Type 0) (wrote : Option PageWord)
     (script : Script steps.DomainStepped) →
     Scripted n (provided P (of_domain slot d)) script →
     Scripted n (provided P (of_domain slot d)) (then_written wrote script)

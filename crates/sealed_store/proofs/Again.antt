@@ -20,39 +20,13 @@ use Rattle.cloak_model.specs.declared.fault.StoreFault.TheVariants.{Short, BadMa
 use Rattle.cloak_model.specs.Fields.{first_of, fault_in, first_in, number, parts, after_parts}
 use Rattle.cloak_model.specs.StoredFiles.{StoredFile, long, page_bytes, file_bytes, table_bytes, store_bytes, IsMetaIfKnown, IsFile, IsTable, IsStore, Rise, page_count}
 use Rattle.cloak_model.specs.StoreFault.{StoreField, FilesBefore, ruled_at, any_at, page_fields, after_page, domain_rises, number_rises, pages_fit, files_fields, files_end, none_before, form_fields, form_fault, long_at, body_of, code_of, store_fault, largest_store}
+use Rattle.field_facts.proofs.Firsts.{first_in-append, holds, whole_is, two}
+use Rattle.field_facts.proofs.Stands.{behind}
+use Rattle.field_facts.proofs.Again.{is_left, number_again, byte_again}
 use Rattle.sealed_store.specs.Reading.{after_file}
-use Rattle.sealed_store.proofs.Firsts.{first_in-append}
-use Rattle.sealed_store.proofs.Stands.{behind}
 use Rattle.sealed_store.proofs.Spelled.{RiseAfter}
 
 -- ---- fields that are whole and keep their rules
-
-is_left : (body : List ℕ) (at : ℕ) (text rest : List ℕ) (n : ℕ) → drop at body ≡ text ++ rest → length text ≡ n →
-    ltb (length body - at) n ≡ false
-is_left body at text rest n e size =
-    let all : length (drop at body) ≡ length (text ++ rest) = ap length e in
-    le-ltb (length body - at) n (omega (arith, length-drop at body, length-append text rest))
-
-number_again : (body : List ℕ) (at n : ℕ) (rest : List ℕ) → n < 2 ^ 32 → drop at body ≡ word n ++ rest →
-    number body at ≡ n
-number_again body at n rest lt e =
-    ap (λ t. from_le_bytes w32 (take 4 t)) e ∙ ap (from_le_bytes w32) (take_at (word n) rest 4 refl)
-    ∙ from_le_bytes-to_le_bytes_4 n lt
-
--- a field that is whole and keeps its rule has no fault
-holds : (cut rule : Bool) (e f : StoreFault) → cut ≡ false → rule ≡ true →
-    cond cut (Some e) (cond rule None (Some f)) ≡ None
-holds true rule e f whole right = absurd cc
-holds false true e f whole right = refl
-holds false false e f whole right = absurd cc
-
-whole_is : (cut : Bool) (e : StoreFault) → cut ≡ false → cond cut (Some e) None ≡ None
-whole_is true e whole = absurd cc
-whole_is false e whole = refl
-
-two : (a b : Option StoreFault) → a ≡ None → b ≡ None → first_of a b ≡ None
-two None b first second = second
-two (Some f) b first second = absurd cc
 
 -- ---- pages
 
@@ -60,11 +34,6 @@ two (Some f) b first second = absurd cc
 record Reads (body : List ℕ) (fields : List StoreField) (end to : ℕ) : Type 0 where
   none : first_in body fields ≡ None
   ends : end ≡ to
-
-byte_again : (body : List ℕ) (at b : ℕ) (rest : List ℕ) → drop at body ≡ b ∷ rest → get_or body at 0 ≡ b
-byte_again body at b rest e =
-    let first : get_or body (at + 0) 0 ≡ b = sym (get_or-drop at body 0 0) ∙ ap (λ t. get_or t 0 0) e in
-    rw add-zero at first
 
 abbrev fields_by : ℕ → ℕ → List StoreField
 fields_by b at =

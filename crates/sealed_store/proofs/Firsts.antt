@@ -3,22 +3,8 @@ use Rattle.std.proofs.Common.{◌≡◌, ◌∙◌, ℕ, suc, ◌+◌, ◌-◌, 
 use Rattle.cloak_model.specs.declared.fault.StoreFault.{StoreFault}
 use Rattle.cloak_model.specs.Fields.{first_of, fault_in, first_in, parts, number}
 use Rattle.cloak_model.specs.StoreFault.{StoreField, FilesBefore, ruled_at, domain_rises, number_rises, pages_fit, page_fields, after_page, files_fields, files_end}
+use Rattle.field_facts.proofs.Firsts.{first_in-append}
 use Rattle.sealed_store.specs.Reading.{file_in, after_file, file_fields, files_in}
-
-pub first_of-none : (o : Option StoreFault) → first_of o None ≡ o
-first_of-none None = refl
-first_of-none (Some f) = refl
-
-first_of-assoc : (a b c : Option StoreFault) → first_of (first_of a b) c ≡ first_of a (first_of b c)
-first_of-assoc None b c = refl
-first_of-assoc (Some f) b c = refl
-
-pub first_in-append : (body : List ℕ) (fs gs : List StoreField) →
-    first_in body (fs ++ gs) ≡ first_of (first_in body fs) (first_in body gs)
-first_in-append body [] gs = refl
-first_in-append body (f ∷ fs) gs =
-    ap (first_of (fault_in body f)) (first_in-append body fs gs)
-    ∙ sym (first_of-assoc (fault_in body f) (first_in body fs) (first_in body gs))
 
 -- what is found after fields without a fault
 pub after_three : (a b c d : Option StoreFault) → None ≡ first_of a (first_of b None) → None ≡ c →
@@ -27,18 +13,6 @@ after_three None None None d first third = refl
 after_three None None (Some e) d first third = absurd cc
 after_three None (Some e) c d first third = absurd cc
 after_three (Some e) b c d first third = absurd cc
-
--- what is found in n parts after i of them: the next one's fault, or one after it
-pub next_page : (body : List ℕ) (n i at : ℕ) → i < n →
-    first_in body (parts (page_fields body) (after_page body) (n - i) at)
-    ≡ first_of (first_in body (page_fields body at))
-    (first_in body (parts (page_fields body) (after_page body) (n - (i + 1)) (after_page body at)))
-unfolding parts
-next_page body n i at low =
-    let left : n - i ≡ suc (n - (i + 1)) = omega arith in
-    ap (λ (k : ℕ). first_in body (parts (page_fields body) (after_page body) k at)) left
-    ∙ first_in-append body (page_fields body at)
-    (parts (page_fields body) (after_page body) (n - (i + 1)) (after_page body at))
 
 -- the same of files
 abbrev pub before_next : List ℕ → FilesBefore → ℕ → FilesBefore
@@ -70,15 +44,6 @@ next_in body n i at low =
     let left : n - i ≡ suc (n - (i + 1)) = omega arith in
     ap (λ (k : ℕ). files_in body k at) left
 
-pub fault_found : (o rest all : Option StoreFault) (e : StoreFault) → Some e ≡ o → first_of o rest ≡ all →
-    Some e ≡ all
-fault_found None rest all e is found = absurd cc
-fault_found (Some f) rest all e is found = is ∙ found
-
-pub no_fault : (o rest all : Option StoreFault) → None ≡ o → first_of o rest ≡ all → rest ≡ all
-no_fault None rest all is found = found
-no_fault (Some f) rest all is found = absurd cc
-
 -- the fault of a file whose domain, number and count are right
 pub file_fault : (body : List ℕ) (before : FilesBefore) (at n : ℕ) (o : Option StoreFault) →
     None ≡ first_in body
@@ -94,11 +59,6 @@ file_fault body before at n o name count is pages =
     (fault_in body (ruled_at (at + 4) 4 (number_rises before.last (number body at) (number body (at + 4)))))
     (fault_in body (ruled_at (at + 8) 4 (pages_fit before.pages (number body (at + 8)))))
     (first_in body (parts (page_fields body) (after_page body) (number body (at + 8)) (at + 12))) name count)
-
-pub no_parts : (fields : ℕ → List StoreField) (after : ℕ → ℕ) (at : ℕ) (body : List ℕ) →
-    first_in body (parts fields after 0 at) ≡ None
-unfolding parts
-no_parts fields after at body = refl
 
 pub no_files : (body : List ℕ) (before : FilesBefore) (at : ℕ) → first_in body (files_fields body 0 before at) ≡ None
 unfolding files_fields

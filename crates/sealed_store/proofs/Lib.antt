@@ -3,7 +3,6 @@ pub mod SpellsOne
 pub mod Written
 pub mod Rows
 pub mod Firsts
-pub mod Stands
 pub mod Spelled
 pub mod Sealed
 pub mod Again

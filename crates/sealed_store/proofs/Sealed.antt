@@ -12,8 +12,9 @@ use Rattle.cloak_model.specs.declared.fault.StoreFault.TheVariants.{Short, BadMa
 use Rattle.cloak_model.specs.Fields.{fault_in, first_in, number}
 use Rattle.cloak_model.specs.StoredFiles.{long, file_bytes, table_bytes, store_bytes, IsFile, IsTable, IsStore}
 use Rattle.cloak_model.specs.StoreFault.{ruled_at, files_fields, files_end, none_before, form_fields, form_fault, long_at, body_of, code_of, store_fault, largest_store}
+use Rattle.field_facts.proofs.Firsts.{none_parts, not_so, kept, field_holds}
+use Rattle.field_facts.proofs.Stands.{AreBytes, piece_bytes, piece_length, Stands, Stands-then, piece_stands, number_stands, long_is, long_small}
 use Rattle.sealed_store.specs.Reading.{files_in}
-use Rattle.sealed_store.proofs.Stands.{AreBytes, none_parts, not_so, kept, field_holds, piece_bytes, piece_length, Stands, Stands-then, piece_stands, number_stands, long_is, long_small}
 use Rattle.sealed_store.proofs.Spelled.{files_stand, files_in-length}
 
 -- ---- a file without a fault

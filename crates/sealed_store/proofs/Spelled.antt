@@ -12,10 +12,10 @@ use Rattle.cloak_model.specs.declared.fault.StoreFault.TheVariants.{Form}
 use Rattle.cloak_model.specs.Fields.{first_of, fault_in, first_in, number, parts, after_parts}
 use Rattle.cloak_model.specs.StoredFiles.{StoredFile, page_bytes, file_bytes, IsMetaIfKnown, IsFile, Rise, page_count}
 use Rattle.cloak_model.specs.StoreFault.{StoreField, FilesBefore, ruled_at, any_at, is_shown, page_fields, after_page, domain_rises, number_rises, pages_fit, files_fields, files_end}
+use Rattle.field_facts.proofs.Firsts.{first_in-append, none_parts, not_so, field_holds}
+use Rattle.field_facts.proofs.Stands.{AreBytes, piece_bytes, piece_length, Stands, Stands-then, piece_stands, number_stands, number_small, byte_stands}
 use Rattle.sealed_store.specs.Reading.{page_in, pages_in, file_in, after_file, files_in}
 use Rattle.sealed_store.proofs.Rows.{pages_in-length}
-use Rattle.sealed_store.proofs.Firsts.{first_in-append}
-use Rattle.sealed_store.proofs.Stands.{AreBytes, none_parts, not_so, field_holds, piece_bytes, piece_length, Stands, Stands-then, piece_stands, number_stands, number_small}
 
 -- ---- pages
 
@@ -35,12 +35,6 @@ zero_of (suc (suc n)) lt other = absurd (omega arith)
 record PageStands (body : List ℕ) (at : ℕ) (p : Option Meta) (next : ℕ) : Type 0 where
   text : Stands body at (page_bytes p) next
   known : IsMetaIfKnown p
-
-byte_stands : (body : List ℕ) (at b : ℕ) → 1 ≤ length body - at → get_or body at 0 ≡ b →
-    Stands body at (b ∷ []) (at + 1)
-byte_stands body at b le is = record {
-  parts = drop_more body at 0 (omega arith) ∙ ap (λ (k : ℕ). k ∷ drop (at + 1) body) is;
-}
 
 page_stands_by : (body : List ℕ) (at : ℕ) (shown : Bool) → is_shown body at ≡ shown → AreBytes body →
     first_in body (ruled_at at 1 (ltb (get_or body at 0) 2) ∷ rest_by shown at) ≡ None →

@@ -16,7 +16,7 @@ use Rattle.cloak_model.specs.Joint as joint
 use Rattle.cloak_model.specs.KernelStep as kernel_step
 use Rattle.cloak_model.specs.Opening as opening
 use Rattle.cloak_model.specs.Run as run
-use Rattle.cloak_model.specs.Touched as touched
+use Rattle.cloak_model.specs.StepFrames as step_frames
 use Rattle.shadow_fold.specs.Entries as entries
 use Rattle.shadow_fold.specs.Events as events
 use Rattle.shadow_fold.specs.Fold as fold
@@ -39,7 +39,7 @@ unfolding
     host_calls.ecall kernel_step.carried_out kernel_step.instruction_step kernel_step.ticked kernel_step.released
     kernel_step.kernel_step
     cloaking.settle_owed cloaking.settle_if cloaking.settle
-    touched.access_frames touched.transfer_frames touched.effect_frames touched.touched_after touched.touched
+    step_frames.access_frames step_frames.transfer_frames step_frames.effect_frames step_frames.step_frames_after step_frames.step_frames
     ahead.settle_while ahead.settle_touched ahead.made_after ahead.settled_step
     opening.started_ledger
     joint.outside_ended joint.after_outside joint.outside_step joint.turn_of joint.ends_once joint.ends_resumed joint.ends_asked joint.answers_violation joint.joint_step

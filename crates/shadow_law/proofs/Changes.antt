@@ -1,5 +1,5 @@
 -- What an entry depends on, and what each change of memory leaves of it.
-use Rattle.std.proofs.Common.{◌≡◌, ◌≢◌, ◌∙◌, ℕ, ◌*◌, ◌<◌, inl, inr, Bool, true, false, ◌||◌, cond, List, [], ◌++◌, length, Option, Some, None, refl, sym, ap, subst, nat_lt}
+use Rattle.std.proofs.Common.{◌≡◌, ◌≢◌, ◌∙◌, ℕ, ◌*◌, ◌<◌, inl, inr, Bool, true, false, ◌||◌, cond, List, [], length, Option, Some, None, refl, sym, ap, subst, nat_lt}
 use Rattle.std.specs.Prelude.{◌==◌, slice_index_or, slice_set, IfSome}
 use Rattle.std.specs.List.{position_or_len}
 use Rattle.std.specs.Str.{bytes_eq}
@@ -16,7 +16,7 @@ use Rattle.cloak_base.specs.declared.names.PageId.{PageId}
 use Rattle.cloak_base.specs.declared.names.SpaceId.{SpaceId}
 use Rattle.cloak_model.specs.Contexts.{same_space}
 use Rattle.cloak_model.specs.Ledger.{vector_of}
-use Rattle.cloak_model.specs.Cloaking.{CloakedMemory, AfterSettling, AfterOffer, Ready, Mismatch, Missed, owed_in, with_shown_frame, with_owed, settle_owed, settle_if, settle, owes, owing_frame, settle_frame_if, with_comparison, taken, compared, unless_missed, offer}
+use Rattle.cloak_model.specs.Cloaking.{CloakedMemory, AfterSettling, AfterOffer, owed_in, with_shown_frame, with_owed, settle_owed, settle_if, settle, owes, owing_frame, settle_frame_if, with_comparison, taken, compared, unless_missed, offer}
 use Rattle.shadow_fold.specs.declared.entry.Entry.{Entry}
 use Rattle.shadow_fold.specs.declared.entry.Regime.{Regime}
 use Rattle.shadow_fold.specs.declared.entry.Regime.TheVariants.{Outside, Inside}
@@ -25,7 +25,7 @@ use Rattle.shadow_fold.specs.Entries.{is_target, is_frame, is_table, sees_space,
 use Rattle.shadow_fold.specs.Fold.{holds, table_holds, part_holds}
 use Rattle.shadow_law.specs.Walks.{IsSame}
 use Rattle.shadow_law.specs.Agreeing.{HeldPages, present, frame, OwedIsHeld}
-use Rattle.shadow_law.proofs.Walks.{walk_kept}
+use Rattle.shadow_law.proofs.Walks.{either, walk_kept}
 
 -- target and table frames of an entry
 pub record EachFrame (P : ℕ → Type 0) (e : Entry) : Type 0 where
@@ -226,32 +226,30 @@ module _ (q : PageId) (x : ℕ) where
   taken_spares g true m other = record { ram = refl; owed = get_or-set_other m.ledger.owed g x (Some q) None other }
   taken_spares g false m other = spared_refl x m
 
-  by_equal : (b : Bool) (g : ℕ) (write : Bool) (m m' : CloakedMemory) → (x ≡ g → ⊥) → Spared x m m'
-      → Spared x m (cond b (let o : AfterOffer = record { memory = taken q g write m'; ciphers = []; answer = Ready } in o) (record { memory = m'; ciphers = []; answer = Mismatch })).memory
-  by_equal true g write m m' other same = spared_trans x m m' (taken q g write m') same (taken_spares g write m' other)
-  by_equal false g write m m' other same = same
-
   compared_spares : (g : ℕ) (write : Bool) (o : Option (List ℕ)) (m : CloakedMemory) → (x ≡ g → ⊥) → Spared x m (compared q g write o m).memory
   unfolding compared
   compared_spares g write None m other = record { ram = refl; owed = get_or-set_other m.ledger.owed g x (Some q) None other }
   compared_spares g write (Some c) m other =
       let there : List ℕ = slice_index_or m.ram g [] in
-      by_equal (bytes_eq there c) g write m (with_comparison there c m) other (record { ram = refl; owed = refl })
+      let m' = with_comparison there c m in
+      let same : Spared x m m' = record { ram = refl; owed = refl } in
+      either (λ (o : AfterOffer). Spared x m o.memory) (bytes_eq there c) _ _
+      (spared_trans x m m' (taken q g write m') same (taken_spares g write m' other)) same
 
   unless_spares : (m : CloakedMemory) (s : AfterSettling) (next : CloakedMemory → AfterOffer) → Spared x m s.memory
       → Spared x s.memory (next s.memory).memory → Spared x m (unless_missed s next).memory
   unfolding unless_missed
-  unless_spares m s next one two = by_test s.missed
-    where
-      by_test : (b : Bool) → Spared x m (cond b (let o : AfterOffer = record { memory = s.memory; ciphers = s.ciphers; answer = Missed } in o)
-          (let n = next s.memory in record { memory = n.memory; ciphers = s.ciphers ++ n.ciphers; answer = n.answer })).memory
-      by_test true = one
-      by_test false = spared_trans x m s.memory (next s.memory).memory one two
+  unless_spares m s next one two =
+      either (λ (o : AfterOffer). Spared x m o.memory) s.missed _ _ one (spared_trans x m s.memory (next s.memory).memory one two)
 
   pub offer_spares : (held : HeldPages) (g : ℕ) (write : Bool) (m : CloakedMemory) → OwedIsHeld held m → (x ≡ g → ⊥) → holds (same_page q) (held x) ≡ false
       → Spared x m (offer q g write m).memory
   unfolding offer
-  offer_spares held g write m owed other out = by_test (owes q (owed_in m g))
+  offer_spares held g write m owed other out =
+      either (λ (o : AfterOffer). Spared x m o.memory) (owes q (owed_in m g)) _ _ (spared_refl x m)
+      (unless_spares m (settle g m) (λ m'. unless_missed (settle_frame_if (owing_frame m' q) m') last) one
+      (unless_spares m1 (settle_frame_if (owing_frame m1 q) m1) last (frame_if_spares m1 (owing_frame m1 q) apart)
+      (compared_spares g write _ _ other)))
     where
       m1 : CloakedMemory
       m1 = (settle g m).memory
@@ -268,13 +266,6 @@ module _ (q : PageId) (x : ℕ) where
       last : CloakedMemory → AfterOffer
       last = λ m''. compared q g write (m''.ledger.recorded q) m''
 
-      by_test : (b : Bool) → Spared x m (cond b (let o : AfterOffer = record { memory = m; ciphers = []; answer = Ready } in o)
-          (unless_missed (settle g m) (λ m'. unless_missed (settle_frame_if (owing_frame m' q) m') last))).memory
-      by_test true = spared_refl x m
-      by_test false = unless_spares m (settle g m) (λ m'. unless_missed (settle_frame_if (owing_frame m' q) m') last) one
-          (unless_spares m1 (settle_frame_if (owing_frame m1 q) m1) last (frame_if_spares m1 (owing_frame m1 q) apart)
-          (compared_spares g write _ _ other))
-
 -- how many frames there are
 
 count_frame_if : (m : CloakedMemory) (o : Option ℕ) → length (settle_frame_if o m).memory.ram ≡ length m.ram
@@ -288,46 +279,26 @@ count_taken q g false m = refl
 count_compared : (q : PageId) (g : ℕ) (write : Bool) (o : Option (List ℕ)) (m : CloakedMemory) → length (compared q g write o m).memory.ram ≡ length m.ram
 unfolding compared
 count_compared q g write None m = refl
-count_compared q g write (Some c) m = by_test (bytes_eq there c)
-  where
-    there : List ℕ
-    there = slice_index_or m.ram g []
-
-    m' : CloakedMemory
-    m' = with_comparison there c m
-
-    by_test : (b : Bool) → length (cond b (let o : AfterOffer = record { memory = taken q g write m'; ciphers = []; answer = Ready } in o) (record { memory = m'; ciphers = []; answer = Mismatch })).memory.ram ≡ length m.ram
-    by_test true = count_taken q g write m'
-    by_test false = refl
+count_compared q g write (Some c) m =
+    let there : List ℕ = slice_index_or m.ram g [] in
+    either (λ (o : AfterOffer). length o.memory.ram ≡ length m.ram) (bytes_eq there c) _ _
+    (count_taken q g write (with_comparison there c m)) refl
 
 count_unless : (n : ℕ) (s : AfterSettling) (next : CloakedMemory → AfterOffer) → length s.memory.ram ≡ n → length (next s.memory).memory.ram ≡ n
     → length (unless_missed s next).memory.ram ≡ n
 unfolding unless_missed
-count_unless n s next one two = by_test s.missed
-  where
-    by_test : (b : Bool) → length (cond b (let o : AfterOffer = record { memory = s.memory; ciphers = s.ciphers; answer = Missed } in o)
-        (let n = next s.memory in record { memory = n.memory; ciphers = s.ciphers ++ n.ciphers; answer = n.answer })).memory.ram ≡ n
-    by_test true = one
-    by_test false = two
+count_unless n s next one two = either (λ (o : AfterOffer). length o.memory.ram ≡ n) s.missed _ _ one two
 
 pub offer_count : (q : PageId) (g : ℕ) (write : Bool) (m : CloakedMemory) → length (offer q g write m).memory.ram ≡ length m.ram
 unfolding offer
-offer_count q g write m = by_test (owes q (owed_in m g))
-  where
-    m1 : CloakedMemory
-    m1 = (settle g m).memory
-
-    last : CloakedMemory → AfterOffer
-    last = λ m''. compared q g write (m''.ledger.recorded q) m''
-
-    second : length (settle_frame_if (owing_frame m1 q) m1).memory.ram ≡ length m.ram
-    second = count_frame_if m1 (owing_frame m1 q) ∙ settle_count g m
-
-    by_test : (b : Bool) → length (cond b (let o : AfterOffer = record { memory = m; ciphers = []; answer = Ready } in o)
-        (unless_missed (settle g m) (λ m'. unless_missed (settle_frame_if (owing_frame m' q) m') last))).memory.ram ≡ length m.ram
-    by_test true = refl
-    by_test false = count_unless (length m.ram) (settle g m) (λ m'. unless_missed (settle_frame_if (owing_frame m' q) m') last) (settle_count g m)
-        (count_unless (length m.ram) (settle_frame_if (owing_frame m1 q) m1) last second (count_compared q g write _ _ ∙ second))
+offer_count q g write m =
+    let m1 = (settle g m).memory in
+    let last : CloakedMemory → AfterOffer = λ m''. compared q g write (m''.ledger.recorded q) m'' in
+    let second : length (settle_frame_if (owing_frame m1 q) m1).memory.ram ≡ length m.ram =
+    count_frame_if m1 (owing_frame m1 q) ∙ settle_count g m in
+    either (λ (o : AfterOffer). length o.memory.ram ≡ length m.ram) (owes q (owed_in m g)) _ _ refl
+    (count_unless (length m.ram) (settle g m) (λ m'. unless_missed (settle_frame_if (owing_frame m' q) m') last) (settle_count g m)
+    (count_unless (length m.ram) (settle_frame_if (owing_frame m1 q) m1) last second (count_compared q g write _ _ ∙ second)))
 
 pub offer_keeps : (held held' : HeldPages) (m : CloakedMemory) (q : PageId) (g : ℕ) (write : Bool) (e : Entry) → OwedIsHeld held m
     → ((x : ℕ) → x ≢ g → held x ≢ Some q → held' x ≡ held x)

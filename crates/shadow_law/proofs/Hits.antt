@@ -1,5 +1,5 @@
 -- At a hit the walk gives what the entry says, and settles nothing.
-use Rattle.std.proofs.Common.{◌≡◌, ◌≢◌, ◌∙◌, ℕ, ◌+◌, ◌*◌, ◌/◌, ◌%◌, ◌<◌, ◌≤◌, Bool, true, false, not, ◌&&◌, ◌||◌, cond, List, [], ◌∷◌, ◌++◌, length, Option, Some, None, Result, Ok, Err, refl, sym, ap, subst, arith, nat_le, nat_lt, append_assoc, append-nil}
+use Rattle.std.proofs.Common.{◌≡◌, ◌≢◌, ◌∙◌, ℕ, ◌+◌, ◌*◌, ◌/◌, ◌%◌, ◌<◌, ◌≤◌, Bool, true, false, not, ◌&&◌, ◌||◌, cond, List, [], ◌∷◌, ◌++◌, length, Option, Some, None, Ok, Err, refl, sym, ap, subst, arith, nat_le, nat_lt, append_assoc, append-nil}
 use Rattle.std.specs.Prelude.{IfSome, slice_index_or}
 use Rattle.std.specs.Str.{bytes_eq}
 use Rattle.std.proofs.lemmas.Bool.{le-leb, lt-ltb}
@@ -14,10 +14,10 @@ use Rattle.cloak_model.specs.declared.access.Access.{Access}
 use Rattle.cloak_model.specs.declared.access.Walked.{Walked}
 use Rattle.cloak_model.specs.declared.item.Item.{Item}
 use Rattle.cloak_model.specs.Ask.{shown_word, ask_word, ask_walk, ask_in_ram, ask_translate}
-use Rattle.cloak_model.proofs.WalkParts.{ask_second, ask_after, ask_first}
+use Rattle.cloak_model.proofs.WalkParts.{ask_after, ask_first}
 use Rattle.cloak_model.specs.AskPages.{is_store}
-use Rattle.cloak_model.specs.Asking.{Told}
-use Rattle.cloak_model.specs.Cloaking.{CloakedMemory, AfterSettling, AfterOffer, Ready, Mismatch, owed_in, owes, owing_frame, settle, settle_if, settle_frame_if, with_comparison, is_clash, taken, compared, unless_missed, offer}
+use Rattle.cloak_model.specs.Asking.{Told, answered}
+use Rattle.cloak_model.specs.Cloaking.{CloakedMemory, AfterSettling, AfterOffer, owed_in, owes, owing_frame, settle, settle_if, settle_frame_if, with_comparison, is_clash, taken, compared, unless_missed, offer}
 use Rattle.cloak_base.specs.Constants.{frame_of}
 use Rattle.cloak_model.specs.Memory.{is_in_ram, value_at}
 use Rattle.cloak_model.specs.Walk.{Walk, FirstWord, Ends, GoesOn, has_paging, without_paging, frame_at, first_entry, first_word, second_word, word_in_ram, walk, access_fault}
@@ -26,7 +26,7 @@ use Rattle.cloak_model.specs.Events.{Event, Touch}
 use Rattle.shadow_fold.specs.declared.entry.Entry.{Entry}
 use Rattle.shadow_fold.specs.Agreement.{EntryAgrees, TargetAgrees, satp_in, access_in, start_of}
 use Rattle.shadow_law.specs.Walks.{listed, tables_of, moved}
-use Rattle.shadow_law.specs.Agreeing.{HeldPages, present, OwedIsHeld, CleanIsShown, touches}
+use Rattle.shadow_law.specs.Agreeing.{HeldPages, present, OwedIsHeld, CleanIsShown, entry_walk, touches}
 use Rattle.shadow_law.proofs.Walks.{Leads, Bare, One, Two, listed_one, listed_two, walk_leads, walk_of_page}
 use Rattle.shadow_law.proofs.Born.{page_of_access, va_of_access}
 use Rattle.shadow_law.proofs.Changes.{owing_at}
@@ -118,7 +118,7 @@ below_frames n f k low small =
 
 -- the walk of an access by an entry that agrees
 hit_leads : (held : HeldPages) (m : CloakedMemory) (e : Entry) (va : ℕ) → EntryAgrees (present held m) e → va / 4096 ≡ e.page
-    → walk m.ram (satp_in e.regime) (access_in e.regime va e.kind) ≡ Ok (record { pa = start_of e.frame.0 + va % 4096; pt1 = e.pt1; pt0 = e.pt0 })
+    → walk m.ram (satp_in e.regime) (access_in e.regime va e.kind) ≡ Ok (entry_walk e va)
 hit_leads held m e va agrees page =
     let a = access_in e.regime va e.kind in
     let satp = satp_in e.regime in
@@ -128,12 +128,12 @@ hit_leads held m e va agrees page =
     ∙ ap (λ n. moved k (walk m.ram satp (access_in e.regime (4096 * n) e.kind))) page
     ∙ ap (moved k) agrees.walks
 
--- what is asked at a hit is what the entry says, whether that is an address of RAM or none
-hit_asks : (held : HeldPages) (c : MidStep) (e : Entry) (va : ℕ) (b : Bool) → OwedIsHeld held c.memory
+-- what is asked at a hit is the walk of the entry, or the fault if it leads to no address of RAM
+pub hit_asks : (held : HeldPages) (c : MidStep) (e : Entry) (va : ℕ) (b : Bool) → OwedIsHeld held c.memory
     → EntryAgrees (present held c.memory) e → va / 4096 ≡ e.page → is_in_ram c.memory.ram (start_of e.frame.0 + va % 4096) ≡ b
     → ask_translate (satp_in e.regime) (access_in e.regime va e.kind) (Cloaked c)
     ≡ record {
-      answer = cond b (Ok (start_of e.frame.0 + va % 4096)) (Err (access_fault (access_in e.regime va e.kind).kind));
+      answer = cond b (Ok (entry_walk e va)) (Err (access_fault (access_in e.regime va e.kind).kind));
       world = noted (touches (listed e.pt1 ++ listed e.pt0)) (Cloaked c);
     }
 unfolding ask_translate ask_in_ram
@@ -141,27 +141,15 @@ hit_asks held c e va b owed agrees page inside =
     let a = access_in e.regime va e.kind in
     let satp = satp_in e.regime in
     let m = c.memory in
-    let w : Walked = record { pa = start_of e.frame.0 + va % 4096; pt1 = e.pt1; pt0 = e.pt0 } in
+    let w = entry_walk e va in
     let clean : AreClean m w = record { first = clean_tables held m e.pt1 owed agrees.first; second = clean_tables held m e.pt0 owed agrees.second } in
     ap (λ (t : Told Walk). ask_in_ram a t.answer t.world) (leads_still satp a c w clean (walk_leads m.ram satp a w (hit_leads held m e va agrees page)))
-    ∙ ap (λ (b : Bool). let t : Told (Result ℕ ℕ) = record { answer = cond b (Ok w.pa) (Err (access_fault a.kind)); world = Cloaked (after (touches (tables_of w)) c) } in t)
-    inside
-
-pub hit_is_led : (held : HeldPages) (c : MidStep) (e : Entry) (va : ℕ) → OwedIsHeld held c.memory
-    → EntryAgrees (present held c.memory) e → va / 4096 ≡ e.page
-    → (walk c.memory.ram (satp_in e.regime) (access_in e.regime va e.kind) ≡ Ok (record { pa = start_of e.frame.0 + va % 4096; pt1 = e.pt1; pt0 = e.pt0 }))
-    × ((b : Bool) → is_in_ram c.memory.ram (start_of e.frame.0 + va % 4096) ≡ b
-    → ask_translate (satp_in e.regime) (access_in e.regime va e.kind) (Cloaked c)
-    ≡ record {
-      answer = cond b (Ok (start_of e.frame.0 + va % 4096)) (Err (access_fault (access_in e.regime va e.kind).kind));
-      world = noted (touches (listed e.pt1 ++ listed e.pt0)) (Cloaked c);
-    })
-hit_is_led held c e va owed agrees page =
-    (hit_leads held c.memory e va agrees page, λ b inside. hit_asks held c e va b owed agrees page inside)
+    ∙ ap (λ (b : Bool). answered (cond b (Ok w) (Err (access_fault a.kind))) (Cloaked (after (touches (tables_of w)) c))) inside
 
 pub hit_is_walk : (held : HeldPages) (c : MidStep) (e : Entry) (va : ℕ) → OwedIsHeld held c.memory
     → EntryAgrees (present held c.memory) e → va / 4096 ≡ e.page → e.frame.0 < length c.memory.ram
-    → ask_translate (satp_in e.regime) (access_in e.regime va e.kind) (Cloaked c) ≡ record { answer = Ok (start_of e.frame.0 + va % 4096); world = noted (touches (listed e.pt1 ++ listed e.pt0)) (Cloaked c) }
+    → ask_translate (satp_in e.regime) (access_in e.regime va e.kind) (Cloaked c)
+    ≡ record { answer = Ok (entry_walk e va); world = noted (touches (listed e.pt1 ++ listed e.pt0)) (Cloaked c) }
 hit_is_walk held c e va owed agrees page low =
     let k = va % 4096 in
     let small : k < 4096 = omega arith in
@@ -169,10 +157,15 @@ hit_is_walk held c e va owed agrees page low =
 
 -- The offer of the page that a frame holds.
 
-pub owed_offer : (q : PageId) (g : ℕ) (write : Bool) (m : CloakedMemory) → owed_in m g ≡ Some q → offer q g write m ≡ record { memory = m; ciphers = []; answer = Ready }
+-- the end of an offer that shows nothing
+abbrev pub silent_offer : Bool → CloakedMemory → AfterOffer
+silent_offer granted m = record { memory = m; ciphers = []; granted = granted }
+
+pub owed_offer : (q : PageId) (g : ℕ) (write : Bool) (m : CloakedMemory) → owed_in m g ≡ Some q
+    → offer q g write m ≡ silent_offer true m
 unfolding offer
 owed_offer q g write m is =
-    ap (λ (b : Bool). cond b (let o : AfterOffer = record { memory = m; ciphers = []; answer = Ready } in o)
+    ap (λ (b : Bool). cond b (silent_offer true m)
     (unless_missed (settle g m) (λ m'. unless_missed (settle_frame_if (owing_frame m' q) m') (λ m''. compared q g write (m''.ledger.recorded q) m''))))
     (ap (owes q) is ∙ same_page-self q)
 
@@ -203,30 +196,29 @@ same_comparison c m =
     ap (λ (b : Bool). let n : CloakedMemory = record m { ledger = record m.ledger { clashed = b } } in n) (ap (λ b. m.ledger.clashed || b) (no_clash c) ∙ or_none m.ledger.clashed)
 
 clean_compared : (q : PageId) (g : ℕ) (write : Bool) (m : CloakedMemory) → m.ledger.recorded q ≡ Some (slice_index_or m.ram g [])
-    → compared q g write (m.ledger.recorded q) m ≡ record { memory = taken q g write m; ciphers = []; answer = Ready }
+    → compared q g write (m.ledger.recorded q) m ≡ silent_offer true (taken q g write m)
 unfolding compared
 clean_compared q g write m shown =
     let there : List ℕ = slice_index_or m.ram g [] in
     let m' : CloakedMemory = with_comparison there there m in
     ap (λ (o : Option (List ℕ)). compared q g write o m) shown
-    ∙ ap (λ (b : Bool). cond b (let o : AfterOffer = record { memory = taken q g write m'; ciphers = []; answer = Ready } in o)
-    (record { memory = m'; ciphers = []; answer = Mismatch })) (self_equal there)
-    ∙ ap (λ (n : CloakedMemory). let o : AfterOffer = record { memory = taken q g write n; ciphers = []; answer = Ready } in o) (same_comparison there m)
+    ∙ ap (λ (b : Bool). cond b (silent_offer true (taken q g write m')) (silent_offer false m')) (self_equal there)
+    ∙ ap (λ (n : CloakedMemory). silent_offer true (taken q g write n)) (same_comparison there m)
 
 pub clean_offer : (q : PageId) (g : ℕ) (write : Bool) (m : CloakedMemory) → owed_in m g ≡ None → ((f : ℕ) → owed_in m f ≢ Some q)
     → m.ledger.recorded q ≡ Some (slice_index_or m.ram g [])
-    → offer q g write m ≡ record { memory = taken q g write m; ciphers = []; answer = Ready }
+    → offer q g write m ≡ silent_offer true (taken q g write m)
 unfolding offer unless_missed
 clean_offer q g write m clean newest shown =
     let last : CloakedMemory → AfterOffer = λ m''. compared q g write (m''.ledger.recorded q) m'' in
     let second : CloakedMemory → AfterOffer = λ m'. unless_missed (settle_frame_if (owing_frame m' q) m') last in
-    ap (λ (o : Option PageId). cond (owes q o) (let o' : AfterOffer = record { memory = m; ciphers = []; answer = Ready } in o') (unless_missed (settle g m) second)) clean
+    ap (λ (o : Option PageId). cond (owes q o) (silent_offer true m) (unless_missed (settle g m) second)) clean
     ∙ (ap (λ (s : AfterSettling). unless_missed s second) (untouched g m clean)
     ∙ (ap (λ (o : Option ℕ). unless_missed (record { memory = m; ciphers = []; missed = false }) (λ (m' : CloakedMemory). unless_missed (settle_frame_if o m') last)) (no_owing q m newest)
     ∙ clean_compared q g write m shown))
 
 pub hit_is_offer : (held : HeldPages) (m : CloakedMemory) (e : Entry) (q : PageId) → OwedIsHeld held m → CleanIsShown held m
-    → EntryAgrees (present held m) e → e.cloaked ≡ Some q → offer q e.frame.0 (is_store e.kind) m ≡ record { memory = m; ciphers = []; answer = Ready }
+    → EntryAgrees (present held m) e → e.cloaked ≡ Some q → offer q e.frame.0 (is_store e.kind) m ≡ silent_offer true m
 hit_is_offer held m e q owed clean agrees is =
     let target : TargetAgrees (present held m) e (Some q) = subst (TargetAgrees (present held m) e) is agrees.target in
     by_kind e.kind refl target.0 target.1 (owed_in m e.frame.0) refl
@@ -235,7 +227,7 @@ hit_is_offer held m e q owed clean agrees is =
     g = e.frame.0
 
     by_kind : (kind : Kind) → e.kind ≡ kind → held g ≡ Some q → (e.kind ≡ Store → owed_in m g ≡ Some q) → (o : Option PageId) → owed_in m g ≡ o
-        → offer q g (is_store e.kind) m ≡ record { memory = m; ciphers = []; answer = Ready }
+        → offer q g (is_store e.kind) m ≡ silent_offer true m
     by_kind kind k here stored (Some p) there =
         owed_offer q g (is_store e.kind) m (there ∙ sym (owed g p there) ∙ here)
     by_kind Store k here stored None there = owed_offer q g (is_store e.kind) m (stored k)

@@ -10,7 +10,7 @@ use Rattle.cloak_base.proofs.Pages.{same_page_tells}
 use Rattle.cloak_base.specs.declared.names.PageId.{PageId}
 use Rattle.cloak_base.specs.declared.names.SpaceId.{SpaceId}
 use Rattle.cloak_model.specs.Contexts.{same_space}
-use Rattle.cloak_model.specs.Cloaking.{CloakedMemory, AfterSettling, AfterOffer, Ready, Mismatch, owed_in, with_shown_frame, with_owed, owes, owing_frame, settle, settle_frame_if, with_comparison, taken, compared, unless_missed, offer}
+use Rattle.cloak_model.specs.Cloaking.{CloakedMemory, AfterSettling, AfterOffer, owed_in, with_shown_frame, with_owed, owes, owing_frame, settle, settle_frame_if, with_comparison, taken, compared, unless_missed, offer}
 use Rattle.shadow_fold.specs.declared.entry.Entry.{Entry}
 use Rattle.shadow_fold.specs.Agreement.{EntryAgrees, IsMapped}
 use Rattle.shadow_fold.specs.Entries.{is_target, is_table, is_of_space}
@@ -21,7 +21,7 @@ use Rattle.shadow_fold.proofs.Agreeing.{keeps_ending}
 use Rattle.shadow_fold.proofs.Follows.{ending_twice, ending_none}
 use Rattle.shadow_law.specs.Agreeing.{HeldPages, present, frame, OwedIsHeld, CleanIsShown, ChangeKeeps}
 use Rattle.shadow_law.proofs.Changes.{EachFrame, Spared, all_parts, map_parts, keeps, not_part, or_false, offer_spares, offer_count, write_keeps, touch_keeps, remap_keeps}
-use Rattle.shadow_law.proofs.Hits.{untouched, owed_offer, no_owing, clean_offer}
+use Rattle.shadow_law.proofs.Hits.{untouched, owed_offer, no_owing, clean_offer, silent_offer}
 
 -- all entries keep it if none ends
 keeps_all : (P Q : Entry → Type 0) (t : Table) → ((e : Entry) → P e → Q e) → All P t.live → All Q t.live
@@ -74,10 +74,10 @@ grant_agrees held held' m q g write t owed alone same =
     )) (not_part g e target table)))
 
 -- what is compared and not granted changes nothing of a frame
-refused_spares : (q : PageId) (x g : ℕ) (write : Bool) (o : Option (List ℕ)) (m : CloakedMemory) → (compared q g write o m).answer ≢ Ready
-    → Spared x m (compared q g write o m).memory
+refused_spares : (q : PageId) (x g : ℕ) (write : Bool) (o : Option (List ℕ)) (m : CloakedMemory)
+    → (compared q g write o m).granted ≡ false → Spared x m (compared q g write o m).memory
 unfolding compared
-refused_spares q x g write None m fails = absurd (fails refl)
+refused_spares q x g write None m fails = absurd cc
 refused_spares q x g write (Some c) m fails = by_test (bytes_eq there c) fails
   where
     there : List ℕ
@@ -87,25 +87,25 @@ refused_spares q x g write (Some c) m fails = by_test (bytes_eq there c) fails
     m' = with_comparison there c m
 
     compared_by : Bool → AfterOffer
-    compared_by b = cond b (let o : AfterOffer = record { memory = taken q g write m'; ciphers = []; answer = Ready } in o) (record { memory = m'; ciphers = []; answer = Mismatch })
+    compared_by b = cond b (silent_offer true (taken q g write m')) (silent_offer false m')
 
-    by_test : (b : Bool) → (compared_by b).answer ≢ Ready → Spared x m (compared_by b).memory
-    by_test true fails = absurd (fails refl)
+    by_test : (b : Bool) → (compared_by b).granted ≡ false → Spared x m (compared_by b).memory
+    by_test true fails = absurd cc
     by_test false fails = record { ram = refl; owed = refl }
 
 -- an offer whose frame is owed nothing, and whose page no frame is owed, is the comparison
 plain_offer : (q : PageId) (g : ℕ) (write : Bool) (m : CloakedMemory) → owed_in m g ≡ None → ((f : ℕ) → owed_in m f ≢ Some q)
-    → (let o = compared q g write (m.ledger.recorded q) m in offer q g write m ≡ record { memory = o.memory; ciphers = o.ciphers; answer = o.answer })
+    → offer q g write m ≡ compared q g write (m.ledger.recorded q) m
 unfolding offer unless_missed
 plain_offer q g write m clean none =
     let last : CloakedMemory → AfterOffer = λ m''. compared q g write (m''.ledger.recorded q) m'' in
     let second : CloakedMemory → AfterOffer = λ m'. unless_missed (settle_frame_if (owing_frame m' q) m') last in
-    ap (λ (o : Option PageId). cond (owes q o) (let o' : AfterOffer = record { memory = m; ciphers = []; answer = Ready } in o') (unless_missed (settle g m) second)) clean
+    ap (λ (o : Option PageId). cond (owes q o) (silent_offer true m) (unless_missed (settle g m) second)) clean
     ∙ (ap (λ (s : AfterSettling). unless_missed s second) (untouched g m clean)
     ∙ ap (λ (o : Option ℕ). unless_missed (record { memory = m; ciphers = []; missed = false }) (λ (m' : CloakedMemory). unless_missed (settle_frame_if o m') last)) (no_owing q m none))
 
 pub refuse_agrees : (held : HeldPages) (m : CloakedMemory) (q : PageId) (g : ℕ) (write : Bool) (t : Table) → OwedIsHeld held m
-    → ((x : ℕ) → held x ≢ Some q) → held g ≡ None → (offer q g write m).answer ≢ Ready
+    → ((x : ℕ) → held x ≢ Some q) → held g ≡ None → (offer q g write m).granted ≡ false
     → Agrees (present held m) t → Agrees (present held (offer q g write m).memory) t
 refuse_agrees held m q g write t owed none out fails =
     keeps_all (EntryAgrees (present held m)) (EntryAgrees (present held (offer q g write m).memory)) t
@@ -115,12 +115,13 @@ refuse_agrees held m q g write t owed none out fails =
     clean None is = refl
     clean (Some p) is = absurd (none-some p (sym out ∙ owed g p is))
 
-    is_plain : (let o = compared q g write (m.ledger.recorded q) m in offer q g write m ≡ record { memory = o.memory; ciphers = o.ciphers; answer = o.answer })
+    is_plain : offer q g write m ≡ compared q g write (m.ledger.recorded q) m
     is_plain = plain_offer q g write m (clean (owed_in m g) refl) (λ f is. none f (owed f q is))
 
     spares : (x : ℕ) → Spared x m (offer q g write m).memory
     spares x = subst (λ (o : AfterOffer). Spared x m o.memory) (sym is_plain)
-        (refused_spares q x g write (m.ledger.recorded q) m (λ is. fails (ap (λ (o : AfterOffer). o.answer) is_plain ∙ is)))
+        (refused_spares q x g write (m.ledger.recorded q) m
+        (ap (λ (o : AfterOffer). o.granted) (sym is_plain) ∙ fails))
 
     every : (e : Entry) → EachFrame (λ x. Spared x m (offer q g write m).memory × (held x ≡ held x)) e
     every e = all_parts (λ x. Spared x m (offer q g write m).memory × (held x ≡ held x)) e (λ x. (spares x, refl))

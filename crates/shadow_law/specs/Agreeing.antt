@@ -9,7 +9,7 @@ use Rattle.cloak_base.specs.declared.names.SpaceId.{SpaceId}
 use Rattle.cloak_model.specs.declared.access.Walked.{Walked}
 use Rattle.cloak_model.specs.Ask.{ask_translate}
 use Rattle.cloak_model.specs.AskPages.{is_store}
-use Rattle.cloak_model.specs.Cloaking.{CloakedMemory, Ready, owed_in, with_shown_frame, with_owed, settle, offer}
+use Rattle.cloak_model.specs.Cloaking.{CloakedMemory, owed_in, with_shown_frame, with_owed, settle, offer}
 use Rattle.cloak_model.specs.Contexts.{same_space}
 use Rattle.cloak_model.specs.Memory.{is_in_ram}
 use Rattle.cloak_model.specs.Walk.{walk}
@@ -85,13 +85,17 @@ BornAgrees = (p : Present) (regime : Regime) (va : ℕ) (kind : Kind) (w : Walke
 abbrev pub touches : List ℕ → List Event
 touches frames = map Touch frames
 
--- At a hit the address is that of the entry, with nothing settled and nothing shown. Its table frames are touched.
+-- the walk of an address of an entry's page
+abbrev pub entry_walk : Entry → ℕ → Walked
+entry_walk e va = record { pa = start_of e.frame.0 + va % 4096; pt1 = e.pt1; pt0 = e.pt0 }
+
+-- At a hit the walk is that of the entry, with nothing settled and nothing shown. Its table frames are touched.
 abbrev pub HitIsWalk : Type 0
 HitIsWalk = (held : HeldPages) (c : MidStep) (e : Entry) (va : ℕ) → OwedIsHeld held c.memory
     → EntryAgrees (present held c.memory) e → va / 4096 ≡ e.page → e.frame.0 < length c.memory.ram
     → ask_translate (satp_in e.regime) (access_in e.regime va e.kind) (Cloaked c)
     ≡ record {
-      answer = Ok (start_of e.frame.0 + va % 4096);
+      answer = Ok (entry_walk e va);
       world = noted (touches (listed e.pt1 ++ listed e.pt0)) (Cloaked c);
     }
 
@@ -106,4 +110,4 @@ pub record CleanIsShown (held : HeldPages) (m : CloakedMemory) : Type 0 where
 abbrev pub HitIsOffer : Type 0
 HitIsOffer = (held : HeldPages) (m : CloakedMemory) (e : Entry) (q : PageId) → OwedIsHeld held m
     → CleanIsShown held m → EntryAgrees (present held m) e → e.cloaked ≡ Some q
-    → offer q e.frame.0 (is_store e.kind) m ≡ record { memory = m; ciphers = []; answer = Ready }
+    → offer q e.frame.0 (is_store e.kind) m ≡ record { memory = m; ciphers = []; granted = true }

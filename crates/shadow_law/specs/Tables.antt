@@ -4,7 +4,7 @@ use Rattle.std.specs.Prelude.{ℕ, ◌≡◌, ◌≢◌, Bool, false, List, Opti
 use Rattle.std.specs.List.{All}
 use Rattle.cloak_base.specs.declared.names.PageId.{PageId}
 use Rattle.cloak_base.specs.declared.names.SpaceId.{SpaceId}
-use Rattle.cloak_model.specs.Cloaking.{CloakedMemory, Ready, with_shown_frame, settle, offer}
+use Rattle.cloak_model.specs.Cloaking.{CloakedMemory, with_shown_frame, settle, offer}
 use Rattle.cloak_model.specs.Contexts.{same_space}
 use Rattle.shadow_fold.specs.Agreement.{IsMapped}
 use Rattle.shadow_fold.specs.Entries.{is_table, is_of_space}
@@ -37,7 +37,7 @@ GrantAgrees = (held held' : HeldPages) (m : CloakedMemory) (q : PageId) (g : ℕ
 -- a page that no frame holds is offered in an outside frame, and is not granted: no entry ends
 abbrev pub RefuseAgrees : Type 0
 RefuseAgrees = (held : HeldPages) (m : CloakedMemory) (q : PageId) (g : ℕ) (write : Bool) (t : Table) → OwedIsHeld held m
-    → ((x : ℕ) → held x ≢ Some q) → held g ≡ None → (offer q g write m).answer ≢ Ready
+    → ((x : ℕ) → held x ≢ Some q) → held g ≡ None → (offer q g write m).granted ≡ false
     → Agrees (present held m) t → Agrees (present held (offer q g write m).memory) t
 
 -- the regions of a space change

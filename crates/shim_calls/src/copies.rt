@@ -13,7 +13,7 @@ ghost use Rattle.shim_calls.specs.Stepping.{after_copy};
 ghost use Rattle.cloak_model.specs.Script.{played};
 
 use cloak_base::{Kind, PageId};
-use cloak_model::{Answer, Copied, PageSide, Phase, WordPlace};
+use cloak_model::{Answer, Copied, PageSide, PageWord, Phase};
 use resource_map::{Resources, page_at};
 use thread_context::{Context, word_of_page};
 
@@ -22,7 +22,7 @@ use thread_context::{Context, word_of_page};
 pub struct CopyStep {
     pub ending: Copied,
     /// The word of a cloaked page that it wrote in.
-    pub wrote: Option<WordPlace>,
+    pub wrote: Option<PageWord>,
 }
 
 impl CopyStep {

@@ -4,7 +4,7 @@ use Rattle.cloak_base.specs.declared.names.PageId.{PageId}
 use Rattle.cloak_model.specs.declared.context.Phase.{Phase}
 use Rattle.cloak_model.specs.declared.context.Phase.TheVariants.{Plain, CopyIn, Waiting, CopyOut}
 use Rattle.cloak_model.specs.declared.context.ResumeFault.{ResumeFault}
-use Rattle.cloak_model.specs.declared.context.WordPlace.{WordPlace}
+use Rattle.cloak_model.specs.declared.context.PageWord.{PageWord}
 use Rattle.cloak_model.specs.declared.inside.Copied.{Copied}
 use Rattle.cloak_model.specs.declared.inside.Copied.TheVariants as copied
 use Rattle.cloak_model.specs.declared.inside.Ran.{Ran}
@@ -105,7 +105,7 @@ copy_keeps slot d c copied.Going = plain _ _ _ refl refl
 copy_keeps slot d c _ = plain _ _ _ refl refl
 
 -- a write ends reservations alone
-pub after_write_keeps : (d : Domain) (wrote : Option WordPlace) (s : DomainStepped) → DomainKeeps d s →
+pub after_write_keeps : (d : Domain) (wrote : Option PageWord) (s : DomainStepped) → DomainKeeps d s →
     DomainKeeps d (after_write wrote s)
 after_write_keeps d None s keeps = keeps
 after_write_keeps d (Some place) s keeps = record { number = keeps.number; regions = keeps.regions }

@@ -1,23 +1,22 @@
 -- The entries that questions make are of pages that lie in the space of the context that asks; of a hart outside they are
 -- of no page.
-use Rattle.std.proofs.Common.{◌≡◌, ℕ, ◌*◌, ◌/◌, Bool, true, false, cond, List, [], ◌∷◌, ◌++◌, Option, Some, None, Ok, Err}
+use Rattle.std.proofs.Common.{◌≡◌, ℕ, ◌*◌, ◌/◌, Bool, true, false, cond, List, [], ◌∷◌, ◌++◌, Option, Some, None}
 use Rattle.cloak_base.specs.declared.names.Kind.{Kind}
 use Rattle.cloak_base.specs.declared.names.PageId.{PageId}
 use Rattle.cloak_base.specs.declared.names.SpaceId.{SpaceId}
 use Rattle.cloak_model.specs.declared.access.Access.{Access}
+use Rattle.cloak_model.specs.declared.access.Walked.{Walked}
 use Rattle.cloak_model.specs.declared.answer.Answer.{Answer}
 use Rattle.cloak_model.specs.declared.answer.Answer.TheVariants as told
 use Rattle.cloak_model.specs.declared.item.Item.{Item}
 use Rattle.cloak_model.specs.Ask.{opened}
 use Rattle.cloak_model.specs.AskPages.{answer_item, replies, offer_events, inside_access, put_at, ask_reach, ask_write, ask_get, ask_put, ask_clear, ask_copy, ask_forget}
-use Rattle.cloak_model.specs.Asking.{Told}
-use Rattle.cloak_model.specs.Cloaking.{CloakedMemory, OfferEnd, Missed, settle, offer}
-use Rattle.cloak_model.specs.Events.{Event, Look, Touch, Read, Write, Drop, births_by}
+use Rattle.cloak_model.specs.Cloaking.{CloakedMemory, settle, offer}
+use Rattle.cloak_model.specs.Events.{Event, Look, Touch, Born, Read, Write, Drop}
 use Rattle.cloak_model.specs.Events.{Offer as offers}
 use Rattle.cloak_model.specs.Fork.{copy_each, forget_each}
 use Rattle.cloak_base.specs.Constants.{frame_of}
-use Rattle.cloak_model.specs.Walk.{Walk, walk}
-use Rattle.cloak_model.specs.World.{World, Flat, Cloaked, Alone, ram_of, regime_of, events_of, noted, settled, stored_at, filled_frame, written, with_plain, with_marks}
+use Rattle.cloak_model.specs.World.{World, Flat, Cloaked, Alone, regime_of, events_of, noted, settled, stored_at, filled_frame, written, with_plain, with_marks}
 use Rattle.cloak_model.specs.Script.{played}
 use Rattle.script_fold.proofs.Endings.{keeps_forgets}
 use Rattle.script_fold.proofs.KernelWalks.{Reaches}
@@ -39,11 +38,10 @@ pub record Maps (mapped : SpaceId → ℕ → Option PageId) (s : Option SpaceId
   pub by : AreMapped mapped s (events_of w) → AreMapped mapped s (events_of v)
 
 -- an entry of a page that lies at the address of its access
-pub births_page : (mapped : SpaceId → ℕ → Option PageId) (s : Option SpaceId) (satp : ℕ) (a : Access) (q : PageId)
-    (walk : Walk) → LiesAt mapped s q a.va → AreMapped mapped s (births_by satp a (Some q) walk)
-births_page mapped s satp a q (Err cause) lies = tt
-births_page mapped None satp a q (Ok walked) lies = absurd lies
-births_page mapped (Some s) satp a q (Ok walked) lies = (lies, tt)
+page_mapped : (mapped : SpaceId → ℕ → Option PageId) (s : Option SpaceId) (satp : ℕ) (a : Access) (walked : Walked)
+    (q : PageId) → LiesAt mapped s q a.va → AreMapped mapped s (Born satp a walked (Some q) ∷ [])
+page_mapped mapped None satp a walked q lies = absurd lies
+page_mapped mapped (Some s) satp a walked q lies = (lies, tt)
 
 module _ (mapped : SpaceId → ℕ → Option PageId) (s : Option SpaceId) where
   pub maps_refl : (w : World) → Maps mapped s w w
@@ -51,11 +49,6 @@ module _ (mapped : SpaceId → ℕ → Option PageId) (s : Option SpaceId) where
 
   pub maps_trans : (u v w : World) → Maps mapped s u v → Maps mapped s v w → Maps mapped s u w
   maps_trans u v w p q = record { by = λ all. q.by (p.by all) }
-
-  pub maps_either : {A : Type 0} (b : Bool) (m n : Told A) (w : World) → Maps mapped s w m.world → Maps mapped s w n.world →
-      Maps mapped s w (cond b m n).world
-  maps_either true m n w p q = p
-  maps_either false m n w p q = q
 
   pub are_append : (old new : List Event) → AreMapped mapped s old → AreMapped mapped s new →
       AreMapped mapped s (old ++ new)
@@ -94,16 +87,10 @@ module _ (mapped : SpaceId → ℕ → Option PageId) (s : Option SpaceId) where
   maps_marks marks (Flat seen) = record { by = λ all. all }
   maps_marks marks _ = record { by = λ all. all }
 
-  -- an entry without a page
-  pub births_open : (satp : ℕ) (a : Access) (walk : Walk) → AreMapped mapped s (births_by satp a None walk)
-  births_open satp a (Err cause) = tt
-  births_open satp a (Ok walked) = (tt, tt)
-
-  pub maps_opened : (satp : ℕ) (a : Access) (pa : ℕ) (w : World) → Maps mapped s w (opened satp a pa w)
-  maps_opened satp a pa w =
-      let v = settled (frame_of pa) w in
-      maps_trans w v (opened satp a pa w) (maps_settled (frame_of pa) w)
-      (maps_noted _ v (births_open satp a (walk (ram_of v) satp a)))
+  -- its entry is of no page
+  maps_opened : (satp : ℕ) (a : Access) (walked : Walked) (w : World) → Maps mapped s w (opened satp a walked w)
+  maps_opened satp a walked w =
+      maps_trans w _ _ (maps_settled (frame_of walked.pa) w) (maps_noted (Born satp a walked None ∷ []) _ (tt, tt))
 
   pub map_settles : Settles (Maps mapped s)
   map_settles = record { same = maps_refl; chained = maps_trans; settled = maps_settled }
@@ -132,24 +119,23 @@ module _ (mapped : SpaceId → ℕ → Option PageId) (s : Option SpaceId) where
 
   -- A page is reached.
 
-  pub missed_mapped : (b : Bool) (q : PageId) (g : ℕ) →
-      AreMapped mapped s (cond b (Touch g) (offers q g false) ∷ [])
-  missed_mapped true q g = (tt, tt)
-  missed_mapped false q g = (tt, tt)
+  refused_mapped : (missed : Bool) (q : PageId) (g : ℕ) →
+      AreMapped mapped s (cond missed (Touch g) (offers q g false) ∷ [])
+  refused_mapped true q g = (tt, tt)
+  refused_mapped false q g = (tt, tt)
 
-  pub offer_mapped : (q : PageId) (g : ℕ) (m : CloakedMemory) (o : OfferEnd) → AreMapped mapped s (offer_events q g m o)
-  offer_mapped q g m Missed = missed_mapped (settle g m).missed q g
-  offer_mapped q g m _ = (tt, tt)
+  offer_mapped : (q : PageId) (g : ℕ) (m : CloakedMemory) (granted : Bool) →
+      AreMapped mapped s (offer_events q g m granted)
+  offer_mapped q g m true = (tt, tt)
+  offer_mapped q g m false = refused_mapped (settle g m).missed q g
 
   map_offers : (q : PageId) (va : ℕ) → LiesAt mapped s q va → Offers (Maps mapped s) q va
   map_offers q va lies = record {
     offered = λ g write c. record {
-      by = λ all. are_append c.events _ all (offer_mapped q g c.memory (offer q g write c.memory).answer);
+      by = λ all. are_append c.events _ all (offer_mapped q g c.memory (offer q g write c.memory).granted);
     };
-    granted = λ kind w.
-        let satp : ℕ = (regime_of w).satp in
-        let a : Access = inside_access w va kind in
-        maps_noted _ w (births_page mapped s satp a q (walk (ram_of w) satp a) lies);
+    granted = λ kind walked w.
+        maps_noted _ w (page_mapped mapped s (regime_of w).satp (inside_access w va kind) walked q lies);
     mismatched = λ g c. record { by = λ all. all };
   }
 

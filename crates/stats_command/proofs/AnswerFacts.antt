@@ -17,7 +17,7 @@ use Rattle.command_parts.specs.Outside.{OnlyRead, Outside, Output, Raised}
 use Rattle.command_parts.specs.Refusal.{status_of_refusal}
 use Rattle.command_parts.specs.Refusing.{Refuses}
 use Rattle.command_parts.proofs.FaultFacts.{raised}
-use Rattle.run_command.proofs.EndFacts.{fixed_front}
+use Rattle.run_command.proofs.OutletFacts.{fixed_front}
 use Rattle.run_command.specs.Preparing.{IsPrepared}
 use Rattle.run_command.specs.Running.{IsStatusOfStop, status_of, unless_refused}
 use Rattle.cloak_model.specs.Run.{NoClash}

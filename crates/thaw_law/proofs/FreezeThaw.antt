@@ -15,10 +15,11 @@ use Rattle.record_law.proofs.Writing.{writes_its_record}
 use Rattle.frozen_state.specs.Continuing.{first_turns, IsFrozenAfter, first_pieces, without_past, next_moment, run_on, pieces_after, report_after, due_after}
 use Rattle.thaw_law.specs.Past.{PastLoads, with_loads, with_past, turn_with_past, closed_with_past, loads_of}
 use Rattle.thaw_law.specs.FreezeThaw.{IsFirstAndRest, RunsAreFirstAndRest, StoppedRunsAreWhole}
-use Rattle.thaw_law.proofs.Pieces.{recorded-append, shown-append, recorded-last, shown-last}
+use Rattle.record_law.proofs.Pieces.{joint_after-append, last_stop-append, recorded_bytes-append, shown_bytes-append, turns_pieces-append}
+use Rattle.thaw_law.proofs.Pieces.{recorded-last, shown-last}
 use Rattle.thaw_law.proofs.Runs.{is_after, joint_after_past, last_stop_after, turns_restored, restored, closing_keeps_past}
 use Rattle.thaw_law.proofs.Runs as past
-use Rattle.thaw_law.proofs.TwoParts.{turns_pieces-append, joint_after-append, last_stop-append, runs_go_on, stopped_runs_stay}
+use Rattle.thaw_law.proofs.TwoParts.{runs_go_on, stopped_runs_stay}
 
 -- The run of both parts, told by the rest.
 
@@ -83,7 +84,7 @@ module _ (o : RunEdge) (n : ℕ) (first : List Turn) (before : Joint) (rest : Ru
   file_in_parts =
       sym (writes_its_record whole)
       ∙ ap recorded_bytes pieces_in_parts
-      ∙ recorded-append (first_pieces o first) (pieces_after n rest ++ shown (report_of whole) ∷ [])
+      ∙ recorded_bytes-append (first_pieces o first) (pieces_after n rest ++ shown (report_of whole) ∷ [])
       ∙ ap (λ (l : List ℕ). recorded_bytes (first_pieces o first) ++ l)
       (recorded-last (pieces_after n rest) (report_of whole)
       ∙ sym (recorded-last (pieces_after n rest) (report_after n rest)))
@@ -92,7 +93,7 @@ module _ (o : RunEdge) (n : ℕ) (first : List Turn) (before : Joint) (rest : Ru
       ≡ shown_bytes (first_pieces o first) ++ (shown_bytes (pieces_after n rest) ++ report_of whole)
   output_in_parts =
       ap shown_bytes pieces_in_parts
-      ∙ shown-append (first_pieces o first) (pieces_after n rest ++ shown (report_of whole) ∷ [])
+      ∙ shown_bytes-append (first_pieces o first) (pieces_after n rest ++ shown (report_of whole) ∷ [])
       ∙ ap (λ (l : List ℕ). shown_bytes (first_pieces o first) ++ l)
       (shown-last (pieces_after n rest) (report_of whole))
 

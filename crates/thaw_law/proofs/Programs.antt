@@ -2,7 +2,7 @@
 use Rattle.std.proofs.Common.{◌≡◌, ◌∙◌, ℕ, zero, suc, List, [], ◌∷◌, slice_get, slice_set, slice_index_or, Option, Some, None, option_map, refl, sym, ap, append_assoc}
 use Rattle.cloak_model.specs.declared.context.Phase.{Phase}
 use Rattle.cloak_model.specs.declared.context.Phase.TheVariants.{Plain, CopyIn, Waiting, CopyOut}
-use Rattle.cloak_model.specs.declared.context.WordPlace.{WordPlace}
+use Rattle.cloak_model.specs.declared.context.PageWord.{PageWord}
 use Rattle.cloak_model.specs.declared.inside.Copied.{Copied}
 use Rattle.cloak_model.specs.declared.inside.Copied.TheVariants as copied
 use Rattle.cloak_model.specs.declared.inside.Ran.{Ran}
@@ -87,12 +87,12 @@ module _ (past : PastLoads) (slot : ℕ) where
       ap (loaded (stays_inside slot c d.control) w) (append_assoc past d.loads ((address, byte) ∷ []))
   copied_after d c _ w = refl
 
-  write_after : (place : Option WordPlace) (s : DomainStepped) (w : World) →
+  write_after : (place : Option PageWord) (s : DomainStepped) (w : World) →
       answered (after_write place (stepped_after past s)) w ≡ told_after past (answered (after_write place s) w)
   write_after None s w = refl
   write_after (Some place) s w = refl
 
-  written_after : (place : Option WordPlace) (now before : Script DomainStepped) (w : World) →
+  written_after : (place : Option PageWord) (now before : Script DomainStepped) (w : World) →
       played now w ≡ told_after past (played before w) →
       played (now >>= (λ s. Gives (after_write place s))) w
       ≡ told_after past (played (before >>= (λ s. Gives (after_write place s))) w)

@@ -2,7 +2,7 @@
 use Rattle.std.proofs.Common.{◌≡◌, ◌+◌, ◌≤◌, ◌<◌, ◌∙◌, ℕ, zero, suc, Bool, true, false, ◌||◌, List, [], ◌∷◌, Option, Some, None, refl, ap, sym, length, map, replicate, slice_index_or, slice_set, add-one, arith}
 use Rattle.std.specs.Prelude.{is_some}
 use Rattle.std.specs.List.{list_any}
-use Rattle.cloak_model.specs.declared.context.WordPlace.{WordPlace}
+use Rattle.cloak_model.specs.declared.context.PageWord.{PageWord}
 use Rattle.cloak_model.specs.Contexts.{Context, context_at, with_context, started_contexts, is_reserved, unless_reserved}
 use Rattle.thread_context.specs.Reserved.{has_mark, has_marks}
 
@@ -51,19 +51,19 @@ none_marked-started pc sp = refl
 
 -- A word is written that none has reserved.
 
-not_reserved : (place : WordPlace) (mark : Option WordPlace) → is_some mark ≡ false → is_reserved place mark ≡ false
-not_reserved place None none = refl
-not_reserved place (Some mark) none = cc
+not_reserved : (word : PageWord) (mark : Option PageWord) → is_some mark ≡ false → is_reserved word mark ≡ false
+not_reserved word None none = refl
+not_reserved word (Some mark) none = cc
 
-same_context : (place : WordPlace) (c : Option Context) → has_mark c ≡ false → unless_reserved place c ≡ c
-same_context place None none = refl
-same_context place (Some c) none = rw (not_reserved place c.mark none) refl
+same_context : (word : PageWord) (c : Option Context) → has_mark c ≡ false → unless_reserved word c ≡ c
+same_context word None none = refl
+same_context word (Some c) none = rw (not_reserved word c.mark none) refl
 
-pub same_contexts : (place : WordPlace) (contexts : List (Option Context)) → has_marks contexts ≡ false → map (unless_reserved place) contexts ≡ contexts
-same_contexts place [] none = refl
-same_contexts place (c ∷ rest) none =
-    ap (λ (x : Option Context). x ∷ map (unless_reserved place) rest) (same_context place c (not_first (has_mark c) _ none))
-    ∙ ap (λ (xs : List (Option Context)). c ∷ xs) (same_contexts place rest (not_second (has_mark c) _ none))
+pub same_contexts : (word : PageWord) (contexts : List (Option Context)) → has_marks contexts ≡ false → map (unless_reserved word) contexts ≡ contexts
+same_contexts word [] none = refl
+same_contexts word (c ∷ rest) none =
+    ap (λ (x : Option Context). x ∷ map (unless_reserved word) rest) (same_context word c (not_first (has_mark c) _ none))
+    ∙ ap (λ (xs : List (Option Context)). c ∷ xs) (same_contexts word rest (not_second (has_mark c) _ none))
 
 -- A list whose elements are mapped one after another.
 

@@ -3,14 +3,14 @@ ghost use Rattle.std.specs.Prelude.{◌≡◌};
 ghost use Rattle.cloak_model.specs.Contexts as spec;
 
 use cloak_base::PageId;
-use cloak_model::WordPlace;
+use cloak_model::PageWord;
 
 /// The word in which an address of a page lies.
 #[inline]
-pub fn word_of_page(q: PageId, va: u32) -> WordPlace
+pub fn word_of_page(q: PageId, va: u32) -> PageWord
     ensures { result ≡ spec.word_of_page q va }
 {
-    WordPlace {
+    PageWord {
         resource: q.resource,
         page: q.page,
         at: va % 4096 / 4 * 4,
@@ -19,13 +19,13 @@ pub fn word_of_page(q: PageId, va: u32) -> WordPlace
 
 /// This word is the reserved one.
 #[inline]
-pub fn is_reserved(place: WordPlace, mark: Option<WordPlace>) -> bool
-    ensures { result ≡ spec.is_reserved place mark }
+pub fn is_reserved(word: PageWord, mark: Option<PageWord>) -> bool
+    ensures { result ≡ spec.is_reserved word mark }
 {
     match mark {
         None => false,
         Some(mark) => {
-            mark.resource == place.resource && mark.page == place.page && mark.at == place.at
+            mark.resource == word.resource && mark.page == word.page && mark.at == word.at
         }
     }
 }

@@ -1,3 +1,2 @@
 mod KindFacts
 mod WordFacts
-mod ExitFacts

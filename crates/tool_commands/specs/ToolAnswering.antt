@@ -7,9 +7,9 @@ use Rattle.asm_text.specs.Commanded.{AsmAnswers}
 use Rattle.manifest.specs.Packing.{PackAnswers}
 use Rattle.cloak_model.specs.declared.item.Item.{Item}
 use Rattle.record_json.specs.JsonText.{json_text}
-use Rattle.record_text.specs.Reading.{never_unfit, record_text}
+use Rattle.record_text.specs.Reading.{record_text}
 use Rattle.record_text.specs.declared.selection.Selection.{Selection}
-use Rattle.read_back.specs.Reading.{ShowsRecord}
+use Rattle.read_back.specs.Reading.{ShowsRecord, never_unfit}
 use Rattle.read_back.specs.declared.ending.Ending.{Ending}
 use Rattle.draw_command.specs.Drawing.{DrawAnswers}
 use Rattle.run_story.specs.Answering.{ExplainAnswers}

@@ -1,7 +1,6 @@
--- What the tools return as they end.
-use Rattle.std.specs.Prelude.{◌≡◌, ◌⊎◌, List, ℕ, codes, map, string_bytes}
-use Rattle.io_traits.specs.Told.{Rose, SameFiles}
-use Rattle.command_parts.specs.Outside.{Outside, NothingRose}
+-- What the tools answer to a command line.
+use Rattle.std.specs.Prelude.{List, ℕ, codes, map, string_bytes}
+use Rattle.command_parts.specs.Outside.{Outside}
 use Rattle.command_parts.specs.declared.status.Status.{Status}
 use Rattle.command_parts.specs.declared.status.Status.TheVariants as status
 use Rattle.tool_commands.specs.ToolSaying.{Says}
@@ -17,16 +16,3 @@ abbrev pub LineAnswers : {S O : Type 0} → CommandLine → Outside S O → Outs
 LineAnswers (Taken words) before after answer = WordsAnswers (map string_bytes words.items) before after answer
 LineAnswers NotText before after answer = Says not_text_line status.Usage before after answer
 LineAnswers NoMemory before after answer = LacksToolMemory before after answer
-
--- What was answered to a command line; then what was gathered is written out, and the answer is returned, or the write
--- fault if that failed.
-pub record ToolsExit {S O : Type 0} (line : CommandLine) (before after : Outside S O) (given : Status) : Type 0 where
-  pub done : Outside S O
-  pub answer : Status
-  pub answers : LineAnswers line before done answer
-  pub held : SameFiles done.files.held after.files.held
-  pub taken : after.output.taken ≡ done.output.taken
-  pub reading : after.files.reading ≡ done.files.reading
-  pub outcome : ((given ≡ answer) × NothingRose done after)
-      ⊎ ((given ≡ status.WriteFault)
-      × (Rose done.files.writing after.files.writing ⊎ Rose done.output.faults after.output.faults))

@@ -1,12 +1,13 @@
 //! All that the tools do, over any files and any output.
 ghost use Rattle.std.specs.Prelude.{◌≢◌};
+ghost use Rattle.command_parts.specs.Exiting.{Exits};
 ghost use Rattle.command_parts.specs.Outside.{outside};
-ghost use Rattle.tool_commands.specs.ToolExiting.{LineAnswers, ToolsExit};
+ghost use Rattle.tool_commands.specs.ToolExiting.{LineAnswers};
 
 use crate::answering::obey;
 use crate::line::CommandLine;
 use crate::saying::say;
-use command_parts::{Refusal, Status, refuse};
+use command_parts::{Refusal, Status, refuse, write_out};
 use io_traits::{Shelf, Sink};
 use std::alloc::Global;
 
@@ -37,16 +38,11 @@ pub fn run_tools<S: Shelf, O: Sink>(
     out: &mut O,
 ) -> Status
     requires { S.is_settled shelf.old }
-    ensures exits { ToolsExit line.now
+    ensures exits { Exits (LineAnswers line.now)
         (outside S.Shelf O.Sink shelf.old out.old) (outside S.Shelf O.Sink shelf.new out.new) result }
     ensures files { result ≢ Status.WriteFault → S.is_settled shelf.new }
     ensures shown { result ≢ Status.WriteFault → O.is_settled out.new }
 {
     let status = answer(alloc, line, shelf, out);
-    let are_unwritten = shelf.flush().is_err();
-    let is_unshown = out.flush().is_err();
-    if are_unwritten || is_unshown {
-        return Status::WriteFault;
-    }
-    status
+    write_out(status, shelf, out)
 }

@@ -1,6 +1,6 @@
 -- What a step leaves as it was: of the side that it asks, and of the context that it steps.
 use Rattle.std.specs.Prelude.{◌≡◌, ◌≢◌, ℕ, Option, None}
-use Rattle.cloak_model.specs.declared.context.WordPlace.{WordPlace}
+use Rattle.cloak_model.specs.declared.context.PageWord.{PageWord}
 use Rattle.cloak_model.specs.declared.page_side.PageSide.{Ghosts}
 use Rattle.cloak_model.specs.Asking.{Keeps}
 use Rattle.cloak_model.specs.Contexts.{Context}
@@ -27,7 +27,7 @@ IsOther number n = n ≢ number
 
 -- The context is of the same space, and on the same hart. If the step is left open, nothing of the context changed,
 -- and no word of a cloaked page was written in.
-pub record ContextStays (left_open : Type 0) (old new : Context) (wrote : Option WordPlace) : Type 0 where
+pub record ContextStays (left_open : Type 0) (old new : Context) (wrote : Option PageWord) : Type 0 where
   pub unchanged : left_open → new ≡ old
   pub unwritten : left_open → wrote ≡ None
   pub same_space : new.space ≡ old.space

@@ -29,7 +29,7 @@ use Rattle.cloak_model.specs.DomainStep as domain_step
 use Rattle.cloak_model.specs.Ending as ending
 use Rattle.cloak_model.specs.Cloaking as cloaking
 use Rattle.cloak_model.specs.PageMoves as page_moves
-use Rattle.cloak_model.specs.Touched as touched
+use Rattle.cloak_model.specs.StepFrames as step_frames
 use Rattle.cloak_model.specs.Ahead as ahead
 use Rattle.cloak_model.specs.Leaving as leaving
 use Rattle.cloak_model.specs.Resuming as resuming
@@ -75,7 +75,7 @@ unfolding
     contexts.shown contexts.admit calls.begin_call calls.copy_in_step calls.copy_out_step calls.finish_call
     files.file_found files.file_resource fork.fork_fits fork.forked_resources fork.forked fork.copy_each
     fork.fork fork.forget_each fork.end_context
-    ask_pages.replies ask_pages.if_drawn ask_pages.ask_inside_address ask_pages.offered_by ask_pages.ask_offer
+    ask_pages.replies ask_pages.if_drawn ask_pages.ask_led_inside ask_pages.offered_by ask_pages.ask_offer
     ask_pages.reached ask_pages.reach_by_table ask_pages.get_at ask_pages.got ask_pages.get_by_table ask_pages.put_at
     ask_pages.stored_inside ask_pages.put_by_table ask_pages.settled_if_marked ask_pages.clear_from
     ask_pages.next_answer ask_pages.ask_read ask_pages.ask_write ask_pages.ask_get ask_pages.ask_put
@@ -106,8 +106,8 @@ unfoldable pub joint_steps : Unit {0}
 unfolding
     plain_steps told_steps random.next_draw random.numbered cloaking.settle_owed cloaking.settle_if cloaking.settle
     cloaking.unless_missed page_moves.place_with page_moves.place
-    page_moves.copy_pages page_moves.drop_pages touched.access_frames touched.transfer_frames touched.effect_frames
-    touched.touched_after touched.touched ahead.settle_while ahead.settle_touched ahead.made_after ahead.settled_step
+    page_moves.copy_pages page_moves.drop_pages step_frames.access_frames step_frames.transfer_frames step_frames.effect_frames
+    step_frames.step_frames_after step_frames.step_frames ahead.settle_while ahead.settle_touched ahead.made_after ahead.settled_step
     leaving.shown_registers leaving.leave resuming.resume
     opening.started_ledger opening.started_kernel opening.started_memory opening.started_joint opening.opened_with
     opening.opened_by opening.drawn_keys joint.outside_ended joint.after_outside joint.outside_step joint.domain_ended

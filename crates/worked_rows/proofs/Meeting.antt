@@ -14,13 +14,14 @@ use Rattle.aes_block.specs.Bytes.{IsBytes}
 use Rattle.cloak_base.specs.Constants.{largest_bundle}
 use Rattle.cloak_model.specs.declared.image.Bundle.{Bundle}
 use Rattle.cloak_model.specs.Bits.{word}
-use Rattle.cloak_model.specs.Bundle.{IsKernelImage, IsSegmentIn, IsProgramIn, IsInGrammar, bundle_bytes}
+use Rattle.cloak_model.specs.Bundle.{hart_counts, schedule_lengths, IsKernelImage, IsSegmentIn, IsProgramIn, IsInGrammar}
+use Rattle.cloak_model.specs.Bundle.{bundle_bytes}
 use Rattle.range_law.specs.Writing.{AreBytes, IsOfBytes}
 use Rattle.worked_rows.specs.Images.{kernel_of, program_of, lone_image}
 
 -- so many harts, and a page of words at most
-pub kernel_in : (harts : ℕ) (schedule words : List ℕ) → (leb 1 harts && leb harts 4) ≡ true →
-    (leb 1 (length schedule) && leb (length schedule) 64) ≡ true → list_all (λ h. ltb h harts) schedule ≡ true →
+pub kernel_in : (harts : ℕ) (schedule words : List ℕ) → (leb hart_counts.low harts && leb harts hart_counts.high) ≡ true →
+    (leb schedule_lengths.low (length schedule) && leb (length schedule) schedule_lengths.high) ≡ true → list_all (λ h. ltb h harts) schedule ≡ true →
     leb (length (flat_map word words)) 4096 ≡ true → IsKernelImage (kernel_of harts schedule words)
 kernel_in harts schedule words few short turns small =
     let count = and_parts _ _ few in
@@ -28,10 +29,10 @@ kernel_in harts schedule words few short turns small =
     let fits = leb-true (length (flat_map word words)) 4096 small in record {
       some_frames = omega arith;
       few_frames = omega arith;
-      some_harts = leb-true 1 harts count.0;
-      few_harts = leb-true harts 4 count.1;
-      some_turns = leb-true 1 (length schedule) long.0;
-      few_turns = leb-true (length schedule) 64 long.1;
+      some_harts = leb-true _ _ count.0;
+      few_harts = leb-true _ _ count.1;
+      some_turns = leb-true _ _ long.0;
+      few_turns = leb-true _ _ long.1;
       turns = λ k d h. ltb-true _ _ (AllPass-from_list_all (λ x. ltb x harts) schedule turns k d h);
       entry = refl;
       entry_fits = omega arith;

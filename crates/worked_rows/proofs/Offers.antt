@@ -8,21 +8,22 @@ use Rattle.std.proofs.lemmas.List.{append-nil}
 use Rattle.cloak_base.specs.declared.names.Kind.{Kind}
 use Rattle.cloak_base.specs.declared.causes.Violation.TheVariants as violation
 use Rattle.cloak_base.specs.declared.names.PageId.{PageId}
+use Rattle.cloak_model.specs.declared.access.Walked.{Walked}
 use Rattle.cloak_model.specs.declared.answer.Answer.{Answer}
 use Rattle.cloak_model.specs.declared.answer.Answer.TheVariants as told
 use Rattle.cloak_model.specs.declared.item.Item.TheVariants as item
-use Rattle.cloak_model.specs.Events.{Event, Look, births}
+use Rattle.cloak_model.specs.Events.{Event, Look, Born}
 use Rattle.cloak_model.specs.Events as events
 use Rattle.cloak_base.specs.Constants.{frame_of}
 use Rattle.cloak_model.specs.Memory.{is_in_ram}
 use Rattle.cloak_model.specs.Walk.{has_paging}
 use Rattle.cloak_model.specs.Cloaking as cloaking
-use Rattle.cloak_model.specs.Cloaking.{CloakedMemory, AfterOffer, Ready, Mismatch, with_comparison, owed_in, owing_frame, taken, compared, offer}
+use Rattle.cloak_model.specs.Cloaking.{CloakedMemory, AfterOffer, with_comparison, owed_in, owing_frame, taken, compared, offer}
 use Rattle.cloak_model.specs.World.{World, MidStep, Cloaked, is_missed, cipher_items}
 use Rattle.cloak_model.specs.Asking.{Told, Asking}
 use Rattle.cloak_model.specs.Ask as ask
 use Rattle.cloak_model.specs.AskPages as ask_pages
-use Rattle.cloak_model.specs.AskPages.{ask_reach, ask_inside_address, inside_access, if_drawn, is_store, offer_events}
+use Rattle.cloak_model.specs.AskPages.{ask_reach, ask_led_inside, inside_access, if_drawn, is_store, offer_events}
 
 same_bytes : (xs : List ℕ) → bytes_eq xs xs ≡ true
 same_bytes xs = (bytes_eq-Decides xs xs).1 refl
@@ -36,7 +37,7 @@ or-false true = refl
 or-false false = refl
 
 compared-shown : (q : PageId) (g : ℕ) (write : Bool) (c : List ℕ) (m : CloakedMemory) → slice_index_or m.ram g [] ≡ c
-    → compared q g write (Some c) m ≡ record { memory = taken q g write m; ciphers = []; answer = Ready }
+    → compared q g write (Some c) m ≡ record { memory = taken q g write m; ciphers = []; granted = true }
 unfolding cloaking.compared
 compared-shown q g write c m there = rw (there, same_bytes c, and-false, or-false) refl
 
@@ -47,7 +48,7 @@ pub record HasShown (q : PageId) (g : ℕ) (m : CloakedMemory) : Type 0 where
   pub shown : m.ledger.recorded q ≡ Some (slice_index_or m.ram g [])
 
 pub offer-shown : (q : PageId) (g : ℕ) (write : Bool) (m : CloakedMemory) → HasShown q g m
-    → offer q g write m ≡ record { memory = taken q g write m; ciphers = []; answer = Ready }
+    → offer q g write m ≡ record { memory = taken q g write m; ciphers = []; granted = true }
 unfolding cloaking.offer cloaking.settle cloaking.settle_if cloaking.unless_missed
 offer-shown q g write m h = rw (h.owed, h.owing, h.shown, compared-shown q g write _ m refl) refl
 
@@ -61,7 +62,7 @@ pub record HasChanged (q : PageId) (g : ℕ) (m : CloakedMemory) : Type 0 where
 
 pub offer-changed : (q : PageId) (g : ℕ) (write : Bool) (m : CloakedMemory) (h : HasChanged q g m)
     → offer q g write m ≡
-    record { memory = with_comparison (slice_index_or m.ram g []) h.last m; ciphers = []; answer = Mismatch }
+    record { memory = with_comparison (slice_index_or m.ram g []) h.last m; ciphers = []; granted = false }
 unfolding cloaking.offer cloaking.settle cloaking.settle_if cloaking.unless_missed cloaking.compared
 offer-changed q g write m h = rw (h.owed, h.owing, h.shown, h.other) refl
 
@@ -76,25 +77,34 @@ abbrev pub looked : ℕ → Kind → MidStep → MidStep
 looked va kind c = record c { events = c.events ++ Look c.regime.satp (inside_access (Cloaked c) va kind) ∷ [] }
 
 -- an address leads to itself
-leads-to_itself : (va : ℕ) (kind : Kind) (c : MidStep) → IsPlainAccess va c → ask_inside_address va kind (Cloaked c) ≡
-    record { answer = Ok va; world = Cloaked (looked va kind c) }
-unfolding ask.ask_led ask.ask_translate ask.ask_walk ask.ask_in_ram ask_inside_address
+abbrev itself : ℕ → Walked
+itself va = record { pa = va; pt1 = None; pt0 = None }
+
+leads-to_itself : (va : ℕ) (kind : Kind) (c : MidStep) → IsPlainAccess va c → ask_led_inside va kind (Cloaked c) ≡
+    record { answer = Ok (itself va); world = Cloaked (looked va kind c) }
+unfolding ask.ask_led ask.ask_translate ask.ask_walk ask.ask_in_ram ask_led_inside
 leads-to_itself va kind c p = rw (p.bare, p.inside) refl
 
 if_drawn-drawn : (next : Asking Answer) (w : World) → is_missed w ≡ false → if_drawn next w ≡ next w
 unfolding if_drawn
 if_drawn-drawn next w e = rw e refl
 
+-- a granted page changes nothing of the draws
+taken-drawn : (q : PageId) (g : ℕ) (write : Bool) (m : CloakedMemory) → m.ledger.missed ≡ false →
+    (taken q g write m).ledger.missed ≡ false
+taken-drawn q g true m drawn = drawn
+taken-drawn q g false m drawn = drawn
+
 -- what the offer of a page results in
 offer_asked : PageId → ℕ → Kind → MidStep → AfterOffer → Told Answer
-unfolding ask_pages.offered_by ask_pages.replies
+unfolding ask_pages.offered_by ask_pages.replies if_drawn
 offer_asked q va kind c o =
-    ask_pages.offered_by q va kind (frame_of va) o.answer
+    if_drawn (ask_pages.offered_by q va kind (itself va) o.granted)
     (Cloaked
     (record c {
       memory = o.memory;
       items = c.items ++ cipher_items o.ciphers;
-      events = (looked va kind c).events ++ offer_events q (frame_of va) c.memory o.answer;
+      events = (looked va kind c).events ++ offer_events q (frame_of va) c.memory o.granted;
     }))
 
 reach-offer : (q : PageId) (va : ℕ) (kind : Kind) (c : MidStep) → IsPlainAccess va c
@@ -102,13 +112,12 @@ reach-offer : (q : PageId) (va : ℕ) (kind : Kind) (c : MidStep) → IsPlainAcc
 unfolding ask_pages.ask_reach ask_pages.reach_by_table ask_pages.reached ask_pages.ask_offer offer_asked
 reach-offer q va kind c p =
     rw (leads-to_itself va kind c p)
-    (if_drawn-drawn (ask_pages.reached q va kind (Ok va)) (Cloaked (looked va kind c)) p.drawn)
+    (if_drawn-drawn (ask_pages.reached q va kind (Ok (itself va))) (Cloaked (looked va kind c)) p.drawn)
 
 -- what an offer that is granted does to translations that are known
 abbrev pub granted_events : PageId → ℕ → Kind → MidStep → List Event
 granted_events q va kind c = ((looked va kind c).events ++ events.Offer q (frame_of va) true ∷ [])
-    ++ births (taken q (frame_of va) (is_store kind) c.memory).ram c.regime.satp (inside_access (Cloaked c) va kind)
-    (Some q)
+    ++ Born c.regime.satp (inside_access (Cloaked c) va kind) (itself va) (Some q) ∷ []
 
 -- and one that is not
 abbrev pub refused_events : PageId → ℕ → Kind → MidStep → List Event
@@ -130,7 +139,7 @@ pub reach-shown : (q : PageId) (va : ℕ) (kind : Kind) (c : MidStep) → IsPlai
 unfolding offer_asked
 reach-shown q va kind c p h = reach-offer q va kind c p
     ∙ ap (offer_asked q va kind c) (offer-shown q (frame_of va) (is_store kind) c.memory h)
-    ∙ rw (append-nil c.items) refl
+    ∙ rw (taken-drawn q (frame_of va) (is_store kind) c.memory p.drawn, append-nil c.items) refl
 
 -- a page is not reached in a frame that has other bytes: the step meets the violation
 pub reach-changed : (q : PageId) (va : ℕ) (kind : Kind) (c : MidStep) → IsPlainAccess va c →
@@ -144,7 +153,7 @@ pub reach-changed : (q : PageId) (va : ℕ) (kind : Kind) (c : MidStep) → IsPl
         violation = Some (violation.Page q (record { 0 = frame_of va }));
       });
     }
-unfolding offer_asked
+unfolding offer_asked cloaking.settle cloaking.settle_if
 reach-changed q va kind c p h = reach-offer q va kind c p
     ∙ ap (offer_asked q va kind c) (offer-changed q (frame_of va) (is_store kind) c.memory h)
-    ∙ rw (append-nil c.items) refl
+    ∙ rw (p.drawn, h.owed, append-nil c.items) refl

@@ -56,7 +56,7 @@ pub record WholeHalves : Type 0 where
       marks = None ∷ [];
     };
     steps = 14;
-    place = Between;
+    stage = Between;
     halted = true;
     unfit = None;
   }
@@ -110,7 +110,7 @@ pub record LetterAlone : Type 0 where
       marks = None ∷ [];
     };
     steps = 4;
-    place = Between;
+    stage = Between;
     halted = true;
     unfit = None;
   }

@@ -8,7 +8,7 @@ use Rattle.cloak_base.specs.Registers.{register}
 use Rattle.cloak_model.specs.declared.answer.Answer.{Answer}
 use Rattle.cloak_model.specs.declared.answer.Answer.TheVariants as told
 use Rattle.cloak_base.specs.declared.names.PageId.{PageId}
-use Rattle.cloak_model.specs.declared.context.WordPlace.{WordPlace}
+use Rattle.cloak_model.specs.declared.context.PageWord.{PageWord}
 use Rattle.cloak_model.specs.declared.context.Phase.TheVariants as phase
 use Rattle.cloak_model.specs.declared.item.Item.TheVariants as item
 use Rattle.cloak_model.specs.Chain.{cbc}
@@ -186,18 +186,18 @@ abbrev pub stepped : List ℕ → Domain → World → ProgramRun
 stepped slots d w = steps_of slots (record { domain = d; world = w; wents = [] })
 
 -- the word at 0x00400800
-abbrev pub shared_place : WordPlace
+abbrev pub shared_place : PageWord
 shared_place = record { resource = 0; page = 0; at = 0x800 }
 
 abbrev pub shared_word : World → ℕ
 shared_word w = value_in (plain_of w (page 0 0)) 0x800 4
 
 -- what context 0 has reserved
-abbrev pub reserved_by_first : Domain → Option WordPlace
+abbrev pub reserved_by_first : Domain → Option PageWord
 reserved_by_first d = (context_in_slot 0 d).mark
 
 -- what SC of context 0 gave, the word that then stands, and what it has reserved
-abbrev pub conditional_gave : ProgramRun → ℕ × (ℕ × Option WordPlace)
+abbrev pub conditional_gave : ProgramRun → ℕ × (ℕ × Option PageWord)
 conditional_gave r = (register (context_in_slot 0 r.domain).regs 8, (shared_word r.world, reserved_by_first r.domain))
 
 -- context 0 makes LR, context 1 stores the 0 that stands there, and context 0 makes SC

@@ -1,6 +1,6 @@
 -- Rows of cloaked memory in the middle of a step: walks through a frame that is owed a page, forks, and bytes that a
 -- program stores where the kernel sees them.
-use Rattle.std.specs.Prelude.{◌≡◌, ℕ, List, [], ◌∷◌, ◌++◌, replicate, drop, Option, Some, None, false}
+use Rattle.std.specs.Prelude.{◌≡◌, ℕ, List, [], ◌∷◌, ◌++◌, replicate, drop, Option, Some, None, true, false}
 use Rattle.cloak_base.specs.Random.{handed}
 use Rattle.cloak_base.specs.Pages.{zero_page, with_page}
 use Rattle.cloak_base.specs.declared.names.Kind.TheVariants.{Load}
@@ -13,7 +13,7 @@ use Rattle.cloak_model.specs.declared.inside.Went.TheVariants as went
 use Rattle.cloak_model.specs.declared.item.Item.TheVariants as item
 use Rattle.cloak_model.specs.Chain.{cbc}
 use Rattle.cloak_model.specs.Memory.{value_in}
-use Rattle.cloak_model.specs.Cloaking.{CloakedMemory, Ready, offer, with_shown_frame}
+use Rattle.cloak_model.specs.Cloaking.{CloakedMemory, offer, with_shown_frame}
 use Rattle.cloak_model.specs.Events.{Touch}
 use Rattle.cloak_model.specs.World.{World, Cloaked, items_of, noted}
 use Rattle.cloak_model.specs.Asking.{Told}
@@ -162,7 +162,7 @@ pub record ForkFrames : Type 0 where
   pub second_record : after_fork.ledger.recorded (page 2 1) ≡ Some second_cipher
   pub fresh_record : after_fork.ledger.recorded (page 2 2) ≡ None
   pub file_record : after_fork.ledger.recorded (page 1 0) ≡ None
-  pub accepted : (offer (page 2 0) 9 false copied).answer ≡ Ready
+  pub accepted : (offer (page 2 0) 9 false copied).granted ≡ true
 
 -- A WRITE.
 

@@ -6,7 +6,7 @@ use Rattle.cloak_base.specs.Random.{numbered}
 use Rattle.cloak_base.specs.declared.causes.Stop.TheVariants as stop
 use Rattle.cloak_base.specs.declared.causes.Violation.{Violation}
 use Rattle.cloak_base.specs.declared.causes.Violation.TheVariants as violation
-use Rattle.cloak_model.specs.declared.context.WordPlace.{WordPlace}
+use Rattle.cloak_model.specs.declared.context.PageWord.{PageWord}
 use Rattle.cloak_model.specs.declared.fault.RecordFault.TheVariants.{Short}
 use Rattle.cloak_model.specs.declared.image.Bundle.{Bundle}
 use Rattle.cloak_model.specs.declared.item.Item.TheVariants as item
@@ -162,14 +162,14 @@ abbrev pub reserving_program : Bundle
 reserving_program = image_of 1 (0 ∷ []) (boot ++ halt) reserving_words
 
 -- the program after its LR or later, with this in x7
-abbrev pub reserving_context : ℕ → ℕ → Option WordPlace → Context
+abbrev pub reserving_context : ℕ → ℕ → Option PageWord → Context
 reserving_context pc loaded mark =
     record (running pc (registers_from 2 (0x80008100 ∷ [])
     (registers_from 5 (0x80008100 ∷ 9 ∷ loaded ∷ []) (replicate 32 0)))) {
       mark = mark;
     }
 
-abbrev pub reserved_place : WordPlace
+abbrev pub reserved_place : PageWord
 reserved_place = record { resource = 0; page = 0; at = 0x100 }
 
 -- the word in the program's page at a moment

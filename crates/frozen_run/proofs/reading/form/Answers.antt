@@ -3,9 +3,9 @@ use Rattle.std.proofs.lemmas.Result.{err_from_is_err_and}
 use Rattle.cloak_model.specs.Fields.{first_of, first_in, fault_in, number, after_parts}
 use Rattle.frozen_state.specs.declared.fault.FrozenFault.TheVariants.{NoMemory}
 use Rattle.frozen_state.specs.FrozenFault.{any_in, header, after_hart, after_frame, recorded_fields, harts_from, disk_from, frames_from, count_at, form_fault}
+use Rattle.field_facts.proofs.Firsts.{fault_found}
 use Rattle.frozen_run.specs.Reading.{values, hart_in, frame_in, recorded_in, after_recorded, frozen_in}
 use Rattle.frozen_run.proofs.Steps.{domain_faults, hart_faults, disk_fault, frame_faults, count_fault, recorded_faults, end_fault, from_count, from_frames, from_disk, from_harts, from_domains, form_split, FrontIsRead, FramesAreRead, after_header_read, after_domains_read, after_harts_read, after_disk_read, after_frames_read, after_count_read, after_recorded_read, told_wrong, end_wrong, end_right}
-use Rattle.frozen_run.proofs.Firsts.{fault_found}
 use Rattle.frozen_run.proofs.reading.form.Goals as goal
 
 pub returns-in_err-h-clause-fault : goal.returns-in_err-h-clause-fault

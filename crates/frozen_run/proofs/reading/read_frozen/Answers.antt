@@ -6,9 +6,9 @@ use Rattle.frozen_state.specs.declared.fault.FrozenFault.{FrozenFault}
 use Rattle.frozen_state.specs.declared.frozen.Frozen.{Frozen}
 use Rattle.frozen_state.specs.FrozenFault.{form_fault, frozen_fault}
 use Rattle.frozen_state.specs.Ranges.{IsFrozen}
+use Rattle.field_facts.proofs.Stands.{AreBytes}
 use Rattle.frozen_run.specs.Reading.{TellsFirst, frozen_in}
 use Rattle.frozen_run.specs.Shapes.{HasShape}
-use Rattle.frozen_run.proofs.Stands.{AreBytes}
 use Rattle.frozen_run.proofs.Whole.{is_frozen}
 use Rattle.frozen_run.proofs.Laws.{read_again}
 use Rattle.frozen_run.proofs.reading.read_frozen.Goals as goal

@@ -1,8 +1,7 @@
-use Rattle.std.proofs.Common.{◌≡◌, ◌∙◌, ◌≤◌, ◌<◌, ℕ, List, Option, None, Some, Ok, Err, Result, length, slice_index_or, refl, sym, ap, subst, arith}
+use Rattle.std.proofs.Common.{◌≡◌, ◌∙◌, ℕ, None, Some, length, slice_index_or, refl, sym, ap}
 use Rattle.std.proofs.lemmas.Option.{slice_get-get_or}
 use Rattle.cloak_model.specs.StoredFiles.{StoredFile}
 use Rattle.protect_meta.specs.FileTable.{file_at}
-use Rattle.joint_machine.proofs.Continued.{held_same}
 use Rattle.joint_machine.proofs.Filed.{file_absent, file_added_as, file_refused, is_of_contents, made_here, others_new, unshown_after}
 use Rattle.joint_machine.proofs.Places.{numbered_set}
 use Rattle.joint_machine.proofs.filing.add_file.Goals as goal

@@ -1,9 +1,5 @@
-use Rattle.std.proofs.Common.{◌≡◌, ◌∙◌, ◌≤◌, ◌<◌, ℕ, List, All, Ok, Err, length, slice_index_or, refl, sym, ap, subst, arith}
+use Rattle.std.proofs.Common.{◌∙◌, ◌<◌, length, refl, arith}
 use Rattle.std.proofs.lemmas.Result.{err_from_is_err_and}
-use Rattle.cloak_model.specs.Beginning.{file_added}
-use Rattle.cloak_model.specs.Ledger.{Keys}
-use Rattle.cloak_model.specs.Parts.{Joint}
-use Rattle.cloak_model.specs.StoredFiles.{FileContents, HasSealedPages, StoredFile, table_of, stored_file}
 use Rattle.protect_meta.specs.FileTable.{file_at}
 use Rattle.joint_machine.proofs.Filed.{adds_none, adds_all, count_stored, differs, no_more, one_more, precedes_at}
 use Rattle.joint_machine.proofs.filing.add_files.Goals as goal

@@ -1,7 +1,3 @@
-use Rattle.std.proofs.Common.{◌≡◌, ◌∙◌, Option, None, Some, refl, sym, ap, subst}
-use Rattle.std.specs.Prelude.{option_map}
-use Rattle.cloak_base.specs.declared.names.Meta.{Meta}
-use Rattle.cloak_model.specs.StoredFiles.{PageContent}
 use Rattle.joint_machine.proofs.Continued.{continues_shown, continues_unknown, stays_unknown}
 use Rattle.joint_machine.proofs.filing.restore_page.Goals as goal
 

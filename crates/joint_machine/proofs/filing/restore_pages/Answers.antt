@@ -1,5 +1,4 @@
-use Rattle.std.proofs.Common.{◌≡◌, ◌∙◌, ◌≤◌, ◌<◌, ℕ, List, Option, None, length, slice_index_or, refl, sym, ap, subst, arith}
-use Rattle.cloak_base.specs.declared.names.Meta.{Meta}
+use Rattle.std.proofs.Common.{◌≡◌, ◌<◌, ℕ, length, refl, ap, subst, arith}
 use Rattle.protect_meta.specs.FileTable.{file_at}
 use Rattle.joint_machine.specs.Filing.{StandsContinued}
 use Rattle.joint_machine.proofs.Continued.{count_known, fresh_past, others_next, others_none, restores_none, restores_next, restores_all}

@@ -1,4 +1,4 @@
-use Rattle.std.proofs.Common.{◌∙◌, None, refl, sym, arith}
+use Rattle.std.proofs.Common.{◌∙◌, refl, arith}
 use Rattle.std.proofs.lemmas.Option.{slice_get_read}
 use Rattle.joint_machine.proofs.Freezes.{domains_all, domains_end, domains_next, domains_none}
 use Rattle.joint_machine.proofs.freezing.freeze_domains.Goals as goal

@@ -1,6 +1,6 @@
 use Rattle.std.proofs.Common.{◌∙◌, refl, ap, sym, false}
-use Rattle.cloak_pager.specs.State.{owed_at, owed_under, page_of, right_at}
-use Rattle.joint_machine.proofs.Freezes.{held_if_owed, is_owed, resealed_stands, undrawn, unowed}
+use Rattle.cloak_pager.specs.State.{owed_under, page_of, right_at}
+use Rattle.joint_machine.proofs.Freezes.{held_if_owed, resealed_stands, undrawn, unowed}
 use Rattle.joint_machine.proofs.freezing.reseal.Goals as goal
 
 pub returns-then-not-owed-clause-owed : goal.returns-then-not-owed-clause-owed

@@ -1,4 +1,4 @@
-use Rattle.std.proofs.Common.{◌∙◌, arith}
+use Rattle.std.proofs.Common.{arith}
 use Rattle.joint_machine.proofs.Freezes.{reseals_all, reseals_lend, reseals_next, reseals_none}
 use Rattle.joint_machine.proofs.freezing.reseal_all.Goals as goal
 

@@ -1,4 +1,3 @@
-use Rattle.std.proofs.Common.{◌≡◌, length}
 use Rattle.joint_machine.proofs.Freezes.{ResealsBelow}
 use Rattle.joint_machine.proofs.freezing.reseal_all.Given as goal
 

@@ -1,4 +1,4 @@
-use Rattle.std.proofs.Common.{◌≡◌, ◌∙◌, refl, sym, arith}
+use Rattle.std.proofs.Common.{◌∙◌, refl, arith}
 use Rattle.std.proofs.lemmas.List.{length-set}
 use Rattle.thread_context.specs.Recorded.{root_at}
 use Rattle.joint_machine.proofs.Freezes.{all_roots, roots_next}

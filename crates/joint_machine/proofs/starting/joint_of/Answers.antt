@@ -1,5 +1,4 @@
 use Rattle.joint_machine.proofs.Opens.{free_unused}
-use Rattle.std.proofs.Common.{refl}
 use Rattle.joint_machine.proofs.starting.joint_of.Goals as goal
 
 pub invariant_of-result : goal.invariant_of-result

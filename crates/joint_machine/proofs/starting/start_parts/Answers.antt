@@ -1,6 +1,4 @@
-use Rattle.std.proofs.Common.{◌∙◌, ap, refl}
-use Rattle.cloak_model.specs.declared.image.Bundle.{Bundle}
-use Rattle.cloak_model.specs.Ledger.{Keys}
+use Rattle.std.proofs.Common.{refl}
 use Rattle.cloak_model.specs.Opening.{started_memory}
 use Rattle.cloaked_side.specs.Holding.{Holds}
 use Rattle.std.proofs.Common.{subst, List, ℕ}

@@ -1,9 +1,7 @@
-use Rattle.std.proofs.Common.{◌≡◌, ◌∙◌, ◌≤◌, ◌<◌, ◌+◌, ◌-◌, ℕ, List, Option, All, length, refl, ap, sym, subst, arith, lit<}
-use Rattle.std.specs.Prelude.{AllPairs, sum_by, slice_index_or}
+use Rattle.std.proofs.Common.{◌≡◌, ◌∙◌, ◌≤◌, ◌<◌, ◌+◌, ◌-◌, ℕ, List, length, ap, sym, subst, arith, lit<}
 use Rattle.std.specs.List.{insert}
-use Rattle.resource_map.specs.Kept.{IsSound}
 use Rattle.hypercalls.specs.Standing.{control_of}
-use Rattle.joint_machine.specs.Storing.{HasLowerNumber, pages_at, place_before}
+use Rattle.joint_machine.specs.Storing.{place_before}
 use Rattle.joint_machine.specs.declared.storing.FilePlace.{FilePlace}
 use Rattle.joint_machine.proofs.Sorting.{AreFiles, PlacesFrom, are_files, before_inside, places_none, places_past, places_some}
 use Rattle.joint_machine.proofs.storing.files_of.Goals as goal

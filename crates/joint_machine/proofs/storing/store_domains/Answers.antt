@@ -1,4 +1,4 @@
-use Rattle.std.proofs.Common.{◌≡◌, ◌∙◌, ◌++◌, List, map, refl, ap, sym}
+use Rattle.std.proofs.Common.{◌∙◌, ◌++◌, List, map, ap}
 use Rattle.cloak_model.specs.StoredFiles.{StoredFile}
 use Rattle.joint_machine.specs.Storing.{known_file, places_of}
 use Rattle.joint_machine.proofs.Known.{domains_next}

@@ -1,4 +1,4 @@
-use Rattle.std.proofs.Common.{◌≡◌, ◌∙◌, ◌≤◌, ◌<◌, ◌+◌, ◌++◌, ◌∷◌, ◌^◌, [], ℕ, List, Option, All, length, slice_set, refl, ap, sym, subst, arith}
+use Rattle.std.proofs.Common.{◌≡◌, ◌∙◌, ◌<◌, ◌++◌, ◌∷◌, ◌^◌, [], List, Option, length, slice_set, ap, sym, subst, arith}
 use Rattle.cloak_base.specs.declared.names.Meta.{Meta}
 use Rattle.cloak_model.specs.StoredFiles.{StoredFile, IsMetaIfKnown, IsTable}
 use Rattle.protect_meta.specs.FileTable.{file_at, with_meta}

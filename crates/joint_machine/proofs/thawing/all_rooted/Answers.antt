@@ -1,4 +1,4 @@
-use Rattle.std.proofs.Common.{◌≡◌, ◌<◌, ℕ, refl, arith, true, false}
+use Rattle.std.proofs.Common.{◌≡◌, refl, arith, true, false}
 use Rattle.resource_map.specs.Kept.{IsInUse}
 use Rattle.hypercalls.specs.Standing.{control_of}
 use Rattle.joint_machine.proofs.ThawedParts.{rooted_all, rooted_next}

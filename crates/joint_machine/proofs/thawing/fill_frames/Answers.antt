@@ -1,4 +1,4 @@
-use Rattle.std.proofs.Common.{◌∙◌, arith}
+use Rattle.std.proofs.Common.{arith}
 use Rattle.joint_machine.proofs.Thaws.{fills_all, fills_next, fills_none, fills_outside, get_there}
 use Rattle.joint_machine.proofs.thawing.fill_frames.Goals as goal
 

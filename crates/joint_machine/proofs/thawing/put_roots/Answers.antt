@@ -1,4 +1,4 @@
-use Rattle.std.proofs.Common.{◌∙◌, refl, arith}
+use Rattle.std.proofs.Common.{refl, arith}
 use Rattle.thread_context.specs.Recorded.{root_at}
 use Rattle.joint_machine.proofs.ThawedParts.{puts_all, puts_next, puts_none}
 use Rattle.joint_machine.proofs.thawing.put_roots.Goals as goal

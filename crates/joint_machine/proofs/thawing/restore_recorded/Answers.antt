@@ -1,4 +1,3 @@
-use Rattle.std.proofs.Common.{refl}
 use Rattle.std.proofs.lemmas.List.{take_all}
 use Rattle.joint_machine.proofs.Thaws.{get_there, next_fresh, next_page, restores_all, restores_next, restores_start}
 use Rattle.joint_machine.proofs.thawing.restore_recorded.Goals as goal

@@ -1,5 +1,4 @@
 use Rattle.std.proofs.Common.{◌∙◌, ℕ, ap, slice_index}
-use Rattle.cloak_model.specs.Bits.{has_bit}
 use Rattle.cloak_model.specs.Csr as csr
 use Rattle.cloak_model.specs.Csr.{Csrs}
 use Rattle.joint_machine.proofs.KeptWords.{table_is, written_table}

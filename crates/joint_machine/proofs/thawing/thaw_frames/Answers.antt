@@ -1,8 +1,5 @@
-use Rattle.std.proofs.Common.{ℕ, refl, sym, arith, subst, All}
+use Rattle.std.proofs.Common.{refl, arith, subst, All}
 use Rattle.std.proofs.lemmas.List.{take_all}
-use Rattle.std.specs.Prelude.{IfSome}
-use Rattle.protect_meta.specs.Pages.{IsIn}
-use Rattle.frozen_state.specs.Ranges.{owed_page}
 use Rattle.frozen_state.specs.Refusing.{IsWholeFrame}
 use Rattle.joint_machine.proofs.Thaws.{get_there, next_bytes, next_nowhere_if, next_outside, next_page_if, thaws_all, thaws_next, thaws_none}
 use Rattle.joint_machine.proofs.thawing.thaw_frames.Goals as goal

@@ -3,7 +3,7 @@ use Rattle.std.specs.Prelude.{All}
 use Rattle.toml.specs.View.{items_view}
 use Rattle.command_parts.specs.Outside.{OnlyRead, files}
 use Rattle.cloak_model.specs.declared.image.Segment.{Segment}
-use Rattle.cloak_model.specs.Bundle.{IsSegmentIn}
+use Rattle.cloak_model.specs.Bundle.{IsSegmentIn, segment_counts}
 use Rattle.manifest.specs.Faults.{Fault}
 use Rattle.manifest.specs.Sources.{InTurn}
 use Rattle.manifest.specs.Images.{SegmentReads}
@@ -16,7 +16,7 @@ invariant-loop-index g l =
     record {
       read : (r : Result (List Segment) Fault) → InTurn Reads (l.index + 1) (items_view (drop l.index l.tables)) l.segments.items r →
           InTurn Reads 1 (items_view l.tables) [] r;
-      few : length l.segments.items ≤ 16;
+      few : length l.segments.items ≤ segment_counts.high;
       in_ram : All (IsSegmentIn l.frames) l.segments.items;
       only : OnlyRead (files g.S.Shelf l.fn.shelf) (files g.S.Shelf l.shelf);
       settled : g.S.Shelf.is_settled l.shelf;

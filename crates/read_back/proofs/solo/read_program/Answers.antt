@@ -1,91 +1,19 @@
-use Rattle.std.proofs.Common.{◌≡◌, ◌<◌, ◌∙◌, Ok, Err, Some, None, refl, ap, sym, arith}
-use Rattle.record_reader.specs.Reading.{item_read, reader_offset}
-use Rattle.record_reader.specs.declared.fault.NextFault.TheVariants.{Read, Record}
-use Rattle.read_back.proofs.ProgramReads.{program_opens, program_takes_next, program_goes_on, program_unfits, program_ends}
-use Rattle.read_back.proofs.NextItem.{next_item, next_none, next_fault, told_begins, counted, counted_fault, risen}
+use Rattle.std.proofs.Common.{Some}
+use Rattle.read_back.proofs.ItemsRead.{fits_so, stops_so}
+use Rattle.read_back.proofs.ProgramReads.{solos_none, solos_to}
 use Rattle.read_back.proofs.solo.read_program.Goals as goal
 
-pub loop-tag-init : goal.loop-tag-init
-loop-tag-init g c = record {
-  solos = λ d k p stands. program_opens d k p _ _ _ stands c.open-reader.ensures.front;
-  named = c.open-reader.ensures.name;
-  files = λ name. refl;
-  reading = refl;
-  writing = refl;
-  settled = c.requires.settled;
-  low = let start = c.open-reader.ensures.start in omega (arith, start);
-}
+pub for_each_item-requires-clause-none : goal.for_each_item-requires-clause-none
+for_each_item-requires-clause-none g c = solos_none c.args.program.now
+
+pub returns-in-Ok-clause-solos : goal.returns-in-Ok-clause-solos
+returns-in-Ok-clause-solos g c = λ d k p stands.
+    let read = c.in-Ok.ensures.reads in
+    let solos = read.taken d k p stands in
+    solos_to solos read.few (fits_so (Some c.in-Ok.ending) solos.given.fits read.read)
 
 pub returns-in-Err-clause-solos : goal.returns-in-Err-clause-solos
 returns-in-Err-clause-solos g c = λ d k p stands.
-    let was = c.loop-tag.invariant in
-    let is : c.next.result ≡ Ok (Some c.in-Ok-Some.tag) = c.in-Ok-Some.is ∙ ap (λ x. Ok x) c.in-Ok-Some.field-0-is in
-    let same = ap (λ n. g.S.Shelf.held c.loop-tag.shelf n) was.named ∙ was.files c.args.name.now in
-    let moved = c.next.ensures.moves c.in-Ok-Some.tag is in
-    program_unfits c.take.result c.in-Err.unfit
-    (program_takes_next {was = c.loop-tag.reader} {now = c.next.new.self} c.take.result c.item.result.now (was.solos d k p stands) c.take.ensures.takes
-    (next_item _ _ c.loop-tag.reader c.next.new.self c.next.result c.next.new.kept c.item.result.now same (ap (λ x. item_read x c.next.new.kept) is ∙ ap (λ i. Ok (Some i)) (sym c.item.ensures)) c.next.ensures.next) moved) c.in-Err.is
-    c.next.ensures.within
-    (counted _ _ _ c.next.result _ was.reading is (c.next.ensures.reading was.settled))
-
-pub loop-tag-smaller : goal.loop-tag-smaller
-loop-tag-smaller g c =
-    let is : c.next.result ≡ Ok (Some c.in-Ok-Some.tag) = c.in-Ok-Some.is ∙ ap (λ x. Ok x) c.in-Ok-Some.field-0-is in
-    let moved : reader_offset c.loop-tag.reader < reader_offset c.next.new.self =
-    c.next.ensures.moves c.in-Ok-Some.tag is in
-    let low = c.next.ensures.within in omega (arith, moved, low)
-
-pub loop-tag-preserved : goal.loop-tag-preserved
-loop-tag-preserved g c =
-    let was = c.loop-tag.invariant in
-    let is : c.next.result ≡ Ok (Some c.in-Ok-Some.tag) = c.in-Ok-Some.is ∙ ap (λ x. Ok x) c.in-Ok-Some.field-0-is in
-    let same = ap (λ n. g.S.Shelf.held c.loop-tag.shelf n) was.named ∙ was.files c.args.name.now in
-    let moved = c.next.ensures.moves c.in-Ok-Some.tag is in
-    record {
-      solos = λ d k p stands.
-          program_goes_on c.take.result
-          (program_takes_next {was = c.loop-tag.reader} {now = c.next.new.self} c.take.result c.item.result.now (was.solos d k p stands) c.take.ensures.takes
-          (next_item _ _ c.loop-tag.reader c.next.new.self c.next.result c.next.new.kept c.item.result.now same (ap (λ x. item_read x c.next.new.kept) is ∙ ap (λ i. Ok (Some i)) (sym c.item.ensures)) c.next.ensures.next) moved) c.in_default.is;
-      named = ap (λ n. n.now) c.next.ensures.same ∙ was.named;
-      files = λ name. c.next.ensures.files name ∙ was.files name;
-      reading = counted _ _ _ c.next.result _ was.reading is (c.next.ensures.reading was.settled);
-      writing = c.next.ensures.writing was.settled ∙ was.writing;
-      settled = c.next.ensures.settled was.settled;
-      low = c.next.ensures.within;
-    }
-
-pub returns-in-Ok-None-clause-solos : goal.returns-in-Ok-None-clause-solos
-returns-in-Ok-None-clause-solos g c = λ d k p stands.
-    let was = c.loop-tag.invariant in
-    let reads = was.solos d k p stands in
-    let is : c.next.result ≡ Ok None = c.in-Ok-None.is ∙ ap (λ x. Ok x) c.in-Ok-None.field-0-is in
-    let same = ap (λ n. g.S.Shelf.held c.loop-tag.shelf n) was.named ∙ was.files c.args.name.now in
-    program_ends reads (record {
-      fits = reads.fits;
-      file = next_none _ _ c.loop-tag.reader c.next.new.self c.next.result c.next.new.kept same is c.next.ensures.next reads.items reads.behind;
-      counts = counted _ _ _ c.next.result _ was.reading is (c.next.ensures.reading was.settled);
-    }) was.low
-
-pub returns-in-Err-Read-clause-solos : goal.returns-in-Err-Read-clause-solos
-returns-in-Err-Read-clause-solos g c = λ d k p stands.
-    let was = c.loop-tag.invariant in
-    let reads = was.solos d k p stands in
-    let is : c.next.result ≡ Err Read = c.in-Err-Read.is ∙ ap (λ x. Err x) c.in-Err-Read.field-0-is in
-    program_ends reads (record {
-      fits = reads.fits;
-      file = told_begins _ c.loop-tag.reader reads.items reads.behind;
-      counts = risen _ _ _ c.next.result was.reading is (c.next.ensures.reading was.settled);
-    }) was.low
-
-pub returns-in-Err-Record-clause-solos : goal.returns-in-Err-Record-clause-solos
-returns-in-Err-Record-clause-solos g c = λ d k p stands.
-    let was = c.loop-tag.invariant in
-    let reads = was.solos d k p stands in
-    let is : c.next.result ≡ Err (Record c.in-Err-Record.fault) =
-    c.in-Err-Record.is ∙ ap (λ x. Err x) c.in-Err-Record.field-0-is in
-    let same = ap (λ n. g.S.Shelf.held c.loop-tag.shelf n) was.named ∙ was.files c.args.name.now in
-    rw c.in-Err-Record.fault-is (program_ends reads (record {
-      fits = reads.fits;
-      file = next_fault _ _ c.loop-tag.reader c.next.new.self c.next.result c.next.new.kept c.in-Err-Record.fault same is c.next.ensures.next reads.items reads.behind;
-      counts = counted_fault _ _ _ c.next.result _ was.reading is (c.next.ensures.reading was.settled);
-    }) was.low)
+    let read = c.in-Err.ensures.reads in
+    let solos = read.taken d k p stands in
+    solos_to solos read.few (stops_so c.in-Err.unfit.step solos.given.fits read.read)

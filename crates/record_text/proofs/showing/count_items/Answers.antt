@@ -2,7 +2,7 @@ use Rattle.std.proofs.Common.{◌∙◌, Ok, Err, refl, ap, subst, arith}
 use Rattle.cloak_model.specs.declared.item.Item.{Item}
 use Rattle.record_reader.specs.Kept.{kept_item}
 use Rattle.record_text.specs.Counting.{AreCounts, Chosen, chosen_more}
-use Rattle.record_text.proofs.Shown.{finds, at_front, read_to, reads_since}
+use Rattle.read_back.proofs.ItemsRead.{finds, at_front, read_to, reads_since}
 use Rattle.record_text.proofs.SoFar.{counts_open, counts_on}
 use Rattle.record_text.proofs.showing.count_items.Goals as goal
 

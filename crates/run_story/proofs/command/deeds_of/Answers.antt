@@ -2,8 +2,8 @@ use Rattle.std.proofs.Common.{◌∙◌, [], ◌∷◌, ◌++◌, Bool, Ok, Err,
 use Rattle.cloak_model.specs.declared.item.Item.{Item}
 use Rattle.cloak_model.specs.Record.{IsItem}
 use Rattle.record_reader.specs.Kept.{kept_item}
-use Rattle.record_text.specs.Reading.{StandsAt}
-use Rattle.record_text.proofs.Shown.{at_front, finds, reads_since}
+use Rattle.read_back.specs.Items.{StandsAt}
+use Rattle.read_back.proofs.ItemsRead.{at_front, finds, reads_since}
 use Rattle.run_story.specs.Gathering.{GathersNext}
 use Rattle.run_story.proofs.Again.{all_again, ended_again, given_again, unfit_again}
 use Rattle.run_story.proofs.SoFar.{stands_on}

@@ -2,8 +2,8 @@ use Rattle.std.proofs.Common.{◌∙◌, [], ◌∷◌, ◌++◌, refl, ap, sym,
 use Rattle.cloak_model.specs.declared.item.Item.{Item}
 use Rattle.cloak_model.specs.Record.{IsItem}
 use Rattle.record_reader.specs.Kept.{kept_item}
-use Rattle.record_text.specs.Reading.{StandsAt}
-use Rattle.record_text.proofs.Shown.{at_front}
+use Rattle.read_back.specs.Items.{StandsAt}
+use Rattle.read_back.proofs.ItemsRead.{at_front}
 use Rattle.run_story.proofs.Ends.{ends_after}
 use Rattle.run_story.proofs.SoFar.{begins_with, item_untold, stands_on, tells_item}
 use Rattle.run_story.proofs.command.tell.Goals as goal

@@ -7,5 +7,5 @@ pub returns : goal.returns
 returns g c turns s is stands fits =
     adds_outward c.args.choice.now turns s c.args.item.now c.step-step.result c.hart_there-hart.result c.has-chosen.result
     c.requires.no_end c.requires.outward (c.take-taken.ensures.takes turns s is stands) (c.step-step.ensures turns s stands)
-    (c.hart_there-hart.ensures ∙ ap hart_there (c.place.ensures turns s stands)) c.has-chosen.ensures
+    (c.hart_there-hart.ensures ∙ ap hart_there (c.stage.ensures turns s stands)) c.has-chosen.ensures
     c.put_fitting-so_far.ensures

@@ -5,11 +5,15 @@ use Rattle.cloak_base.specs.declared.names.Meta.{Meta}
 use Rattle.cloak_model.specs.Fields.{fault_in, first_in, number, parts, after_parts}
 use Rattle.cloak_model.specs.StoredFiles.{StoredFile, page_count}
 use Rattle.cloak_model.specs.StoreFault.{FilesBefore, ruled_at, pages_fit, page_fields, after_page}
+use Rattle.field_facts.proofs.Firsts.{fault_found, next_part, no_fault, no_parts}
 use Rattle.sealed_store.specs.Reading.{page_in, pages_in}
 use Rattle.sealed_store.proofs.Rows.{row, row_more, row_end, row_length, after_more, last_is, last_set}
-use Rattle.sealed_store.proofs.Firsts.{next_page, fault_found, no_fault, no_parts, file_fault}
-use Rattle.sealed_store.proofs.Stands.{same_place}
+use Rattle.sealed_store.proofs.Firsts.{file_fault}
 use Rattle.sealed_store.proofs.files.read_file.Goals as goal
+
+-- what stands at one place of one body
+same_place : {A : Type 0} (f : List ℕ → ℕ → A) (b d : List ℕ) (i j : ℕ) → b ≡ d → i ≡ j → f b i ≡ f d j
+same_place f b d i j body at = ap (λ (x : List ℕ). f x i) body ∙ ap (f d) at
 
 pub loop-i-init : goal.loop-i-init
 unfolding after_parts
@@ -49,7 +53,7 @@ returns-in_err-known-clause-fault c =
     (first_in body (parts (page_fields body) (after_page body) (n - (c.loop-i.i + 1)) (after_page body next)))
     (first_in body (parts (page_fields body) (after_page body) n (at + 12))) c.in_err-known.field-0.0
     (c.in_err-known.ensures.fault ∙ ap (λ (b : List ℕ). first_in b (page_fields b next)) c.loop-i.invariant.same)
-    (sym (next_page body n c.loop-i.i next c.loop-i-test.true) ∙ c.loop-i.invariant.fields)))
+    (sym (next_part (page_fields body) (after_page body) body n c.loop-i.i next c.loop-i-test.true) ∙ c.loop-i.invariant.fields)))
 
 pub set_page-requires-clause-page : goal.set_page-requires-clause-page
 set_page-requires-clause-page c =
@@ -90,7 +94,7 @@ loop-i-preserved c =
           (first_in body (parts (page_fields body) (after_page body) (n - (i + 1)) (after_page body at)))
           (first_in body (parts (page_fields body) (after_page body) n from))
           (c.in_ok-known.ensures.fault ∙ ap (λ (b : List ℕ). first_in b (page_fields b at)) kept.same)
-          (sym (next_page body n i at c.loop-i-test.true) ∙ kept.fields);
+          (sym (next_part (page_fields body) (after_page body) body n i at c.loop-i-test.true) ∙ kept.fields);
       within = omega (arith, moves.at, moves.inside, ap length kept.same);
     }
 
@@ -109,9 +113,7 @@ returns-clause-fault c =
     ∙ same_place count_field c.name.new.c.body.now body c.name.new.c.at (at + 8) named.same named.at)
     (c.in_ok-pages.ensures.count
     ∙ same_place number c.name.new.c.body.now body c.name.new.c.at (at + 8) named.same named.at)
-    (sym (no_parts (page_fields body) (after_page body) next body)
-    ∙ ap (λ (k : ℕ). first_in body (parts (page_fields body) (after_page body) k next)) (sym none)
-    ∙ c.loop-i.invariant.fields)
+    (sym (no_parts (page_fields body) (after_page body) body n c.loop-i.i next none) ∙ c.loop-i.invariant.fields)
 
 pub returns-clause-table : goal.returns-clause-table
 returns-clause-table c =

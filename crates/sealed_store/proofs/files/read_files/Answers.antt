@@ -4,10 +4,10 @@ use Rattle.std.proofs.lemmas.Result.{err_from_is_err_and}
 use Rattle.cloak_model.specs.Fields.{first_in, number}
 use Rattle.cloak_model.specs.StoredFiles.{StoredFile, page_count}
 use Rattle.cloak_model.specs.StoreFault.{FilesBefore, files_fields, files_end, none_before}
+use Rattle.field_facts.proofs.Firsts.{fault_found, no_fault}
 use Rattle.sealed_store.specs.Reading.{file_in, after_file, file_fields, files_in}
 use Rattle.sealed_store.proofs.Rows.{pages_more}
-use Rattle.sealed_store.proofs.Firsts.{before_next, next_file, next_end, next_in, no_files, no_end, none_in, fault_found}
-use Rattle.sealed_store.proofs.Firsts.{no_fault}
+use Rattle.sealed_store.proofs.Firsts.{before_next, next_file, next_end, next_in, no_files, no_end, none_in}
 use Rattle.sealed_store.proofs.files.read_files.Goals as goal
 
 pub returns-in_err-read_file-clause-fault : goal.returns-in_err-read_file-clause-fault

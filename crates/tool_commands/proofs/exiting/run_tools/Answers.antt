@@ -1,26 +1,10 @@
-use Rattle.std.proofs.Common.{sym, ◌∙◌}
-use Rattle.tool_commands.proofs.ExitFacts.{ends, ends_unwritten}
+use Rattle.command_parts.specs.Outside.{outside}
 use Rattle.tool_commands.proofs.exiting.run_tools.Goals as goal
 
 pub returns-clause-exits : goal.returns-clause-exits
-returns-clause-exits g c =
-    ends c.flush.result c.flush-2.result c.answer-status.ensures (record {
-      held = c.flush.ensures.files;
-      taken = c.flush-2.ensures.same;
-      reading = c.flush.ensures.reading;
-      writing = c.flush.ensures.writing;
-      faults = c.flush-2.ensures.faults;
-    })
-    (sym c.is_err-are_unwritten.ensures.value ∙ c.if-are_unwritten.false)
-    (sym c.is_err-is_unshown.ensures.value ∙ c.if-is_unshown.false)
-
-pub returns-then-are_unwritten-clause-exits : goal.returns-then-are_unwritten-clause-exits
-returns-then-are_unwritten-clause-exits g c =
-    ends_unwritten c.answer-status.result c.flush.result c.flush-2.result _ _ c.answer-status.ensures (record {
-      held = c.flush.ensures.files;
-      taken = c.flush-2.ensures.same;
-      reading = c.flush.ensures.reading;
-      writing = c.flush.ensures.writing;
-      faults = c.flush-2.ensures.faults;
-    })
-    c.is_err-are_unwritten.ensures.value c.is_err-is_unshown.ensures.value c.then-are_unwritten.either
+returns-clause-exits g c = record {
+  done = outside g.S.Shelf g.O.Sink c.answer-status.new.shelf c.answer-status.new.out;
+  answer = c.answer-status.result;
+  answers = c.answer-status.ensures;
+  written = c.write_out.ensures.written;
+}

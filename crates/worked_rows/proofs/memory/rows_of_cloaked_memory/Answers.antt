@@ -37,7 +37,7 @@ returns-clause-fork_frames c = record {
   second_record = refl;
   fresh_record = refl;
   file_record = refl;
-  accepted = ap (λ (o : AfterOffer). o.answer)
+  accepted = ap (λ (o : AfterOffer). o.granted)
       (offer-shown (page 2 0) 9 false copied (record { owed = refl; owing = refl; shown = refl }));
 }
 

@@ -9,7 +9,7 @@ returns-in-Over-clause-takes c = λ s stands.
     let stays = c.in-Over.ensures.stays in
     answered_with _ c.args.slot (one_answer c.args.answer) c.args.a s _ _ c.answers_behind-first.ensures
     (over_answered c.try_step.new.self _ c.args.slot (one_answer c.args.answer) c.args.a (answers_in (Some both.0) both.1) s _ (c.in-Over.ensures.tries s stands)
-    stands.fit (stays.unfit ∙ stands.unfit) (stays.steps ∙ stands.steps) refl refl c.place_behind-self.ensures)
+    stands.fit (stays.unfit ∙ stands.unfit) (stays.steps ∙ stands.steps) refl refl c.stage_after-self.ensures)
 
 pub returns-in-Wants-clause-takes : goal.returns-in-Wants-clause-takes
 returns-in-Wants-clause-takes c = λ s stands.

@@ -1,13 +1,9 @@
 -- A walk leaves the frames as they are.
-use Rattle.std.proofs.Common.{◌≡◌, ◌∙◌, ℕ, Bool, true, refl, ap, subst, IsTrue, Result, Err, rules}
+use Rattle.std.proofs.Common.{◌∙◌, ℕ, Err, refl, ap}
 use Rattle.cloak_model.specs.Ask.{ask_in_ram}
-use Rattle.cloak_base.specs.Constants.{is_in_frames}
+use Rattle.cloak_model.specs.Walk.{Walk}
 use Rattle.alone_views.proofs.KernelRam.{same_length, follows_translate, tested_inside, tested_outside}
 use Rattle.alone_views.proofs.kernel_ram.FlatRam.led.Goals as goal
-
-inside_same : (n m pa : ℕ) → n ≡ m → true ≡ is_in_frames n pa → IsTrue (is_in_frames m pa)
-inside_same n m pa same inside =
-    subst (λ (b : Bool). IsTrue b) (inside ∙ ap (λ (k : ℕ). is_in_frames k pa) same) (search rules)
 
 pub returns-in-Err-clause-follows : goal.returns-in-Err-clause-follows
 unfolding ask_in_ram
@@ -22,10 +18,6 @@ returns-then-is_inside-clause-follows c =
     follows_translate c.args.self.now c.walk.new.w _ _ _ _ c.in-Ok.ensures.follows
     (tested_inside _ _ _ c.if-is_inside.ensures)
 
-pub returns-then-is_inside-clause-inside : goal.returns-then-is_inside-clause-inside
-returns-then-is_inside-clause-inside c =
-    inside_same _ _ _ (same_length _ _ (c.in-Ok.ensures.unchanging c.args.self.now _ refl).1) c.if-is_inside.ensures
-
 pub returns-then-is_inside-clause-same_count : goal.returns-then-is_inside-clause-same_count
 returns-then-is_inside-clause-same_count c = same_length _ _ (c.in-Ok.ensures.unchanging c.args.self.now _ refl).1
 
@@ -33,7 +25,7 @@ pub returns-else-is_inside-clause-follows : goal.returns-else-is_inside-clause-f
 unfolding ask_in_ram
 returns-else-is_inside-clause-follows c =
     follows_translate c.args.self.now c.walk.new.w _ _ _ _ c.in-Ok.ensures.follows
-    (ap (λ (cause : ℕ). let r : Result ℕ ℕ = Err cause in r) c.access_fault.ensures
+    (ap (λ (cause : ℕ). let r : Walk = Err cause in r) c.access_fault.ensures
     ∙ tested_outside _ _ _ c.if-is_inside.ensures)
 
 pub returns-else-is_inside-clause-same_count : goal.returns-else-is_inside-clause-same_count

@@ -17,4 +17,5 @@ returns-clause-told g c first w sees =
 
 pub returns-clause-keeps : goal.returns-clause-keeps
 returns-clause-keeps g c first stays =
-    c.answer-2.ensures.leaves.keeps first (c.write_put.ensures.leaves.keeps first (c.write_settled.ensures.keeps first stays))
+    c.answer-2.ensures.leaves.keeps first (c.write_put.ensures.leaves.keeps first
+    (c.write_settled.ensures.keeps first stays))

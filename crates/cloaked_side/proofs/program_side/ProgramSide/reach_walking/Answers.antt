@@ -1,7 +1,6 @@
-use Rattle.std.proofs.Common.{◌∙◌, ℕ, Some, Ok, Err, sym, subst}
-use Rattle.protect_meta.specs.Pages.{IsIn}
+use Rattle.std.proofs.Common.{Some, Ok, Err, sym}
 use Rattle.cloaked_side.proofs.Known.{fault_reaches, found_on}
-use Rattle.cloaked_side.proofs.Sided.{reach_on, reach_refused, within_of}
+use Rattle.cloaked_side.proofs.Sided.{own_page_on, reach_on, reach_refused, within_of}
 use Rattle.cloaked_side.proofs.program_side.ProgramSide.reach_walking.Goals as goal
 
 pub returns-in-Ok-clause-told : goal.returns-in-Ok-clause-told
@@ -10,7 +9,7 @@ returns-in-Ok-clause-told g c first w s at_space same so =
     let kept = (within_of gave c.args.self.now.side c.led_by_walk.new.self c.led_by_walk.ensures.leaves.keeps).stays in
     found_on gave c.led_by_walk.new.self c.reach_led.new.self.side c.reach_led.result c.args.q c.args.va c.args.kind (Some (Ok c.in-Ok.led))
     c.args.self.now.side.regime (sym kept.regime) c.reach_led.ensures.told first w s at_space same
-    (λ u. (c.in-Ok.ensures.follows first w (so u) u, c.in-Ok.ensures.leads first w (Some c.args.q) (so u) u))
+    (λ u. c.in-Ok.ensures.leads first w (Some c.args.q) (so u) u)
 
 pub returns-in-Err-clause-told : goal.returns-in-Err-clause-told
 returns-in-Err-clause-told g c first w s at_space same so =
@@ -20,11 +19,12 @@ returns-in-Err-clause-told g c first w s at_space same so =
     c.args.self.now.side.regime (sym kept.regime)
     (fault_reaches gave c.led_by_walk.new.self c.answer_fault.new.self.side c.answer_fault.result c.args.q c.args.va c.args.kind c.in-Err.cause c.answer_fault.ensures.told)
     first w s at_space same
-    (λ u. (c.in-Err.ensures.follows first w (so u) u, tt))
+    (λ u. c.in-Err.ensures.leads first w (Some c.args.q) (so u) u)
 
 pub returns-in-Ok-clause-leaves : goal.returns-in-Ok-clause-leaves
 returns-in-Ok-clause-leaves g c =
-    reach_on g.E.Emit.gave c.args.self.now _ _ c.args.q c.args.kind _ c.led_by_walk.ensures.leaves.keeps c.reach_led.ensures.leaves
+    reach_on g.E.Emit.gave c.args.self.now _ _ c.args.q c.args.kind _ c.led_by_walk.ensures.leaves.keeps
+    c.reach_led.ensures.leaves
 
 pub returns-in-Err-clause-leaves : goal.returns-in-Err-clause-leaves
 returns-in-Err-clause-leaves g c =
@@ -34,10 +34,5 @@ returns-in-Err-clause-leaves g c =
 
 pub reach_led-requires-clause-page : goal.reach_led-requires-clause-page
 reach_led-requires-clause-page g c =
-    let kept = (within_of g.E.Emit.gave c.args.self.now.side c.led_by_walk.new.self c.led_by_walk.ensures.leaves.keeps).stays in
-    subst (λ (n : ℕ). IsIn n c.args.q) (sym kept.size.domains) c.requires.page
-
-pub reach_led-requires-clause-own : goal.reach_led-requires-clause-own
-reach_led-requires-clause-own g c =
-    let kept = (within_of g.E.Emit.gave c.args.self.now.side c.led_by_walk.new.self c.led_by_walk.ensures.leaves.keeps).stays in
-    c.requires.own ∙ sym kept.domain
+    own_page_on g.E.Emit.gave c.args.self.now.side c.led_by_walk.new.self c.args.q c.led_by_walk.ensures.leaves.keeps
+    c.requires.page

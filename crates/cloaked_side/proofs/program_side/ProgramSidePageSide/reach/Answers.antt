@@ -12,7 +12,8 @@ returns-clause-follows g c first w has sees unclashed =
 pub returns-clause-unused : goal.returns-clause-unused
 returns-clause-unused g c n other unused =
     let kept = c.reach_page.ensures.leaves.keeps c.args.self.now.side (stays_self g.E.Emit.gave c.args.self.now.side) in
-    unused_offered c.args.self.now.side c.reach_page.new.self.side c.args.q n kept.domain c.reach_page.ensures.leaves.others other unused
+    unused_offered c.args.self.now.side c.reach_page.new.self.side c.args.q n kept.domain
+    c.reach_page.ensures.leaves.others other unused
 
 pub returns-clause-same_domain : goal.returns-clause-same_domain
 returns-clause-same_domain g c =

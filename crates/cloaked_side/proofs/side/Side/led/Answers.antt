@@ -1,22 +1,9 @@
-use Rattle.cloaked_side.proofs.Known.{if_led}
 use Rattle.cloaked_side.proofs.side.Side.led.Goals as goal
 
-pub returns-then-is_bare-clause-follows : goal.returns-then-is_bare-clause-follows
-returns-then-is_bare-clause-follows g c first w sees viewed unclashed =
-    c.led_from.ensures.follows first w c.args.cloaked (c.look_bare-found.ensures.found first w c.args.cloaked sees viewed) unclashed
-
 pub returns-then-is_bare-clause-leads : goal.returns-then-is_bare-clause-leads
-returns-then-is_bare-clause-leads g c =
-    if_led c.led_from.result (λ led leads first w sees viewed unclashed.
-    leads first w c.args.cloaked (c.look_bare-found.ensures.found first w c.args.cloaked sees viewed) unclashed)
-    c.led_from.ensures.leads
-
-pub returns-clause-follows : goal.returns-clause-follows
-returns-clause-follows g c first w sees viewed unclashed =
-    c.led_from-2.ensures.follows first w c.args.cloaked (c.look_up-found.ensures.found first w sees viewed) unclashed
+returns-then-is_bare-clause-leads g c first w sees viewed =
+    c.led_from.ensures.leads first w c.args.cloaked (c.look_bare-found.ensures.found first w c.args.cloaked sees viewed)
 
 pub returns-clause-leads : goal.returns-clause-leads
-returns-clause-leads g c =
-    if_led c.led_from-2.result (λ led leads first w sees viewed unclashed.
-    leads first w c.args.cloaked (c.look_up-found.ensures.found first w sees viewed) unclashed)
-    c.led_from-2.ensures.leads
+returns-clause-leads g c first w sees viewed =
+    c.led_from-2.ensures.leads first w c.args.cloaked (c.look_up-found.ensures.found first w sees viewed)

@@ -18,7 +18,7 @@ returns-in-Err-clause-follows g c first w sees unclashed =
     let kept = within_of gave old c.led.new.self c.led.ensures.keeps in
     wrap_outside gave first old c.led.new.self _ _ kept.stays.regime sees.1
     (load_fault gave first c.led.new.self c.args.satp c.args.access c.args.width c.in-Err.cause w
-    (c.in-Err.ensures.follows first w sees.0 viewed u))
+    (c.in-Err.ensures.leads first w sees.0 viewed u))
 
 pub returns-in-Ok-clause-follows : goal.returns-in-Ok-clause-follows
 returns-in-Ok-clause-follows g c first w sees unclashed =
@@ -26,7 +26,6 @@ returns-in-Ok-clause-follows g c first w sees unclashed =
     let old = c.args.self.now in
     let mid = c.led.new.self in
     let u = load_unclashed c.args.satp c.args.access c.args.width w unclashed in
-    let led = c.in-Ok.led in
     let a = c.args.access in
     let regime = Outside c.args.satp a.mode a.sum a.mxr in
     let told = ask_led c.args.satp c.args.access w in
@@ -34,10 +33,9 @@ returns-in-Ok-clause-follows g c first w sees unclashed =
     let kept = within_of gave old mid c.led.ensures.keeps in
     let kept_then = within_of gave mid c.settle_led.new.self c.settle_led.ensures.keeps in
     let kept_last = within_of gave c.settle_led.new.self c.read_settled.new.self c.read_settled.ensures.keeps in
-    let f = c.in-Ok.ensures.follows first w sees.0 viewed u in
+    let so = c.in-Ok.ensures.leads first w sees.0 viewed u in
     wrap_outside gave first old c.read_settled.new.self _ _ (kept_last.stays.regime ∙ kept_then.stays.regime ∙ kept.stays.regime) sees.1
-    (loaded_told gave first mid c.read_settled.new.self c.args.satp c.args.access c.args.width led.pa _ w f
-    (c.read_settled.ensures.told first (opened c.args.satp c.args.access led.pa told.world)
-    (c.settle_led.ensures.sees first told.world f.stands
-    (subst (λ (o : Option SpaceId). IsRegimeIn o regime) (sym (ap space_in kept.stays.regime)) viewed)
-    (c.in-Ok.ensures.leads first w sees.0 viewed u))))
+    (loaded_told gave first mid c.read_settled.new.self c.args.satp c.args.access c.args.width so.0 c.in-Ok.led.pa _ w so.1 so.2.by.place
+    (c.read_settled.ensures.told first (opened c.args.satp c.args.access so.0 told.world)
+    (c.settle_led.ensures.sees first told.world so.0 so.1.stands
+    (subst (λ (o : Option SpaceId). IsRegimeIn o regime) (sym (ap space_in kept.stays.regime)) viewed) so.2)))

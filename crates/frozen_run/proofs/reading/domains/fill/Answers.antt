@@ -3,8 +3,8 @@ use Rattle.std.proofs.lemmas.Result.{err_from_is_err_and}
 use Rattle.cloak_model.specs.Fields.{first_in, parts, after_parts}
 use Rattle.frozen_state.specs.declared.frozen.FrozenDomain.{FrozenDomain}
 use Rattle.frozen_state.specs.FrozenFault.{domain_fields, after_domain}
+use Rattle.field_facts.proofs.Firsts.{row_wrong, row_on, row_over, end_on, end_over}
 use Rattle.frozen_run.specs.Reading.{domains_in}
-use Rattle.frozen_run.proofs.Firsts.{row_wrong, row_on, row_over, end_on, end_over}
 use Rattle.frozen_run.proofs.Rows.{next_domain, no_domains, put_in, all_put}
 use Rattle.frozen_run.proofs.reading.domains.fill.Goals as goal
 

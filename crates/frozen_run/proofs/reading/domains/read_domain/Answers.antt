@@ -2,7 +2,7 @@ use Rattle.std.proofs.Common.{◌∙◌}
 use Rattle.std.proofs.lemmas.Result.{err_from_is_err_and}
 use Rattle.cloak_model.specs.Fields.{first_of, first_in, after_parts}
 use Rattle.frozen_state.specs.FrozenFault.{after_maybe, violation_fields, domain_fields, after_violation, page_from}
-use Rattle.frozen_run.proofs.Firsts.{fault_found}
+use Rattle.field_facts.proofs.Firsts.{fault_found}
 use Rattle.frozen_run.proofs.PageFields.{meta_fields}
 use Rattle.frozen_run.proofs.Steps.{root_faults, page_fault, domain_split, after_violation_read, after_roots_read, after_meta_read}
 use Rattle.frozen_run.proofs.reading.domains.read_domain.Goals as goal

@@ -2,8 +2,8 @@ use Rattle.std.proofs.Common.{◌∙◌, arith, length-set}
 use Rattle.std.proofs.lemmas.Result.{err_from_is_err_and}
 use Rattle.cloak_model.specs.Fields.{first_in, parts, after_parts}
 use Rattle.frozen_state.specs.FrozenFault.{maybe_fields, after_maybe}
+use Rattle.field_facts.proofs.Firsts.{row_wrong, row_on, row_over, end_on, end_over}
 use Rattle.frozen_run.specs.Reading.{values, maybe_in}
-use Rattle.frozen_run.proofs.Firsts.{row_wrong, row_on, row_over, end_on, end_over}
 use Rattle.frozen_run.proofs.Rows.{put_value, over_put}
 use Rattle.frozen_run.proofs.reading.domains.roots.Goals as goal
 

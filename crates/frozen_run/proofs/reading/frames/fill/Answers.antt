@@ -2,8 +2,8 @@ use Rattle.std.proofs.Common.{◌∙◌, ℕ, ◌+◌, ◌-◌, [], length, sym,
 use Rattle.std.proofs.lemmas.Result.{err_from_is_err_and}
 use Rattle.cloak_model.specs.Fields.{first_in, after_parts}
 use Rattle.frozen_state.specs.FrozenFault.{frames_fields, after_frame}
+use Rattle.field_facts.proofs.Firsts.{fault_found, no_fault, end_on, end_over}
 use Rattle.frozen_run.specs.Reading.{values, frame_in, frame_fields, seen_after}
-use Rattle.frozen_run.proofs.Firsts.{fault_found, no_fault, end_on, end_over}
 use Rattle.frozen_run.proofs.Frames.{next_frame, no_frames}
 use Rattle.frozen_run.proofs.Rows.{put_value, over_put}
 use Rattle.frozen_run.proofs.reading.frames.fill.Goals as goal

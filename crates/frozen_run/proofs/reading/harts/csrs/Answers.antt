@@ -5,8 +5,8 @@ use Rattle.cloak_model.specs.Fields.{first_of, fault_in, first_in, number}
 use Rattle.frozen_state.specs.declared.fault.FrozenFault.{FrozenFault}
 use Rattle.frozen_state.specs.Ranges.{has_only, kept_bits}
 use Rattle.frozen_state.specs.FrozenFault.{ruled_in, csr_fields}
+use Rattle.field_facts.proofs.Firsts.{fault_found, no_fault}
 use Rattle.frozen_run.specs.Reading.{values, after_word}
-use Rattle.frozen_run.proofs.Firsts.{fault_found, no_fault}
 use Rattle.frozen_run.proofs.Rows.{put_value, over_put}
 use Rattle.frozen_run.proofs.reading.harts.csrs.Goals as goal
 

@@ -2,7 +2,7 @@ use Rattle.std.proofs.Common.{◌∙◌}
 use Rattle.std.proofs.lemmas.Result.{err_from_is_err_and}
 use Rattle.cloak_model.specs.Fields.{first_of, first_in}
 use Rattle.frozen_state.specs.FrozenFault.{regs_from, hart_fields}
-use Rattle.frozen_run.proofs.Firsts.{fault_found}
+use Rattle.field_facts.proofs.Firsts.{fault_found}
 use Rattle.frozen_run.proofs.Steps.{mode_fault, pc_fault, timer_fault, inside_fault, reg_faults, csr_faults, mark_fault, word_faults, hart_split, IsFrontRead, after_mode_read, after_pc_read, after_timer_read, after_inside_read, after_registers_read, after_csrs_read}
 use Rattle.frozen_run.proofs.reading.harts.hart.Goals as goal
 

@@ -3,8 +3,8 @@ use Rattle.std.proofs.lemmas.List.{length_push}
 use Rattle.std.proofs.lemmas.Result.{err_from_is_err_and}
 use Rattle.cloak_model.specs.Fields.{first_in, parts, after_parts}
 use Rattle.frozen_state.specs.FrozenFault.{hart_fields, after_hart}
+use Rattle.field_facts.proofs.Firsts.{row_wrong, row_on, row_over, end_on, end_over}
 use Rattle.frozen_run.specs.Reading.{values, hart_in}
-use Rattle.frozen_run.proofs.Firsts.{row_wrong, row_on, row_over, end_on, end_over}
 use Rattle.frozen_run.proofs.Rows.{push_value, over_pushed}
 use Rattle.frozen_run.proofs.reading.harts.read_harts.Goals as goal
 

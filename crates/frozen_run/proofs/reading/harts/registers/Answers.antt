@@ -3,8 +3,8 @@ use Rattle.std.proofs.lemmas.Bool.{ne_eqb}
 use Rattle.std.proofs.lemmas.Result.{err_from_is_err_and}
 use Rattle.cloak_model.specs.Fields.{fault_in, first_in, number, parts}
 use Rattle.frozen_state.specs.FrozenFault.{any_in}
+use Rattle.field_facts.proofs.Firsts.{first_of-none, row_wrong, row_on, row_over}
 use Rattle.frozen_run.specs.Reading.{values, after_word}
-use Rattle.frozen_run.proofs.Firsts.{first_of-none, row_wrong, row_on, row_over}
 use Rattle.frozen_run.proofs.Rows.{put_value, over_put}
 use Rattle.frozen_run.proofs.reading.harts.registers.Goals as goal
 

@@ -6,8 +6,8 @@ use Rattle.cloak_model.specs.Fields.{first_in}
 use Rattle.frozen_state.specs.declared.fault.FrozenFault.{FrozenFault}
 use Rattle.frozen_state.specs.declared.frozen.FrozenPage.{FrozenPage}
 use Rattle.frozen_state.specs.FrozenFault.{page_at, page_fields, rises, recorded_fields}
+use Rattle.field_facts.proofs.Firsts.{fault_found, no_fault}
 use Rattle.frozen_run.specs.Reading.{values, recorded_in, after_recorded}
-use Rattle.frozen_run.proofs.Firsts.{fault_found, no_fault}
 use Rattle.frozen_run.proofs.Rows.{push_value, over_pushed}
 use Rattle.frozen_run.proofs.Recorded.{next_recorded, no_recorded}
 use Rattle.frozen_run.proofs.reading.recorded.read_recorded.Goals as goal

@@ -1,4 +1,4 @@
-use Rattle.std.proofs.Common.{◌∙◌, ◌≡◌, ◌≤◌, All, List, ap, length, refl, subst, sym, arith}
+use Rattle.std.proofs.Common.{◌∙◌, ◌≡◌, List, ap, length, refl, subst, sym}
 use Rattle.cloak_model.specs.declared.image.Bundle.{Bundle}
 use Rattle.cloak_model.specs.declared.image.Program.{Program}
 use Rattle.cloak_model.specs.Beginning.{stored_keys}

@@ -1,8 +1,8 @@
-use Rattle.std.proofs.Common.{◌∙◌, ◌≡◌, ◌≤◌, ℕ, All, List, Ok, ap, drop, length, refl, subst, sym, take, ◌++◌, arith}
+use Rattle.std.proofs.Common.{◌∙◌, ◌≡◌, All, List, Ok, ap, drop, length, subst, sym, arith}
 use Rattle.std.proofs.lemmas.List.{take_at}
 use Rattle.cloak_model.specs.declared.image.Bundle.{Bundle}
 use Rattle.cloak_model.specs.declared.image.Program.{Program}
-use Rattle.cloak_model.specs.Beginning.{files_added, stored_keys}
+use Rattle.cloak_model.specs.Beginning.{files_added}
 use Rattle.cloak_model.specs.Bundle.{IsInGrammar}
 use Rattle.cloak_model.specs.Ledger.{Keys}
 use Rattle.cloak_model.specs.Opening.{started_domains}

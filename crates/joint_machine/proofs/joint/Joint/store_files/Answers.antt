@@ -1,4 +1,4 @@
-use Rattle.std.proofs.Common.{◌≡◌, ◌∙◌, ap, subst, sym, refl}
+use Rattle.std.proofs.Common.{◌∙◌, ap}
 use Rattle.joint_machine.specs.Storing.{known_files}
 use Rattle.joint_machine.proofs.Holding.{files_sealed, files_tell}
 use Rattle.joint_machine.proofs.joint.Joint.store_files.Goals as goal

@@ -2,7 +2,7 @@ use Rattle.std.proofs.Common.{◌∙◌, ◌++◌, [], ◌∷◌, false, sym, ap
 use Rattle.cloak_model.specs.declared.item.Item.{Item}
 use Rattle.cloak_model.specs.KernelAlone.{kernel_alone}
 use Rattle.alone_views.specs.KernelEnding.{is_end}
-use Rattle.alone_views.specs.KernelPlaces.{stood_place}
+use Rattle.alone_views.specs.KernelStages.{stood_stage}
 use Rattle.replayed_run.specs.Noted.{notes_after}
 use Rattle.replayed_run.specs.declared.notes.Asking.{Asking}
 use Rattle.replayed_run.specs.declared.notes.Notes.{Notes}
@@ -17,8 +17,8 @@ returns-in-Step-clause-notes c = λ b items took.
     let noted : Item → Notes = λ i. notes_after b items (items ++ c.args.item.now ∷ []) n i in
     c.note_begin.ensures.notes
     ∙ (ap begun c.note_end.ensures.notes
-    ∙ (ap asking (asked_told (kernel_alone b.kernel items) (stood_place c.args.place)
-    c.args.self.now.machines.kernel.ending n.has_resumed took.place (took.took.step.ends (ap is_end c.in-Step.is)))
+    ∙ (ap asking (asked_told (kernel_alone b.kernel items) (stood_stage c.args.stage)
+    c.args.self.now.machines.kernel.ending n.has_resumed took.stage (took.took.step.ends (ap is_end c.in-Step.is)))
     ∙ sym (ap noted c.in-Step.is)))
 
 pub returns-in-Close-clause-notes : goal.returns-in-Close-clause-notes
@@ -27,8 +27,8 @@ returns-in-Close-clause-notes c = λ b items took.
     let asking : Option Asking → Notes = λ a. record n { asked = a } in
     let noted : Item → Notes = λ i. notes_after b items (items ++ c.args.item.now ∷ []) n i in
     c.note_end-in-Close.ensures.notes
-    ∙ (ap asking (asked_told (kernel_alone b.kernel items) (stood_place c.args.place)
-    c.args.self.now.machines.kernel.ending n.has_resumed took.place (took.took.step.ends (ap is_end c.in-Close.is)))
+    ∙ (ap asking (asked_told (kernel_alone b.kernel items) (stood_stage c.args.stage)
+    c.args.self.now.machines.kernel.ending n.has_resumed took.stage (took.took.step.ends (ap is_end c.in-Close.is)))
     ∙ sym (ap noted c.in-Close.is))
 
 pub returns-in-Resume-clause-notes : goal.returns-in-Resume-clause-notes

@@ -1,5 +1,5 @@
 use Rattle.std.proofs.Common.{◌∙◌, true, sym, ap}
-use Rattle.alone_views.specs.KernelPlaces.{stood_place}
+use Rattle.alone_views.specs.KernelStages.{stood_stage}
 use Rattle.replayed_run.specs.declared.contexts.ToldContexts.{ToldContexts}
 use Rattle.replayed_run.specs.declared.notes.Notes.{Notes}
 use Rattle.replayed_run.proofs.NotedMore.{resumed_told}
@@ -12,5 +12,5 @@ returns-in-Some-clause-notes c = λ b items stand.
     λ t. record { step = n.step; has_resumed = true; contexts = t; asked = n.asked } in
     ap with_contexts (c.resume.ensures
     ∙ resumed_told b items n c.args.ctx c.in-Outside.hart c.in-Some.context c.words_of-satp.result
-    (sym (c.place.ensures b items stand) ∙ ap stood_place c.in-Outside.is)
+    (sym (c.stage.ensures b items stand) ∙ ap stood_stage c.in-Outside.is)
     (sym (c.context.ensures b items stand) ∙ c.in-Some.is) (c.words_of-satp.ensures b items stand))

@@ -30,7 +30,7 @@ returns-clause-takes c = λ b items is watched.
     let run = c.note_page-showing.ensures.run in
     let noted = c.note.ensures.notes b items (record {
       took = subst (λ (m : Machines). TookItem b items i m) (sym run.machines) took;
-      place = sym (c.place-place.ensures b items watched.machines);
+      stage = sym (c.stage-stage.ensures b items watched.machines);
     }) in
     watches_more b items i c.args.self.now (record c.note.new.self { questions = c.after-questions.result }) watched
     (subst (λ (m : Machines). StandAlone b now m) (sym (c.note.ensures.machines ∙ run.machines)) took.stands)

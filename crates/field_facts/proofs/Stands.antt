@@ -1,41 +1,13 @@
--- Texts in a body, and what fields without a fault say.
-use Rattle.std.proofs.Common.{◌≡◌, ◌∙◌, ℕ, ◌+◌, ◌-◌, ◌^◌, ◌<◌, ◌≤◌, Bool, true, false, cond, ltb, List, ◌++◌, length, get_or, take, drop, All, Option, Some, None, refl, sym, ap, subst, arith, inl, inr}
+-- Bytes and texts that stand in a file.
+use Rattle.std.proofs.Common.{◌≡◌, ◌∙◌, ℕ, ◌+◌, ◌-◌, ◌^◌, ◌<◌, ◌≤◌, List, [], ◌∷◌, ◌++◌, length, get_or, take, drop, All, refl, sym, ap, subst, arith, inl, inr}
 use Rattle.std.specs.Int.{w64, from_le_bytes}
-use Rattle.std.proofs.lemmas.Bool.{cases_lt, ltb-false}
-use Rattle.std.proofs.lemmas.List.{take-append-drop, drop-drop, drop_at, length-take, length-drop, get_or_past, append_assoc}
+use Rattle.std.proofs.lemmas.Bool.{cases_lt}
+use Rattle.std.proofs.lemmas.List.{take-append-drop, drop-drop, drop_at, drop_more, length-take, length-drop, get_or_past, append_assoc}
 use Rattle.std.proofs.lemmas.List.Elements.{All-take, All-drop, All-get_or}
 use Rattle.std.proofs.lemmas.Nat.{le_bytes_4, le_bytes_8}
-use Rattle.cloak_model.specs.declared.fault.StoreFault.{StoreFault}
 use Rattle.cloak_model.specs.Bits.{word}
 use Rattle.cloak_model.specs.StoredFiles.{long}
-use Rattle.cloak_model.specs.Fields.{first_of, number}
-
--- ---- faults that there are not
-
-pub none_parts : (a b : Option StoreFault) → first_of a b ≡ None → (a ≡ None) × (b ≡ None)
-none_parts None b h = (refl, h)
-none_parts (Some f) b h = absurd cc
-
-pub not_so : (b : Bool) (e : StoreFault) (o : Option StoreFault) → cond b (Some e) o ≡ None → (b ≡ false) × (o ≡ None)
-not_so true e o h = absurd cc
-not_so false e o h = (refl, h)
-
-pub kept : (b : Bool) (e : StoreFault) → cond b None (Some e) ≡ None → b ≡ true
-kept true e h = refl
-kept false e h = absurd cc
-
--- a field without a fault is whole and keeps its rule
-pub record FieldHolds (left size : ℕ) (rule : Bool) : Type 0 where
-  pub whole : size ≤ left
-  pub right : rule ≡ true
-
-pub field_holds : (left size : ℕ) (rule : Bool) (e f : StoreFault) →
-    cond (ltb left size) (Some e) (cond rule None (Some f)) ≡ None → FieldHolds left size rule
-field_holds left size rule e f h =
-    let a = not_so (ltb left size) e (cond rule None (Some f)) h in
-    record { whole = ltb-false _ _ a.0; right = kept rule f a.1 }
-
--- ---- bytes
+use Rattle.cloak_model.specs.Fields.{number}
 
 abbrev pub AreBytes : List ℕ → Type 0
 AreBytes bytes = All (λ b. b < 256) bytes
@@ -54,12 +26,6 @@ piece_bytes n at bytes are =
 pub piece_length : (n at : ℕ) (bytes : List ℕ) → n ≤ length bytes - at → length (take n (drop at bytes)) ≡ n
 piece_length n at bytes le = omega (arith, length-take n (drop at bytes), length-drop at bytes)
 
--- what stands at one place of one body
-pub same_place : {A : Type 0} (f : List ℕ → ℕ → A) (b d : List ℕ) (i j : ℕ) → b ≡ d → i ≡ j → f b i ≡ f d j
-same_place f b d i j body at = ap (λ (x : List ℕ). f x i) body ∙ ap (f d) at
-
--- ---- texts
-
 -- a text stands in the body from one offset to another
 pub record Stands (body : List ℕ) (at : ℕ) (text : List ℕ) (next : ℕ) : Type 0 where
   pub parts : drop at body ≡ text ++ drop next body
@@ -73,6 +39,12 @@ pub piece_stands : (body : List ℕ) (at n : ℕ) → Stands body at (take n (dr
 piece_stands body at n = record {
   parts =
       sym (take-append-drop n (drop at body)) ∙ ap (λ t. take n (drop at body) ++ t) (drop-drop n at body);
+}
+
+pub byte_stands : (body : List ℕ) (at b : ℕ) → 1 ≤ length body - at → get_or body at 0 ≡ b →
+    Stands body at (b ∷ []) (at + 1)
+byte_stands body at b le is = record {
+  parts = drop_more body at 0 (omega arith) ∙ ap (λ (k : ℕ). k ∷ drop (at + 1) body) is;
 }
 
 pub number_stands : (body : List ℕ) (at : ℕ) → AreBytes body → 4 ≤ length body - at →

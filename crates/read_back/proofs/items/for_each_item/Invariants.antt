@@ -1,0 +1,20 @@
+use Rattle.std.proofs.Common.{◌≡◌, ◌<◌, ◌^◌, ◌-◌, Ok}
+use Rattle.io_traits.specs.Told.{SameFiles}
+use Rattle.record_reader.specs.Reading.{reader_offset}
+use Rattle.read_back.proofs.ItemsRead.{TookSoFar}
+use Rattle.read_back.proofs.items.for_each_item.Given as goal
+
+-- the items so far were taken
+abbrev pub invariant-loop-tag : goal.invariant-loop-tag
+invariant-loop-tag g l = record {
+  taken : TookSoFar (λ items. g.T.TakeItems.took l.fn.taker l.taker items (Ok tt)) (g.S.Shelf.held l.fn.shelf l.name) l.reader;
+  named : l.reader.name.now ≡ l.name;
+  files : SameFiles (g.S.Shelf.held l.fn.shelf) (g.S.Shelf.held l.shelf);
+  reading : g.S.Shelf.reading_faults l.shelf ≡ g.S.Shelf.reading_faults l.fn.shelf;
+  writing : g.S.Shelf.writing_faults l.shelf ≡ g.S.Shelf.writing_faults l.fn.shelf;
+  settled : g.S.Shelf.is_settled l.shelf;
+  low : reader_offset l.reader < 2 ^ 64;
+}
+
+abbrev pub decreases-loop-tag : goal.decreases-loop-tag
+decreases-loop-tag g l = 2 ^ 64 - reader_offset l.reader
