@@ -1,4 +1,4 @@
-//! Tests of the parts of a cloaked program: its resources, its files, its instructions, and the fork of a space.
+//! Tests of a cloaked program alone and of its parts: its resources, its files, its instructions, and the fork of a space.
 #![tactic(auto)]
 
 #[cfg(test)]
@@ -9,5 +9,7 @@ mod files;
 mod forks;
 #[cfg(test)]
 mod instructions;
+#[cfg(test)]
+mod programs;
 #[cfg(test)]
 mod resources;

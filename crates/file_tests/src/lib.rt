@@ -1,15 +1,9 @@
-//! Tests of the outside (files, output, random bytes), and of the files and texts that are read (bundles, ELF files, records,
-//! store files, assembler text).
+//! Tests of the outside (files, output, random bytes), and of records and store files. Bundles, ELF files and texts are rows of
+//! `.ci/image-rows`.
 #![tactic(auto)]
 
 #[cfg(test)]
-mod assembler;
-#[cfg(test)]
-mod bundles;
-#[cfg(test)]
 mod checks;
-#[cfg(test)]
-mod elf;
 #[cfg(test)]
 mod file_shelf;
 #[cfg(test)]

@@ -1,8 +1,8 @@
-//! Records that were written, and files that are none.
+//! Records that are written and read.
 
 use crate::checks::{holds, same};
 use cloak_base::Shown;
-use cloak_model::{Item, RecordFault};
+use cloak_model::Item;
 use exchange_log::{LONGEST, write_item};
 use io_traits::{MemoryShelf, Shelf};
 use record_reader::{KeptItems, NextFault, Reader};
@@ -92,63 +92,6 @@ fn what_was_written_is_read(rt: HostRuntime) -> Result<(), Fail> {
             matches!(reader.next(&mut shelf, &mut kept), Ok(None)),
             "behind the last item",
         );
-    }
-    Ok(())
-}
-
-/// Files, how many items stand before their first fault, and the fault: the rules of the record's format.
-static DAMAGED: [(&[u8], usize, RecordFault); 18] = [
-    (b"", 0, RecordFault::Short(0)),
-    (b"CLOAKRE", 0, RecordFault::Short(7)),
-    (b"CLOAKBND", 0, RecordFault::BadMagic),
-    (b"CLOAKREC", 0, RecordFault::Short(8)),
-    (b"CLOAKREC\x12", 0, RecordFault::BadTag(8)),
-    (b"CLOAKREC\x13", 0, RecordFault::BadTag(8)),
-    (b"CLOAKREC\x20\0", 0, RecordFault::BadTag(8)),
-    (b"CLOAKREC\x01\0\0\0\0\xff", 0, RecordFault::Short(14)),
-    (b"CLOAKREC\x10\x01\0\0", 0, RecordFault::Short(12)),
-    (b"CLOAKREC\x10\x02\0\0\0", 0, RecordFault::StepOrder(8)),
-    (b"CLOAKREC\x11\x01\0\0\0", 0, RecordFault::StepOrder(8)),
-    (b"CLOAKREC\x10\x01\0\0\0\x12", 1, RecordFault::BadTag(13)),
-    (
-        b"CLOAKREC\x10\x01\0\0\0\x10\x01\0\0\0",
-        1,
-        RecordFault::StepOrder(13),
-    ),
-    (
-        b"CLOAKREC\x10\x01\0\0\0\x02\0\0\0\x80",
-        1,
-        RecordFault::Short(18),
-    ),
-    (
-        b"CLOAKREC\x10\x01\0\0\0\x02\0\0\0\x80\x03",
-        1,
-        RecordFault::BadTag(13),
-    ),
-    (
-        b"CLOAKREC\x11\0\0\0\0\x02\0\0\0\x80\x01\0\0\0\0",
-        1,
-        RecordFault::BadTag(13),
-    ),
-    (b"CLOAKREC\x11\0\0\0\0", 1, RecordFault::Short(13)),
-    (b"CLOAKREC\x11\0\0\0\0\x12\0", 2, RecordFault::Extra(14)),
-];
-
-#[test]
-fn damaged_files(rt: HostRuntime) -> Result<(), Fail> {
-    for &(file, count, fault) in &DAMAGED {
-        let mut shelf = MemoryShelf::open(rt.alloc(), Vec::new(rt.alloc()));
-        shelf.add("r", file)?;
-        let mut reader = Reader::open("r");
-        let first = read_on(&mut shelf, &mut reader);
-        same(
-            &rt,
-            &first,
-            &(count, Err(NextFault::Record(fault))),
-            "first",
-        );
-        let again = read_on(&mut shelf, &mut reader);
-        same(&rt, &again, &(0, Err(NextFault::Record(fault))), "again");
     }
     Ok(())
 }

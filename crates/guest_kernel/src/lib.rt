@@ -6,8 +6,8 @@
 //! file of version 2, which is not too large.
 //!
 //! Kernel and demo are tables of words, which is what images are made of: nothing is assembled when the program runs. Their
-//! assembler texts stand in `command_tests` (`kernel_text`, `demo_text`), where a test shows that the assembler makes each
-//! table from its text. Nothing that cloaking promises rests on the kernel.
+//! assembler texts are `data/kernel.s` and `data/demo.s`; a script sees that the assembler makes each table from its text
+//! (`.ci/image-rows`). Nothing that cloaking promises rests on the kernel.
 //!
 //! No body changes `law_of_generated_images`. These changed definitions were tried on a copy, and with none of them
 //! did its proof go through: the disk has 65 blocks; program d has the key d + 1; there are one to five harts.

@@ -1,21 +1,10 @@
-//! Tests of whole calls of the program over files in memory: its words and statuses, runs of kernels, runs of programs.
+//! Tests of whole calls of the program over files in memory: if any one call on them fails, and if none can. Runs whose calls
+//! succeed are the rows of `.ci/rows`.
 #![tactic(auto)]
 
 #[cfg(test)]
-mod calls;
-#[cfg(test)]
 mod checks;
 #[cfg(test)]
-mod frozen;
-#[cfg(test)]
-mod images;
-#[cfg(test)]
-mod kernels;
-#[cfg(test)]
-mod programs;
-#[cfg(test)]
-mod reports;
-#[cfg(test)]
-mod stores;
+mod failing;
 #[cfg(test)]
 mod unfailing;

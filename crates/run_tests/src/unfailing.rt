@@ -1,8 +1,8 @@
 //! A run over files and an output on which no call fails: so that no status of a fault can come.
 
 use crate::checks::same;
-use crate::images::image;
-use cloak_commands::{ProgramWords, run_program};
+use crate::failing::{SMALLEST, WHOLE_LINE, words_of};
+use cloak_commands::run_program;
 use command_parts::Status;
 use never_fails::{NeverShelf, NeverSink};
 use std::test::*;
@@ -15,21 +15,11 @@ const RECORD_DIGEST: [u8; 32] = [
 
 #[test]
 fn the_smallest_run_where_no_call_fails(rt: HostRuntime) -> Result<(), Fail> {
-    let code = "addi x10, x0, 65\necall\naddi x17, x0, 4\necall";
-    let bundle = image(rt.alloc(), &[0], &[code], 0, &[])?;
     let mut shelf = NeverShelf::open(rt.alloc());
-    shelf.add("a.b", bundle.as_slice())?;
+    shelf.add("a.b", SMALLEST)?;
     let mut sink = NeverSink::open();
-    let mut words = Vec::new(rt.alloc());
-    for word in "run a.b a.r --steps 10 --number 0".split_whitespace() {
-        words.push(String::from_str(rt.alloc(), word)?)?;
-    }
-    let status = run_program(
-        rt.alloc(),
-        &ProgramWords::Taken(words),
-        &mut shelf,
-        &mut sink,
-    );
+    let words = words_of(rt.alloc(), WHOLE_LINE)?;
+    let status = run_program(rt.alloc(), &words, &mut shelf, &mut sink);
     same(&rt, &status, &Status::Done, "status");
     same(&rt, &shelf.sum(), &(34, RECORD_DIGEST), "record");
     Ok(())
