@@ -37,6 +37,7 @@ use Rattle.cloak_model.specs.Script.{played}
 use Rattle.cloak_model.proofs.Playing.{by_plain, by_copy_in, by_copy_out, by_ecall}
 use Rattle.hypercall_kinds.proofs.ByKinds.{hypercall_ended}
 use Rattle.domain_isolation.proofs.InOrder.{decided, get_set_other}
+use Rattle.domain_isolation.proofs.InsideSteps.{ended_domains}
 
 -- If it has ended, no slot has a context.
 abbrev pub IsEmptyIf : Control → Type 0
@@ -245,13 +246,6 @@ outside_moves j number items _ = Stays refl
 
 -- A hart inside.
 
--- what it leaves of programs is what the context's step left
-domain_same : (j : Joint) (number : ℕ) (h : Hart) (d : ℕ) (w : World) (g : Went) →
-    (domain_ended j number h d w g).joint.domains ≡ j.domains
-unfolding domain_ended
-domain_same j number h d w went.Stay = refl
-domain_same j number h d w _ = refl
-
 interrupt_same : (j : Joint) (number : ℕ) (h : Hart) (items : List Item) (g : Went) →
     (interrupt_ended j number h items g).joint.domains ≡ j.domains
 unfolding interrupt_ended
@@ -268,7 +262,7 @@ due_moves true j number h d slot was c there has =
     (λ is now. goes_on was.control slot c is has (sym over ∙ now))
 due_moves false j number h d slot was c there has =
     let over = over_step slot was _ in
-    Sets d was _ there (domain_same _ number h d _ _) over
+    Sets d was _ there (ended_domains _ number h d _ _) over
     (λ is now. goes_on was.control slot c is has (sym over ∙ now))
 
 runs_there : (number : ℕ) (o : Option Context) (P : Type 0) → runs_on number o ≡ true →

@@ -263,7 +263,7 @@ asked_stops slot d c q va kind begun w there lies (CopiesTo done total byte phas
     (question_at q va (byte_address (buffer c) done) kind Store w w at is refl) stops
 
 -- the step of the hart is that of its context
-context_turn : (m : Moment) (s : StepsInside m) →
+pub context_turn : (m : Moment) (s : StepsInside m) →
     step_before_end m
     ≡ after_domain_step m.joint (next_hart m) (ticked (hart_of_step m)) (domain_of s.ctx)
     (domain_step (slot_of s.ctx) s.domain (world_inside m s))

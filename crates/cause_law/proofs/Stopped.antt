@@ -2,7 +2,7 @@
 use Rattle.std.proofs.Common.{◌≡◌, ◌≢◌, ◌∙◌, ◌⊎◌, ℕ, zero, Bool, true, false, cond, List, [], ◌∷◌, ◌++◌, Option, Some, None, Result, Ok, Err, is_some, eq-eqb, refl, sym, ap, subst, arith, inl, inr, append-nil, append_assoc, ne_eqb}
 use Rattle.std.specs.Prelude.{slice_get, ◌||◌, ◌==◌}
 use Rattle.std.specs.List.{list_any, Contains}
-use Rattle.std.proofs.lemmas.Bool.{false≢true, or_right}
+use Rattle.std.proofs.lemmas.Bool.{false≢true, or_right, or_cases}
 use Rattle.std.proofs.lemmas.List.Elements.{filter-append, Contains-append_right}
 use Rattle.cloak_base.specs.declared.causes.Shown.{Shown}
 use Rattle.cloak_base.specs.declared.causes.Stop.TheVariants as stop
@@ -44,6 +44,7 @@ use Rattle.script_fold.proofs.StepScripts.{of_domain, step_scripted}
 use Rattle.cause_law.specs.Causes.{kernel_ending, EndsOrStops}
 use Rattle.cause_law.specs.Presented.{hart_of_step}
 use Rattle.cause_law.proofs.Steps.{joint_outside, outside_turn}
+use Rattle.domain_isolation.proofs.InsideSteps.{with_leave, ended_items}
 
 abbrev is_stop : Item → Bool
 is_stop (item.Stopped d) = true
@@ -138,16 +139,6 @@ outside_tells d m outside =
 
 -- A hart inside.
 
-left_half : (d : ℕ) (items : List Item) (s : Shown) → inward_half d (items ++ item.Leave s ∷ []) ≡ inward_half d items
-left_half d items s = filter-append (is_inward d) items (item.Leave s ∷ []) ∙ append-nil (inward_half d items)
-
-domain_half : (d : ℕ) (j : Joint) (number : ℕ) (h : Hart) (e : ℕ) (v : World) (g : Went) →
-    inward_half d (domain_ended j number h e v g).items ≡ inward_half d (items_of v)
-unfolding domain_ended
-domain_half d j number h e v (went.Leave s) = left_half d (items_of v) s
-domain_half d j number h e v (went.SpaceGone space s) = left_half d (items_of v) s
-domain_half d j number h e v _ = refl
-
 -- what is told of a stop is an answer that stops
 stop_answer : (a : Answer) (e : ℕ) → is_stop (answer_item e a) ≡ is_stopped a
 stop_answer told.Ok e = refl
@@ -169,11 +160,6 @@ stopped_answers d e (a ∷ answers) is =
     either_stops (is_inward d (answer_item e a)) (answer_item e a) (inward_half d (answer_items e answers))
     (is_stopped a) (list_any is_stopped answers) (stop_answer a e) (stopped_answers d e answers) is
 
--- the step of a program that is to stop
-halted_by : (missed some : Bool) → (missed || some) ≡ true → (missed ≡ true) ⊎ (some ≡ true)
-halted_by true some is = inl refl
-halted_by false some is = inr is
-
 missed_there : (v : World) (m : CloakedMemory) → is_missed v ≡ true → (memory_of v m).ledger.missed ≡ true
 missed_there (Cloaked c) m is = is
 missed_there _ m is = absurd (false≢true is)
@@ -190,7 +176,7 @@ domain_stops d j number h ctx v went.Stopped was new is halted own there = recor
   own = own;
   domain = new;
   there = get_set_same j.domains (domain_of ctx) was new there;
-  stops = elim (halted_by (is_missed v) (is_some (violation_of v)) halted) [
+  stops = elim (or_cases (is_missed v) (is_some (violation_of v)) halted) [
     | inl missed ↦ inl (missed_there v j.memory missed)
     | inr some ↦ inr some
   ];
@@ -235,7 +221,7 @@ played_tells d j number h ctx slot was w serving none owner there =
           played_items n s is_scripted.own w serving d
           ∙ ap (λ (l : List Item). inward_half d l ++ inward_half d (answer_items n answers)) none in
           let told = ap (list_any is_stop)
-          (sym (domain_half d _ number h (domain_of ctx) u.world u.answer.went ∙ half)) ∙ is in
+          (sym (ended_items d _ number h (domain_of ctx) u.world u.answer.went ∙ half)) ∙ is in
           let halts = played_stopped n (of_domain slot was) s is_scripted.own w is_scripted.ends serving.form
           (stopped_answers d n answers told) in
           domain_stops d j number h ctx u.world u.answer.went was u.answer.domain halts.stopped halts.halted
@@ -246,7 +232,7 @@ interrupt_tells : (d : ℕ) (inside : Option ℕ) (j : Joint) (number : ℕ) (h 
     Tells d inside (interrupt_ended j number h (item.Timer e ∷ []) g)
 unfolding interrupt_ended
 interrupt_tells d inside j number h e (went.Leave s) =
-    tells_none d inside _ (ap (list_any is_stop) (left_half d (item.Timer e ∷ []) s) ∙ none_if _ (item.Timer e) refl)
+    tells_none d inside _ (ap (list_any is_stop) (with_leave d (item.Timer e ∷ []) s) ∙ none_if _ (item.Timer e) refl)
 interrupt_tells d inside j number h e (went.SpaceGone space s) =
     tells_none d inside _ (none_if _ (item.Timer e) refl)
 interrupt_tells d inside j number h e _ = tells_none d inside _ (none_if _ (item.Timer e) refl)

@@ -4,6 +4,7 @@ use Rattle.std.specs.Prelude.{decimal, ℤ, pos, negsuc}
 use Rattle.std.specs.Fmt.{signed_decimal}
 use Rattle.std.specs.List.{list_all, before_first}
 use Rattle.std.specs.Option.{ok_or}
+use Rattle.std.proofs.lemmas.Bool.{and_parts}
 use Rattle.cloak_model.specs.Effect.{offset}
 use Rattle.cloak_model.specs.Report.{hexadecimal}
 use Rattle.rv_isa.specs.Range.{InRange, FitsSigned}
@@ -39,7 +40,7 @@ use Rattle.rv_asm.specs.declared.operation.CsrImmediateOp.{CsrImmediateOp}
 use Rattle.rv_asm.specs.declared.operation.CsrImmediateOp.TheVariants as csr_immediates
 use Rattle.word_text.specs.Operands.{register, upper, csr_number, memory, base, target, label}
 use Rattle.word_text.specs.Text.{two, three, number_text}
-use Rattle.disassembly.proofs.Bytes.{both, not_zero, lacks, is_solid, cut_at, before_none, leading, leading_skips, all_of}
+use Rattle.disassembly.proofs.Bytes.{not_zero, lacks, is_solid, cut_at, before_none, leading, leading_skips, all_of}
 use Rattle.disassembly.proofs.Operands as operands
 use Rattle.disassembly.proofs.Operands.{are_operand, are_word, joined, words_are_operand}
 
@@ -54,7 +55,7 @@ are_line text = list_all is_line_byte text
 
 in_line : (b : ℕ) → operands.is_operand_byte b ≡ true → is_line_byte b ≡ true
 in_line b h =
-    let parts = both _ _ (both _ _ h).0 in
+    let parts = and_parts _ _ (and_parts _ _ h).0 in
     let low = leb-true 40 b parts.0 in
     rw (le-leb 32 b (omega (arith, low)), parts.1) refl
 

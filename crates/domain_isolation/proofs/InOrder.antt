@@ -2,7 +2,7 @@
 -- hart only if that hart is inside it.
 use Rattle.std.proofs.Common.{◌≡◌, ◌≢◌, ◌∙◌, ◌⊎◌, inl, inr, ◌+◌, ◌<◌, ◌≤◌, true, false, cond, suc, zero, pred, ℕ, Bool, List, [], ◌∷◌, Option, Some, None, Ok, Err, refl, ap, sym, subst, eq-eqb, eqb-true, ne_eqb, arith, length, length-set, nat_eq}
 use Rattle.std.specs.Prelude.{◌&&◌, ◌==◌, unwrap_or, is_some, replicate, slice_get, slice_set, slice_index_or}
-use Rattle.std.proofs.lemmas.Bool.{false≢true, cases_lt, eqb-false}
+use Rattle.std.proofs.lemmas.Bool.{false≢true, cases_lt, eqb-false, false_from_ne_true, and_left, and_right, and_from}
 use Rattle.std.proofs.lemmas.List.{get_or-set_same, get_or-set_other, get_or_past}
 use Rattle.cloak_base.specs.declared.names.HartId.{HartId}
 use Rattle.cloak_model.specs.declared.context.ResumeFault.TheVariants.{Busy}
@@ -166,26 +166,14 @@ order_stays count harts domains n h e slot old new order is kept moves =
 
 -- A hart that leaves its context.
 
-not_both : (a b : Bool) → a ≡ false → (a && b) ≡ false
-not_both true b is = absurd cc
-not_both false b is = refl
-
-not_second : (a b : Bool) → b ≡ false → (a && b) ≡ false
-not_second true b is = is
-not_second false b is = refl
-
 running_other : (ctx e d slot : ℕ) → domain_of ctx ≡ e → d ≢ e → is_running d slot (Some ctx) ≡ false
-running_other ctx e d slot own other = not_both _ _ (ne_eqb (domain_of ctx) d (λ same. other (sym same ∙ own)))
+running_other ctx e d slot own other = and_left _ _ (ne_eqb (domain_of ctx) d (λ same. other (sym same ∙ own)))
 
 running_other_slot : (ctx d slot : ℕ) → slot ≢ slot_of ctx → is_running d slot (Some ctx) ≡ false
-running_other_slot ctx d slot other = not_second _ _ (ne_eqb (slot_of ctx) slot (λ same. other (sym same)))
-
-both : (a b : Bool) → a ≡ true → b ≡ true → (a && b) ≡ true
-both true b is is' = is'
-both false b is is' = absurd cc
+running_other_slot ctx d slot other = and_right _ _ (ne_eqb (slot_of ctx) slot (λ same. other (sym same)))
 
 running_own : (ctx : ℕ) → is_running (domain_of ctx) (slot_of ctx) (Some ctx) ≡ true
-running_own ctx = both _ _ (eq-eqb (domain_of ctx) (domain_of ctx) refl) (eq-eqb (slot_of ctx) (slot_of ctx) refl)
+running_own ctx = and_from _ _ (eq-eqb (domain_of ctx) (domain_of ctx) refl) (eq-eqb (slot_of ctx) (slot_of ctx) refl)
 
 pub order_leaves : (count : ℕ) (harts : List Hart) (domains : List Domain) (n : ℕ) (h : Hart) (ctx : ℕ)
     (old new : Domain) → InOrder count harts domains →
@@ -420,24 +408,19 @@ slot_found hart k (suc slot) (c ∷ contexts) own others =
     ∙ slot_found hart (k + 1) slot contexts own (λ s other. others (suc s) (λ same. other (ap pred same)))
     ∙ ap (λ (n : ℕ). Some n) same
 
--- what is not true is false
-not_true : (b : Bool) → (b ≡ true → ⊥) → b ≡ false
-not_true true never = absurd (never refl)
-not_true false never = refl
-
 -- of a hart outside, or in a context of another program
 pub slot_outside : (count : ℕ) (harts : List Hart) (domains : List Domain) (d : ℕ) (domain : Domain) (hart : ℕ) →
     InOrder count harts domains → slice_get domains d ≡ Some domain →
     inside_at harts hart ≡ None → slot_on hart 0 domain.control.contexts ≡ None
 slot_outside count harts domains d domain hart order is out =
-    slot_none hart 0 domain.control.contexts (λ s. not_true _ (λ on.
+    slot_none hart 0 domain.control.contexts (λ s. false_from_ne_true _ (λ on.
     false≢true (ap (is_running d s) (sym out) ∙ order.runs d domain is hart s on)))
 
 pub slot_other : (count : ℕ) (harts : List Hart) (domains : List Domain) (d : ℕ) (domain : Domain) (hart ctx : ℕ) →
     InOrder count harts domains → slice_get domains d ≡ Some domain →
     inside_at harts hart ≡ Some ctx → d ≢ domain_of ctx → slot_on hart 0 domain.control.contexts ≡ None
 slot_other count harts domains d domain hart ctx order is runs other =
-    slot_none hart 0 domain.control.contexts (λ s. not_true _ (λ on.
+    slot_none hart 0 domain.control.contexts (λ s. false_from_ne_true _ (λ on.
     false≢true (sym (running_other ctx (domain_of ctx) d s refl other) ∙ ap (is_running d s) (sym runs)
     ∙ order.runs d domain is hart s on)))
 
@@ -448,7 +431,7 @@ pub slot_idle : (count : ℕ) (harts : List Hart) (domains : List Domain) (domai
 slot_idle count harts domains domain hart ctx order is runs idle =
     slot_none hart 0 domain.control.contexts (λ s. elim (decided s (slot_of ctx)) [
       | inl same ↦ ap (runs_in hart domain.control.contexts) same ∙ idle
-      | inr other ↦ not_true _ (λ on.
+      | inr other ↦ false_from_ne_true _ (λ on.
           false≢true (sym (running_other_slot ctx (domain_of ctx) s other) ∙ ap (is_running (domain_of ctx) s) (sym runs)
           ∙ order.runs (domain_of ctx) domain is hart s on))
     ])
@@ -462,7 +445,7 @@ slot_own count harts domains domain hart ctx order is runs here =
     let e = domain_of ctx in
     let same : 0 + slot_of ctx ≡ slot_of ctx = omega arith in
     slot_found hart 0 (slot_of ctx) domain.control.contexts here
-    (λ s other. not_true _ (λ on.
+    (λ s other. false_from_ne_true _ (λ on.
     false≢true (sym (running_other_slot ctx e s other) ∙ ap (is_running e s) (sym runs)
     ∙ order.runs e domain is hart s on)))
     ∙ ap (λ (n : ℕ). Some n) same

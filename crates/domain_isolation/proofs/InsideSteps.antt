@@ -164,7 +164,7 @@ pub memory_plain : (w : World) (m : CloakedMemory) → is_cloaked w ≡ true →
 memory_plain (Cloaked c) m cloaked = refl
 memory_plain _ m cloaked = absurd (false≢true cloaked)
 
-memory_missed : (w : World) (m : CloakedMemory) → is_cloaked w ≡ true → (memory_of w m).ledger.missed ≡ is_missed w
+pub memory_missed : (w : World) (m : CloakedMemory) → is_cloaked w ≡ true → (memory_of w m).ledger.missed ≡ is_missed w
 memory_missed (Cloaked c) m cloaked = refl
 memory_missed _ m cloaked = absurd (false≢true cloaked)
 
@@ -172,13 +172,13 @@ memory_missed _ m cloaked = absurd (false≢true cloaked)
 abbrev with_step : ℕ → Domain → CloakedMemory → Joint → Joint
 with_step e new m j = record (with_domain e new j) { memory = m }
 
-ended_domains : (j : Joint) (n : ℕ) (h : Hart) (e : ℕ) (w : World) (g : Went) →
+pub ended_domains : (j : Joint) (n : ℕ) (h : Hart) (e : ℕ) (w : World) (g : Went) →
     (domain_ended j n h e w g).joint.domains ≡ j.domains
 unfolding domain_ended
 ended_domains j n h e w went.Stay = refl
 ended_domains j n h e w _ = refl
 
-ended_plain : (j : Joint) (n : ℕ) (h : Hart) (e : ℕ) (w : World) (g : Went) →
+pub ended_plain : (j : Joint) (n : ℕ) (h : Hart) (e : ℕ) (w : World) (g : Went) →
     (domain_ended j n h e w g).joint.memory.plain ≡ j.memory.plain
 unfolding domain_ended
 ended_plain j n h e w went.Stay = refl
@@ -187,7 +187,7 @@ ended_plain j n h e w _ = refl
 pub with_leave : (d : ℕ) (items : List Item) (s : Shown) → inward_half d (items ++ item.Leave s ∷ []) ≡ inward_half d items
 with_leave d items s = filter-append (is_inward d) items (item.Leave s ∷ []) ∙ append-nil (inward_half d items)
 
-ended_items : (d : ℕ) (j : Joint) (n : ℕ) (h : Hart) (e : ℕ) (w : World) (g : Went) →
+pub ended_items : (d : ℕ) (j : Joint) (n : ℕ) (h : Hart) (e : ℕ) (w : World) (g : Went) →
     inward_half d (domain_ended j n h e w g).items ≡ inward_half d (items_of w)
 unfolding domain_ended
 ended_items d j n h e w (went.Leave s) = with_leave d (items_of w) s

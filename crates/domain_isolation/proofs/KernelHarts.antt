@@ -26,6 +26,7 @@ use Rattle.rv_atomic.specs.Table.{atomic_instruction}
 use Rattle.rv_atomic.specs.declared.atomic.Atomic.{Atomic}
 use Rattle.rv_atomic.specs.declared.atomic.AtomicOp.{AtomicOp}
 use Rattle.rv_atomic.specs.declared.atomic.AtomicOp.TheVariants.{Lr, Sc, Swap, Add, Xor, And, Or, Min, Max, Minu, Maxu}
+use Rattle.kernel_isolation.proofs.Shown.{either}
 
 abbrev pub inside_after : Kernel → Option ℕ → Option ℕ
 inside_after (Resume ctx answer) was = Some ctx
@@ -37,10 +38,6 @@ MadeSo was m = m.hart.inside ≡ inside_after m.ending was
 -- whatever the world is
 abbrev StepsSo : Option ℕ → Asking SteppedKernel → Type 0
 StepsSo was ask = (w : World) → (ask w).answer.hart.inside ≡ inside_after (ask w).answer.ending was
-
-either_so : {A : Type 0} (P : A → Type 0) (test : Bool) (x y : A) → P x → P y → P (cond test x y)
-either_so P true x y first second = first
-either_so P false x y first second = second
 
 steps_either : (was : Option ℕ) (test : Bool) (x y : Asking SteppedKernel) → StepsSo was x → StepsSo was y → (w : World) →
     (cond test (x w) (y w)).answer.hart.inside ≡ inside_after (cond test (x w) (y w)).answer.ending was
@@ -160,7 +157,7 @@ carried_out_so h disk word i (does.Store va width value) w =
     let next : Unit {0} → Asking SteppedKernel = λ done. ends disk (stays (gone_on h)) in
     or_trap_so h.inside h disk va found.answer next refl (λ done v. refl) found.world
 carried_out_so h disk word i does.System w =
-    either_so (λ (ask : Asking SteppedKernel). (ask w).answer.hart.inside ≡ inside_after (ask w).answer.ending h.inside)
+    either (λ (ask : Asking SteppedKernel). (ask w).answer.hart.inside ≡ inside_after (ask w).answer.ending h.inside)
     (is_ecall i) (ecall h disk) (ends disk (system h word i))
     (ecall_so h disk w) (system_so h word i)
 carried_out_so h disk word i (does.Raise cause value) w = raised_so h cause value
@@ -203,7 +200,7 @@ unfolding atomic_executed
 atomic_so h disk word None w = raised_so h 2 word
 atomic_so h disk word (Some a) w =
     let va = register h.regs a.rs1 in
-    either_so (λ (ask : Asking SteppedKernel). (ask w).answer.hart.inside ≡ inside_after (ask w).answer.ending h.inside)
+    either (λ (ask : Asking SteppedKernel). (ask w).answer.hart.inside ≡ inside_after (ask w).answer.ending h.inside)
     (va % 4 == 0) (atomic_access h disk a a.op va (register h.regs a.rs2)) (ends disk (raised h (misaligned a.op) va))
     (atomic_access_so h disk a a.op va (register h.regs a.rs2) w) (raised_so h (misaligned a.op) va)
 
@@ -224,8 +221,8 @@ unfolding ticked
 ticked_inside h =
     let falls : Hart = record h { timer = h.timer - 1 } in
     let due : Hart = record h { timer = 0; csrs = with_pending true h.csrs } in
-    either_so (λ (x : Hart). x.inside ≡ h.inside) (h.timer == 0) h (cond (h.timer == 1) due falls) refl
-    (either_so (λ (x : Hart). x.inside ≡ h.inside) (h.timer == 1) due falls refl refl)
+    either (λ (x : Hart). x.inside ≡ h.inside) (h.timer == 0) h (cond (h.timer == 1) due falls) refl
+    (either (λ (x : Hart). x.inside ≡ h.inside) (h.timer == 1) due falls refl refl)
 
 -- ending a reservation changes nothing else
 released_by : (test : Bool) (made : SteppedKernel) (w : World) →
@@ -246,7 +243,7 @@ kernel_step_inside h disk w =
     let step : Told SteppedKernel = cond due (ends disk (raised h' 0x80000005 0)) (instruction_step h' disk) w in
     let made = step.answer in
     let so : made.hart.inside ≡ inside_after made.ending h'.inside =
-    either_so (λ (ask : Asking SteppedKernel).
+    either (λ (ask : Asking SteppedKernel).
     (ask w).answer.hart.inside ≡ inside_after (ask w).answer.ending h'.inside) due
     (ends disk (raised h' 0x80000005 0)) (instruction_step h' disk) (raised_so h' 0x80000005 0)
     (instruction_so h' disk w) in

@@ -163,7 +163,7 @@ programs_placed d (suc k) (x ∷ programs) p m m' is found zeros =
 
 -- The programs.
 
-domains_started : (d k : ℕ) (programs : List Program) (p : Program) → slice_get programs k ≡ Some p →
+pub domains_started : (d k : ℕ) (programs : List Program) (p : Program) → slice_get programs k ≡ Some p →
     slice_get (started_domains d programs) k ≡ Some (started_domain (d + k) p.start)
 domains_started d k [] p found = absurd cc
 domains_started d zero (x ∷ programs) p found =
@@ -220,7 +220,7 @@ harts_outside entry zero m = started_outside 0 0
 harts_outside entry (suc n) m =
     append_outside (started_harts entry n) (started entry n) (harts_outside entry n) (started_outside entry n) m
 
-harts_counted : (entry n : ℕ) → length (started_harts entry n) ≡ n
+pub harts_counted : (entry n : ℕ) → length (started_harts entry n) ≡ n
 harts_counted entry zero = refl
 harts_counted entry (suc n) =
     let rest = harts_counted entry n in

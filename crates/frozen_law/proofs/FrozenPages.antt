@@ -12,6 +12,7 @@ use Rattle.frozen_state.specs.declared.frozen.FrozenPage.{FrozenPage}
 use Rattle.frozen_state.specs.FrozenState.{page_named, pages_of_resource, pages_of_resources, pages_of_domains, page_with, recorded_of}
 use Rattle.frozen_state.specs.Ranges.{IsPage, precedes, Rises}
 use Rattle.range_law.proofs.Bounds.{all_append, by_place}
+use Rattle.limit_law.proofs.Words.{each}
 
 -- Each before each later one.
 
@@ -23,16 +24,11 @@ pairs : {A : Type 0} (R : A → A → Type 0) (xs : List A) → AreBefore R xs �
 pairs R [] all = λ i j d low inside. absurd (omega (arith, inside))
 pairs R (x ∷ xs) all = AllPairs-cons R x xs (by_place (R x) xs all.0) (pairs R xs all.1)
 
-all_weaker : {A : Type 0} (P Q : A → Type 0) (xs : List A) → ((a : A) → P a → Q a) → AllByRecursion P xs →
-    AllByRecursion Q xs
-all_weaker P Q [] gives all = tt
-all_weaker P Q (x ∷ xs) gives all = (gives x all.0, all_weaker P Q xs gives all.1)
-
 before_weaker : {A : Type 0} (R T : A → A → Type 0) (xs : List A) → ((a b : A) → R a b → T a b) → AreBefore R xs →
     AreBefore T xs
 before_weaker R T [] gives all = tt
 before_weaker R T (x ∷ xs) gives all =
-    (all_weaker (R x) (T x) xs (gives x) all.0, before_weaker R T xs gives all.1)
+    (each (R x) (T x) xs (gives x) all.0, before_weaker R T xs gives all.1)
 
 before_append : {A : Type 0} (R : A → A → Type 0) (xs ys : List A) → AreBefore R xs → AreBefore R ys →
     AllByRecursion (λ x. AllByRecursion (R x) ys) xs → AreBefore R (xs ++ ys)
@@ -99,7 +95,7 @@ crossing : {A : Type 0} (P Q : A → Type 0) (R : A → A → Type 0) (xs ys : L
     AllByRecursion (λ x. AllByRecursion (R x) ys) xs
 crossing P Q R [] ys gives first second = tt
 crossing P Q R (x ∷ xs) ys gives first second =
-    (all_weaker Q (R x) ys (λ b there. gives x b first.0 there) second, crossing P Q R xs ys gives first.1 second)
+    (each Q (R x) ys (λ b there. gives x b first.0 there) second, crossing P Q R xs ys gives first.1 second)
 
 -- The order of pages.
 

@@ -46,22 +46,9 @@ use Rattle.frozen_law.proofs.HeldCalls.{OfIn, IsApart, step_holds}
 use Rattle.frozen_law.proofs.HeldEnds.{end_of, none_apart}
 use Rattle.frozen_law.proofs.HeldPages.{IsKind}
 use Rattle.frozen_law.proofs.Owned.{PagesAreOf, of_wide, settle_of}
+use Rattle.latest_store.proofs.Begun.{get_other, get_same}
 
 -- One program of a list, and the others.
-
-pub set_at : (domains : List Domain) (d : ℕ) (was new : Domain) → slice_get domains d ≡ Some was →
-    slice_get (slice_set domains d new) d ≡ Some new
-set_at [] d was new there = absurd cc
-set_at (x ∷ domains) zero was new there = refl
-set_at (x ∷ domains) (suc d) was new there = set_at domains d was new there
-
-pub set_apart : (domains : List Domain) (d k : ℕ) (new : Domain) → k ≢ d →
-    slice_get (slice_set domains d new) k ≡ slice_get domains k
-set_apart [] d k new apart = refl
-set_apart (x ∷ domains) zero zero new apart = absurd (apart refl)
-set_apart (x ∷ domains) zero (suc k) new apart = refl
-set_apart (x ∷ domains) (suc d) zero new apart = refl
-set_apart (x ∷ domains) (suc d) (suc k) new apart = set_apart domains d k new (λ same. apart (ap suc same))
 
 abbrev pub HeldIf : PageId → Option Domain → Type 0
 HeldIf q o = IsSomeAnd o (λ d. IsHeldBy d.control.resources q)
@@ -80,10 +67,10 @@ from_kind : (domains : List Domain) (d n : ℕ) (was new : Domain) → slice_get
 from_kind domains d n was new there number q kind = elim (decided q.domain d) [
   | inl same ↦
       let at : slice_get (slice_set domains d new) q.domain ≡ Some new =
-      ap (slice_get (slice_set domains d new)) same ∙ set_at domains d was new there in
+      ap (slice_get (slice_set domains d new)) same ∙ get_same domains d was new there in
       subst (HeldIf q) (sym at) (kind.own (same ∙ sym number))
   | inr apart ↦
-      subst (HeldIf q) (sym (set_apart domains d q.domain new apart)) (kind.other (λ same. apart (same ∙ number)))
+      subst (HeldIf q) (sym (get_other domains d q.domain new apart)) (kind.other (λ same. apart (same ∙ number)))
 ]
 
 -- the same resources
@@ -309,7 +296,7 @@ ended_held domains d was there keeps q here = elim (decided q.domain d) [
   | inl same ↦
       let at : slice_get domains q.domain ≡ Some was = ap (slice_get domains) same ∙ there in
       absurd (none_apart was.control.resources q keeps.resources.numbers (subst (HeldIf q) at here.0) (here.1 same))
-  | inr apart ↦ subst (HeldIf q) (sym (set_apart domains d q.domain (ended_domain was) apart)) here.0
+  | inr apart ↦ subst (HeldIf q) (sym (get_other domains d q.domain (ended_domain was) apart)) here.0
 ]
 
 memory_holds : (P Q : PageId → Type 0) (w : World) (m : CloakedMemory) → is_joint w ≡ true →

@@ -7,7 +7,6 @@ pub mod Ends
 pub mod Memories
 pub mod Counts
 pub mod MarkCounts
-pub mod Placing
 pub mod Marks
 pub mod Draws
 pub mod DrawRuns

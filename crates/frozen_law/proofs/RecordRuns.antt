@@ -22,7 +22,7 @@ use Rattle.kernel_isolation.proofs.Turns.{IsSteady, turn_is_alone}
 use Rattle.limit_law.proofs.Moments.{at_every_moment}
 use Rattle.frozen_law.specs.Records.{RecordsTell, RecordsTellPages}
 use Rattle.frozen_law.proofs.Memories.{Carries, step_carries}
-use Rattle.frozen_law.proofs.Placing.{programs_placed}
+use Rattle.limit_law.proofs.Openings.{programs_placed}
 use Rattle.frozen_law.proofs.Records.{told_by, made_so, page_tells, settle_tell}
 use Rattle.frozen_law.proofs.RecordSteps.{step_tells, end_tells}
 

@@ -24,7 +24,7 @@ use Rattle.hypercall_kinds.specs.Kinds.{cleared}
 use Rattle.script_fold.proofs.Endings.{keeps_end}
 use Rattle.kernel_isolation.proofs.Settlings.{HasPlaces}
 use Rattle.chain_law.proofs.Zeros.{keeps_places, settle_fresh, offer_offered}
-use Rattle.chain_law.proofs.ZeroWorlds.{InWorld, PlacesIn, IfOk, reach_grants, clear_clears, NoneOwedIn, MarkedClear, copy_owes}
+use Rattle.chain_law.proofs.ZeroWorlds.{InWorld, PlacesIn, IfOk, reach_grants, clear_clears, NoneOwedIn, MarkedClear, copy_owes, places_of}
 use Rattle.frozen_law.specs.Records.{RecordsTell}
 use Rattle.frozen_law.proofs.Ends.{hypercall_keeps}
 use Rattle.frozen_law.proofs.Questions.{Kept, reach_keeps, clear_keeps}
@@ -91,10 +91,6 @@ changes = record {
 }
 
 -- A page that was reached for a store is owed to a frame.
-
-places_of : (w : World) → KnowsIn w → PlacesIn w
-places_of (Cloaked c) knows = knows.0
-places_of _ knows = tt
 
 reach_owed : (q : PageId) (va : ℕ) (w : World) → KnowsIn w → IfOk (IsOwed q) (ask_reach q va Store w)
 reach_owed q va w knows =

@@ -18,6 +18,7 @@ use Rattle.chain_law.proofs.Zeros.{settle_cleans, frame_clean}
 use Rattle.chain_law.proofs.ZeroWorlds.{NoneOwedOf}
 use Rattle.frozen_law.specs.Records.{IsUnowed, RecordsTell}
 use Rattle.frozen_law.proofs.Counts.{HasCount, settle_count, frame_count}
+use Rattle.cause_law.proofs.Kept.{owes_page}
 
 -- What is recorded by a test.
 pub told_by : (t : Bool) (key : List ℕ) (there here : Option (List ℕ)) (iv old : Option (List ℕ)) (now c v : List ℕ) →
@@ -144,10 +145,6 @@ IsOwed q m = (f : ℕ) × (owed_in m f ≡ Some q)
 
 abbrev OwesIfGranted : PageId → AfterOffer → Type 0
 OwesIfGranted q o = o.granted ≡ true → IsOwed q o.memory
-
-owes_page : (q : PageId) (o : Option PageId) → owes q o ≡ true → o ≡ Some q
-owes_page q None is = absurd (false≢true is)
-owes_page q (Some p) is = ap Some (sym (page_tells p q is))
 
 put_owes : (g : ℕ) (q : PageId) (m : CloakedMemory) → g < length m.ledger.owed → IsOwed q (with_owed g (Some q) m)
 put_owes g q m low = (g, get_or-set_same m.ledger.owed g (Some q) None low)

@@ -28,6 +28,7 @@ use Rattle.frozen_law.proofs.Counts.{are_counted}
 use Rattle.frozen_law.proofs.HartRuns.{JointFits, fits_at}
 use Rattle.frozen_law.proofs.Harts.{Fits}
 use Rattle.frozen_law.proofs.MarkCounts.{marks_are_counted}
+use Rattle.domain_isolation.proofs.Opened.{harts_counted}
 
 -- Programs.
 
@@ -46,13 +47,6 @@ step_count n m here =
 domains_count : (d : ℕ) (programs : List Program) → length (started_domains d programs) ≡ length programs
 domains_count d [] = refl
 domains_count d (p ∷ programs) = ap suc (domains_count (d + 1) programs)
-
-harts_count : (entry n : ℕ) → length (started_harts entry n) ≡ n
-harts_count entry zero = refl
-harts_count entry (suc n) =
-    let before = harts_count entry n in
-    let more = length-append (started_harts entry n) (started entry n ∷ []) in
-    omega (arith, before, more)
 
 -- At each moment.
 
@@ -74,7 +68,7 @@ started_counts : (b : Bundle) (m : CloakedMemory) → let j = started_joint b m 
     (length j.harts ≡ b.kernel.harts) × (length j.disk ≡ length b.kernel.disk)
     × (length j.domains ≡ length b.programs)
 unfolding started_joint started_kernel
-started_counts b m = (harts_count b.kernel.entry b.kernel.harts, refl, domains_count 0 b.programs)
+started_counts b m = (harts_counted b.kernel.entry b.kernel.harts, refl, domains_count 0 b.programs)
 
 opened_counted : (b : Bundle) (from : Beginning) (o : RunEdge) → opening_from b from ≡ Ok o → Counted b o.joint
 opened_counted b from o opens =

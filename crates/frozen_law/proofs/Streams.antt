@@ -35,7 +35,7 @@ use Rattle.frozen_law.specs.Streams.{HasDrawn, HasDrawnFrom, RunsKeepStreams}
 use Rattle.frozen_law.proofs.DrawRuns.{draws_are_below}
 use Rattle.chain_law.proofs.ZeroWorlds.{InWorld}
 use Rattle.frozen_law.proofs.Memories.{Carries, step_carries}
-use Rattle.frozen_law.proofs.Placing.{programs_placed}
+use Rattle.limit_law.proofs.Openings.{programs_placed}
 
 -- One more draw.
 

@@ -32,8 +32,9 @@ use Rattle.record_law.proofs.Pieces.{joint_after-append}
 use Rattle.thaw_law.proofs.TwoParts.{runs_go_on, stopped_runs_stay}
 use Rattle.thaw_law.specs.TwoParts.{moment_after}
 use Rattle.frozen_promise.specs.OneRun.{IsOneRun, PartsAreOneRun}
-use Rattle.frozen_promise.proofs.Sources.{as_freeze, as_thaw, one_image, steps_in}
+use Rattle.frozen_promise.proofs.Sources.{one_image, steps_in}
 use Rattle.frozen_commands.proofs.StateFacts.{none_left}
+use Rattle.frozen_commands.proofs.SameWords.{as_freeze, as_thaw}
 
 -- Both runs open alike.
 

@@ -37,8 +37,9 @@ use Rattle.command_parts.specs.Thawing.{AsksThawed, IsBadState, IsTooLong, IsUnt
 use Rattle.command_parts.proofs.StreamFacts.{same_stream}
 use Rattle.frozen_promise.specs.Accepted.{IsFromOutside}
 use Rattle.frozen_promise.proofs.NoFault.{saved_without_fault}
-use Rattle.frozen_promise.proofs.Sources.{as_thaw, one_image}
+use Rattle.frozen_promise.proofs.Sources.{one_image}
 use Rattle.frozen_promise.proofs.Whole.{has_draws, has_keys, no_domain_changed, no_frame_changed, no_page_wrong, not_none}
+use Rattle.frozen_commands.proofs.SameWords.{as_thaw}
 
 -- Words of `thaw` that name an image, a stream, and the file of a state of this image. The state is one of a machine
 -- that can go on, and the steps that are asked for are left.

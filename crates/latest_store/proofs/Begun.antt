@@ -52,7 +52,7 @@ contents_agree key d resource page (Some c ∷ contents) m history all agrees =
     (All-tail (IsSealedIfShown key) (Some c) contents all)
     (move_agrees d (Makes q c.plain) history m.plain (refl, whole) agrees)
 
-contents_loads : (e d resource page : ℕ) (contents : List (Option PageContent)) (history : List Move) →
+pub contents_loads : (e d resource page : ℕ) (contents : List (Option PageContent)) (history : List Move) →
     loads_of e (made_contents d resource page contents history) ≡ loads_of e history
 unfolding loads_of
 contents_loads e d resource page [] history = refl

@@ -18,6 +18,7 @@ use Rattle.cloak_model.specs.Resources.{Resources, Mapped, resource_at, regions_
 use Rattle.resource_map.proofs.Lists.{get_or-replicate_none, get_or-map_all, none_from_test, first_free-at, All-find, inside_from_some}
 use Rattle.resource_map.proofs.Places.{All-places, any-places}
 use Rattle.resource_map.proofs.Copies.{All-zip, Both, find-zip}
+use Rattle.resource_map.proofs.RegionLists.{All-with_region}
 
 -- a resource that is there, and that a space may map
 abbrev pub may_map : ℕ → Option Resource → Bool
@@ -211,15 +212,6 @@ insert_step : (b : Bool) (P : Region → Type 0) (xs ys : List Region) → All P
 insert_step true P xs ys p q = p
 insert_step false P xs ys p q = q
 
-with_region_all : (P : Region → Type 0) (g : Region) (regions : List Region) → P g → All P regions →
-    All P (with_region g regions)
-with_region_all P g [] one all = All-cons P g [] one all
-with_region_all P g (h ∷ regions) one all =
-    insert_step (nat_lt g.start h.start) P (g ∷ (h ∷ regions)) (h ∷ with_region g regions)
-    (All-cons P g (h ∷ regions) one all)
-    (All-cons P h (with_region g regions) (All-head P h regions all)
-    (with_region_all P g regions one (All-tail P h regions all)))
-
 sized : (b : Bool) (pages size : ℕ) → cond b (Some pages) None ≡ Some size → b ≡ true
 sized true pages size is = refl
 sized false pages size is = absurd cc
@@ -246,7 +238,7 @@ mapped_follows space g (Some size) r is =
     mapped_by (not (is_region g size)) (list_any (overlaps g) regions) (nat_le 16 (length regions)) r
     (with_regions space (with_region g regions) r)
     (regions_follow space (with_region g regions) r (λ maps.
-    with_region_all (IsOf r space) g regions (map_from_size space (resource_at r g.resource) size is) (maps space)))
+    All-with_region (IsOf r space) g regions (map_from_size space (resource_at r g.resource) size is) (maps space)))
 
 pub map_follows : (space : ℕ) (g : Region) (r : Resources) → ResourcesFollow r (map_region space g r).resources
 unfolding map_region

@@ -53,6 +53,7 @@ use Rattle.kernel_isolation.proofs.Numbers.{AreFrom, number_at}
 use Rattle.page_law.specs.OwnPages.{is_end_of, ends_in}
 use Rattle.latest_store.specs.Moves.{Move, latest_value}
 use Rattle.latest_store.specs.Deeds.{first_granted, both_granted, page_for, hypercall_moves, ecall_moves, effect_moves, atomic_moves, word_moves, fetched_moves, byte_moves, phase_moves, context_moves, program_moves}
+use Rattle.domain_isolation.proofs.InsideSteps.{with_leave, ended_items, ended_met}
 
 -- No domain ends in a step itself.
 
@@ -166,22 +167,6 @@ went_ends j number h e w (went.SpaceGone space s) ends =
     ends_append (items_of w) (item.Leave s ∷ []) ends (λ d. refl)
 went_ends j number h e w _ ends = ends
 
-leave_half : (d : ℕ) (items : List Item) (s : Shown) → inward_half d (items ++ item.Leave s ∷ []) ≡ inward_half d items
-leave_half d items s = filter-append (is_inward d) items (item.Leave s ∷ []) ∙ append-nil (inward_half d items)
-
-went_half : (d : ℕ) (j : Joint) (number : ℕ) (h : Hart) (e : ℕ) (w : World) (how : Went) →
-    inward_half d (domain_ended j number h e w how).items ≡ inward_half d (items_of w)
-unfolding domain_ended
-went_half d j number h e w (went.Leave s) = leave_half d (items_of w) s
-went_half d j number h e w (went.SpaceGone space s) = leave_half d (items_of w) s
-went_half d j number h e w _ = refl
-
-went_met : (j : Joint) (number : ℕ) (h : Hart) (e : ℕ) (w : World) (how : Went) →
-    is_some (domain_ended j number h e w how).violation ≡ true → is_some (violation_of w) ≡ true
-unfolding domain_ended
-went_met j number h e w went.Stopped some = some
-went_met j number h e w _ some = absurd (false≢true some)
-
 interrupt_told : (inside : Option ℕ) (j : Joint) (number : ℕ) (h : Hart) (e : ℕ) (how : Went) →
     TurnTold inside (interrupt_ended j number h (item.Timer e ∷ []) how)
 unfolding interrupt_ended
@@ -218,11 +203,11 @@ stepped_told j number h ctx found pages own =
       stopped = λ other is some. record {
         domain = n;
         answers = answers;
-        is = went_half (domain_of other) j' number h e t.world t.answer.went ∙ half (domain_of other)
+        is = ended_items (domain_of other) j' number h e t.world t.answer.went ∙ half (domain_of other)
             ∙ ap (λ (d : ℕ). inward_half d (answer_items n answers))
             (sym (own ∙ ap domain_of (same_context ctx other is))) ∙ own_items n answers;
         last = played_met n (of_domain (slot_of ctx) found) script s.own w s.ends serving refl
-            (went_met j' number h e t.world t.answer.went some);
+            (ended_met j' number h e t.world t.answer.went some);
       };
     }
 

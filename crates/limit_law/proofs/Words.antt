@@ -18,7 +18,7 @@ use Rattle.frozen_state.specs.Words.{HasSlotWords}
 use Rattle.limit_law.proofs.Moments.{at_every_moment}
 use Rattle.limit_law.specs.Words.{HasHartWords, HasProgramWords, HasWords, RunsHaveWords}
 
-each : {A : Type 0} (P Q : A → Type 0) (xs : List A) → ((a : A) → P a → Q a) → AllByRecursion P xs → AllByRecursion Q xs
+pub each : {A : Type 0} (P Q : A → Type 0) (xs : List A) → ((a : A) → P a → Q a) → AllByRecursion P xs → AllByRecursion Q xs
 each P Q [] gives all = tt
 each P Q (x ∷ xs) gives all = (gives x all.0, each P Q xs gives all.1)
 

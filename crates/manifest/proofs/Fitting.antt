@@ -12,11 +12,6 @@ use Rattle.manifest.specs.Fields.{wrong_at}
 use Rattle.manifest.specs.Parts.{fitting}
 use Rattle.manifest.proofs.Files.{larger, not_larger}
 
--- one more part than those before it is not longer than all
-pub flat_map_front : {X Y : Type 0} (f : X → List Y) (xs : List X) (i : ℕ) (d : X) → i < length xs →
-    length (flat_map f (take i xs)) + length (f (get_or xs i d)) ≤ length (flat_map f xs)
-flat_map_front f xs i d inside = length-flat_map-take f xs i d inside
-
 -- something is left
 pub fits : (room : Option ℕ) (size most : ℕ) (none : Bool) → MatchOption room (most < size) (λ left. size + left ≡ most) →
     is_some room ≡ not none → none ≡ false → size ≤ most

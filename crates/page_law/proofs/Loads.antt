@@ -43,6 +43,7 @@ use Rattle.kernel_isolation.proofs.Isolated.{of_opened}
 use Rattle.page_law.proofs.Given.{after_set}
 use Rattle.page_law.proofs.OwnPages.{moment_behind, step_is}
 use Rattle.page_law.proofs.StepLoads.{HasPlain, LoadsIn, CopiesIn, loads_instruction, copies_in, copies_out}
+use Rattle.domain_isolation.proofs.InsideSteps.{ended_domains}
 
 -- A step of a program.
 
@@ -177,12 +178,6 @@ outside_load : (j : Joint) (plain : PageId → List ℕ) (number : ℕ) (h : Har
 unfolding outside_step after_outside
 outside_load j plain number h = ended_load _ plain number _ _
 
-domain_ended_same : (j : Joint) (number : ℕ) (h : Hart) (e : ℕ) (w : World) (how : Went) →
-    (domain_ended j number h e w how).joint.domains ≡ j.domains
-unfolding domain_ended
-domain_ended_same j number h e w went.Stay = refl
-domain_ended_same j number h e w _ = refl
-
 interrupt_ended_same : (j : Joint) (number : ℕ) (h : Hart) (items : List Item) (how : Went) →
     (interrupt_ended j number h items how).joint.domains ≡ j.domains
 unfolding interrupt_ended
@@ -198,7 +193,7 @@ by_load true j number h e slot found there =
     (set_load j.domains j.memory.plain e found (record found { control = _ }) there (NoLoad refl))
 by_load false j number h e slot found there =
     let c : MidStep = cloak_of j.memory h e (pages_for found (context_at found.control.contexts slot)) in
-    subst (DomainsLoad j.domains j.memory.plain) (sym (domain_ended_same _ number h e _ _))
+    subst (DomainsLoad j.domains j.memory.plain) (sym (ended_domains _ number h e _ _))
     (set_load j.domains j.memory.plain e found _ there
     (step_loads j.memory.plain slot found (Cloaked c) (record { cloak = c; is = refl; same = refl })))
 

@@ -3,6 +3,7 @@ use Rattle.std.proofs.Common.{◌≡◌, ℕ, zero, suc, ◌+◌, ◌-◌, ◌*�
 use Rattle.std.specs.Prelude.{◌&&◌, All}
 use Rattle.std.specs.Int.{w32, from_le_bytes, to_le_bytes}
 use Rattle.std.specs.List.{AllByRecursion}
+use Rattle.std.proofs.lemmas.Bool.{and_parts}
 use Rattle.cloak_base.specs.Pages.{zero_page}
 use Rattle.cloak_model.specs.Memory.{value_in, with_value_in}
 use Rattle.cloak_model.specs.KernelStep.{extended}
@@ -111,8 +112,3 @@ pub by_place : {A : Type 0} (P : A → Type 0) (xs : List A) → AllByRecursion 
 by_place P [] all k d low = absurd (omega (arith, low))
 by_place P (x ∷ xs) all zero d low = all.0
 by_place P (x ∷ xs) all (suc k) d low = by_place P xs all.1 k d (omega (arith, low))
-
-pub both_true : (a b : Bool) → (a && b) ≡ true → (a ≡ true) × (b ≡ true)
-both_true true true is = (refl, refl)
-both_true true false is = absurd cc
-both_true false b is = absurd cc

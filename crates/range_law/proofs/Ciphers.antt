@@ -107,6 +107,10 @@ chained_long key iv (suc n) s =
     let others = chained_long key c n (drop 16 s) in
     omega (arith, both, first, others)
 
+pub cbc_long : (key iv page : List ℕ) → length (cbc key iv page) ≡ 4096
+unfolding cbc
+cbc_long key iv page = chained_long key iv 256 page
+
 pub record SealedFits (page : List ℕ) : Type 0 where
   pub bytes : AreBytes page
   pub long : length page ≡ 4096
@@ -115,5 +119,5 @@ pub sealed_fits : (key iv page : List ℕ) → IsBytes 16 key → AreBytes iv �
 unfolding cbc
 sealed_fits key iv page k v all = record {
   bytes = chained_fits key iv (blocks_of 256 page) k v (blocks_fit 256 page all);
-  long = chained_long key iv 256 page;
+  long = cbc_long key iv page;
 }

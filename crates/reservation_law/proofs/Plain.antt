@@ -1,7 +1,7 @@
 -- What the plain step of a hart makes of RAM and of reservations, by its deed.
 use Rattle.std.proofs.Common.{◌≡◌, ◌∙◌, ◌<◌, ◌≤◌, ◌⊎◌, ℕ, ◌+◌, ◌-◌, ◌*◌, ◌/◌, ◌%◌, ◌^◌, Bool, true, false, ◌&&◌, nat_lt, nat_le, List, [], ◌∷◌, length, drop, Option, Some, None, Ok, Err, inl, inr, refl, sym, ap, subst, arith, length-drop}
 use Rattle.std.specs.Prelude.{◌==◌, if◌then◌else◌}
-use Rattle.std.proofs.lemmas.Bool.{cases_lt, cases_eq, ltb-true, leb-true, eqb-true}
+use Rattle.std.proofs.lemmas.Bool.{cases_lt, cases_eq, ltb-true, leb-true, eqb-true, and_parts}
 use Rattle.std.proofs.lemmas.List.{get_or_past, get_or-set_same, get_or-set_other, length-set, length-take}
 use Rattle.cloak_base.specs.Constants.{ram_start, frame_of, is_in_frames}
 use Rattle.cloak_base.specs.Registers.{register}
@@ -94,11 +94,6 @@ does_as deed other id s p same done = subst (λ (d : Deed). Does d id s p) same 
 
 -- Accesses.
 
-pub both_are : (a b : Bool) → (a && b) ≡ true → (a ≡ true) × (b ≡ true)
-both_are true true is = (refl, refl)
-both_are true false is = absurd cc
-both_are false b is = absurd cc
-
 abbrev Reached : ℕ → Seen → ℕ → (Walk → Plan (Close SteppedKernel)) → (ℕ → Deed) → Type 0
 Reached id s va next deed =
     (walked : Walked) → ram_start ≤ walked.pa → walked.pa % 4 ≡ va % 4 → Does (deed walked.pa) id s (next (Ok walked))
@@ -119,7 +114,7 @@ walked_by : (id : ℕ) (s : Seen) (a : Access) (w : Walk) (next : Walk → Plan 
 walked_by id s a (Err cause) next deed faults reaches keeps = faults cause
 walked_by id s a (Ok walked) next deed faults reaches keeps =
     target_by id s a.va (access_fault a.kind) walked (is_in_frames (length s.ram) walked.pa) next deed
-    (λ there. leb-true ram_start walked.pa (both_are (nat_le ram_start walked.pa) (nat_lt (frame_of walked.pa)
+    (λ there. leb-true ram_start walked.pa (and_parts (nat_le ram_start walked.pa) (nat_lt (frame_of walked.pa)
     (length s.ram)) there).0)
     faults reaches keeps
 
@@ -347,9 +342,9 @@ done_in h s disk is =
     let pa : ℕ = register h.regs 11 in
     let block : ℕ = register h.regs 10 in
     let n : ℕ = length s.ram in
-    let first = both_are (nat_lt block (length disk / 4096)) ((pa % 4096 == 0) && is_in_frames n pa) is in
-    let second = both_are (pa % 4096 == 0) (is_in_frames n pa) first.1 in
-    let third = both_are (nat_le ram_start pa) (nat_lt (frame_of pa) n) second.1 in
+    let first = and_parts (nat_lt block (length disk / 4096)) ((pa % 4096 == 0) && is_in_frames n pa) is in
+    let second = and_parts (pa % 4096 == 0) (is_in_frames n pa) first.1 in
+    let third = and_parts (nat_le ram_start pa) (nat_lt (frame_of pa) n) second.1 in
     let low : ram_start ≤ pa = leb-true ram_start pa third.0 in
     let at : pa % 4096 ≡ 0 = eqb-true (pa % 4096) 0 second.0 in
     let start : ram_start + 4096 * frame_of pa ≡ pa = omega (arith, low, at) in

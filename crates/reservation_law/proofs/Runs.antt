@@ -31,6 +31,7 @@ use Rattle.reservation_law.proofs.Items.{in_ram_low}
 use Rattle.reservation_law.proofs.Opened.{opened_whole}
 use Rattle.reservation_law.proofs.Moments.{IsOrderly, step_does, step_orderly}
 use Rattle.reservation_law.proofs.Turns.{TurnDoes}
+use Rattle.domain_isolation.proofs.Opened.{harts_counted}
 
 -- as a test
 
@@ -54,19 +55,12 @@ started_id : (entry n : ℕ) → (started entry n).id ≡ n
 unfolding started
 started_id entry n = refl
 
-started_count : (entry n : ℕ) → length (started_harts entry n) ≡ n
-started_count entry zero = refl
-started_count entry (suc n) =
-    let before = started_count entry n in
-    let more = length-append (started_harts entry n) (started entry n ∷ []) in
-    omega (arith, before, more)
-
 started_ids : (entry n k : ℕ) → k < n → (slice_index_or (started_harts entry n) k (started 0 0)).id ≡ k
 started_ids entry zero k less = absurd (omega (arith, less))
 started_ids entry (suc n) k less =
     let first : List Hart = started_harts entry n in
     let last : List Hart = started entry n ∷ [] in
-    let count = started_count entry n in
+    let count = harts_counted entry n in
     elim (cases_lt k n) [
       | inl low ↦
           ap (λ (h : Hart). h.id) (get_or_append_left first last (started 0 0) k (omega (arith, low, count)))
@@ -105,7 +99,7 @@ kernel_ids : (image : KernelImage) (k : ℕ) → k < length (started_kernel imag
     (slice_index_or (started_kernel image).harts k (started 0 0)).id ≡ k
 unfolding started_kernel
 kernel_ids image k less =
-    let count = started_count image.entry image.harts in
+    let count = harts_counted image.entry image.harts in
     started_ids image.entry image.harts k (omega (arith, less, count))
 
 opened_marks : (b : Bundle) (from : Beginning) (o : RunEdge) → opening_from b from ≡ Ok o → (k pa : ℕ) →

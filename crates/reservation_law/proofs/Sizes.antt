@@ -34,7 +34,8 @@ use Rattle.script_fold.proofs.Folding.{step_keeps}
 use Rattle.script_fold.proofs.Questions.{Replies, opens_by, keeps_stored}
 use Rattle.kernel_isolation.proofs.Accounts.{is_joint}
 use Rattle.kernel_isolation.proofs.Shown.{either}
-use Rattle.reservation_law.proofs.Keeping.{all_both}
+use Rattle.range_law.proofs.Ciphers.{cbc_long}
+use Rattle.range_law.proofs.Bounds.{all_append}
 
 abbrev pub HasSize : Item → Type 0
 HasSize (item.Cipher frame bytes) = length bytes ≡ 4096
@@ -52,25 +53,6 @@ cipher_sizes [] all = tt
 cipher_sizes (c ∷ ciphers) all = (all.0, cipher_sizes ciphers all.1)
 
 -- Ciphertexts of pages.
-
-encrypted_long : (key s : List ℕ) → length (encrypted key s) ≡ 16
-unfolding encrypted block_sum from_places
-encrypted_long key s = refl
-
-chained_long : (key iv : List ℕ) (n : ℕ) (s : List ℕ) → length (concat (chained key iv (blocks_of n s))) ≡ 16 * n
-unfolding chained blocks_of
-chained_long key iv zero s = refl
-chained_long key iv (suc n) s =
-    let c : List ℕ = encrypted key (block_sum (take 16 s) iv) in
-    let rest : List ℕ = concat (chained key c (blocks_of n (drop 16 s))) in
-    let both = length-append c rest in
-    let first = encrypted_long key (block_sum (take 16 s) iv) in
-    let others = chained_long key c n (drop 16 s) in
-    omega (arith, both, first, others)
-
-pub cbc_long : (key iv page : List ℕ) → length (cbc key iv page) ≡ 4096
-unfolding cbc
-cbc_long key iv page = chained_long key iv 256 page
 
 pub zeros_long : length zero_page ≡ 4096
 unfolding zero_page
@@ -94,7 +76,7 @@ unfolding settle
 settle_pages f m = if_pages f (owed_in m f) m
 
 pages_both : (a b : List (ℕ × List ℕ)) → ArePages a → ArePages b → ArePages (a ++ b)
-pages_both a b here there = all_both (λ (c : ℕ × List ℕ). length c.1 ≡ 4096) a b here there
+pages_both a b here there = all_append (λ (c : ℕ × List ℕ). length c.1 ≡ 4096) a b here there
 
 found_pages : (o : Option ℕ) (next : CloakedMemory → AfterSettling) (m : CloakedMemory) →
     ((n : CloakedMemory) → ArePages (next n).ciphers) → ArePages (settle_found o next m).ciphers
@@ -179,7 +161,7 @@ same_sizes c c' same = record { by = λ is. record { form = refl; items = subst 
 more_sizes : (c c' : MidStep) (items : List Item) → c'.items ≡ c.items ++ items → HaveSizes items →
     Sizes (Cloaked c) (Cloaked c')
 more_sizes c c' items same all = record {
-  by = λ is. record { form = refl; items = subst HaveSizes (sym same) (all_both HasSize c.items items is.items all) };
+  by = λ is. record { form = refl; items = subst HaveSizes (sym same) (all_append HasSize c.items items is.items all) };
 }
 
 -- Memory.

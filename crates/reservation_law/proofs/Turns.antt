@@ -41,9 +41,10 @@ use Rattle.settling_ahead.proofs.Touching.{writes_touched_alone}
 use Rattle.reservation_law.specs.Deeds.{Deed, Idle, Reserves, StoresReserved, deed_of}
 use Rattle.reservation_law.specs.Writes.{Extent, has_byte, meets_word, deed_extents, items_extents, outside_deed}
 use Rattle.reservation_law.proofs.Items.{keeps_items, keeps_shown, keeps_inward, extents_append}
-use Rattle.reservation_law.proofs.Keeping.{SparesWord, SparesByte, AreWhole, Keeps, all_both, all_first, all_second, keeps_all, keeps_then, keeps_unmarked}
+use Rattle.reservation_law.proofs.Keeping.{SparesWord, SparesByte, AreWhole, Keeps, all_first, all_second, keeps_all, keeps_then, keeps_unmarked}
 use Rattle.reservation_law.proofs.Plain.{DoneBy, ticked_id, plain_step_does}
 use Rattle.reservation_law.proofs.Sizes.{HaveSizes, Sizes, cipher_sizes, touched_pages, sizes_domain_step, sizes_end}
+use Rattle.range_law.proofs.Bounds.{all_append}
 
 -- the number of a hart of a list
 abbrev pub id_in : List Hart → ℕ → ℕ
@@ -132,7 +133,7 @@ outside_does deed number harts before s items end own keeps done = record {
         let first = keeps.marks k pa there.0 in
         inr (
           first.0,
-          λ at. all_both (λ (e : Extent). meets_word pa e ≡ false) (deed_extents deed) (items_extents items)
+          λ at. all_append (λ (e : Extent). meets_word pa e ≡ false) (deed_extents deed) (items_extents items)
               (there.1 at) (first.1 at),
         )
   ];
@@ -174,7 +175,7 @@ later_does deed number harts s items harts' t u more does keeps calm = record {
             inr (
               there.0,
               λ at. subst (λ (l : List Extent). SparesWord pa l) (sym (more_extents deed items more))
-                  (all_both (λ (e : Extent). meets_word pa e ≡ false) (deed_extents deed ++ items_extents items)
+                  (all_append (λ (e : Extent). meets_word pa e ≡ false) (deed_extents deed ++ items_extents items)
                   (items_extents more) (there.1 at) (last.1 at)),
             )
       ];

@@ -2,6 +2,8 @@ pub mod Choice
 pub mod Silence
 pub mod KernelTrace
 pub mod Tracing
+pub mod KernelTaking
 pub mod ProgramTrace
 pub mod ProgramTracing
+pub mod ProgramTaking
 pub mod Answering

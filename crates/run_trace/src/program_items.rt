@@ -10,11 +10,48 @@ ghost use Rattle.run_trace.specs.ProgramTracing.{TracesOwn};
 
 use crate::choice::TraceChoice;
 use crate::program_side::trace_program_item;
-use alone_views::DomainAlone;
+use alone_views::{DomainAlone, Unfit};
 use cloak_base::Failed;
+use cloak_model::Item;
 use io_traits::{Shelf, Sink};
-use read_back::Ending;
-use record_reader::{KeptItems, NextFault, Reader};
+use read_back::{Ending, TakeItems, for_each_item};
+
+/// A program of this number that runs alone, and the output that shows what its items add.
+#[derive(Drop)]
+struct ProgramTrace<'a, O: Sink> {
+    program: &'a mut DomainAlone,
+    number: u32,
+    choice: &'a TraceChoice,
+    out: &'a mut O,
+    ghost below_four: { number < 4 },
+}
+
+impl<'a, O: Sink> TakeItems for ProgramTrace<'a, O> {
+    ghost use Rattle.run_trace.specs.ProgramTaking.{TookInOwn};
+
+    /// What was unfit, or that the output failed.
+    type Stop = Result<Unfit, Failed>;
+
+    ghost took = { TookInOwn O.Sink };
+
+    fn take_item(&mut self, item: &Item) -> Result<(), Result<Unfit, Failed>> {
+        let (put, taken) = trace_program_item(
+            self.program,
+            self.number,
+            self.choice,
+            item,
+            self.out,
+            Ok(()),
+        );
+        if let Err(failed) = put {
+            return Err(Err(failed));
+        }
+        match taken {
+            Ok(()) => Ok(()),
+            Err(unfit) => Err(Ok(unfit)),
+        }
+    }
+}
 
 /// Gives the items of a record to a program of this number that runs alone, and shows what they add, up to the first that
 /// does not fit, the first fault, or where the output fails.
@@ -36,29 +73,15 @@ pub fn trace_program_items<S: Shelf, O: Sink>(
     ensures files { SameFiles (S.held shelf.old) (S.held shelf.new) }
     ensures writing { S.writing_faults shelf.new ≡ S.writing_faults shelf.old }
 {
-    let mut reader = Reader::open(name);
-    let mut kept = KeptItems::new();
-    loop {
-        match reader.next(shelf, &mut kept) {
-            Ok(Some(tag)) => {
-                let (put, taken) = trace_program_item(
-                    program,
-                    number,
-                    choice,
-                    kept.item(tag),
-                    out,
-                    Ok(()),
-                );
-                if let Err(failed) = put {
-                    return Err(failed);
-                }
-                if let Err(unfit) = taken {
-                    return Ok(Ending::Unfit(unfit.step));
-                }
-            }
-            Ok(None) => return Ok(Ending::Whole),
-            Err(NextFault::Read) => return Ok(Ending::Unread),
-            Err(NextFault::Record(fault)) => return Ok(Ending::Fault(fault)),
-        }
+    let mut tracing = ProgramTrace {
+        program,
+        number,
+        choice,
+        out,
+    };
+    match for_each_item(name, shelf, &mut tracing) {
+        Ok(ending) => Ok(ending),
+        Err(Ok(unfit)) => Ok(Ending::Unfit(unfit.step)),
+        Err(Err(failed)) => Err(failed),
     }
 }
