@@ -1,21 +1,16 @@
 -- What a test over every byte says of each.
-use Rattle.std.proofs.Common.{◌≡◌, ◌<◌, ◌+◌, ℕ, zero, suc, Bool, true, false, arith, sym, subst, inl, inr, nat_eq, nat_lt}
-use Rattle.std.specs.Prelude.{◌&&◌, refl}
+use Rattle.std.proofs.Common.{◌≡◌, ◌<◌, ◌+◌, ℕ, zero, suc, Bool, true, arith, sym, subst, inl, inr, nat_eq, nat_lt}
 use Rattle.std.specs.List.{list_all, range_with_len}
-use Rattle.std.proofs.lemmas.Bool.{eqb-true}
+use Rattle.std.proofs.lemmas.Bool.{eqb-true, and_parts}
 use Rattle.std.proofs.lemmas.Bool.Decides.{eqb_tells, nat_tests}
 use Rattle.aes_block.specs.Bytes.{each_byte}
-
-both : (x y : Bool) → (x && y) ≡ true → (x ≡ true) × (y ≡ true)
-both true y h = (refl, h)
-both false y h = absurd (let e : false ≡ true = h in cc)
 
 -- what passes at each number of a range
 pub passes_at : (p : ℕ → Bool) (i k b : ℕ) → list_all p (range_with_len i k) ≡ true → i < b + 1 → b < i + k →
     p b ≡ true
 passes_at p i zero b all low high = absurd (omega arith)
 passes_at p i (suc k) b all low high =
-    let each = both (p i) (list_all p (range_with_len (i + 1) k)) all in
+    let each = and_parts (p i) (list_all p (range_with_len (i + 1) k)) all in
     elim (eqb_tells b i) [
       | inl e ↦ subst (λ (x : ℕ). p x ≡ true) (sym e.1) each.0
       | inr e ↦ (let ne = e.1 in passes_at p (i + 1) k b each.1 (omega arith) (omega arith))

@@ -9,3 +9,4 @@ pub mod OneToOne
 pub mod WordRounds
 pub mod Rounds
 pub mod Keys
+pub mod Lengths

@@ -6,12 +6,13 @@ use Rattle.std.proofs.Math.Seq.{take-add}
 use Rattle.std.proofs.lemmas.List.{drop-drop, drop_all, take_all, append-nil, drop_at, take_at, take-append-drop, length-take-le, append_cancel_left, take_more_set, drop-set-lt}
 use Rattle.std.proofs.lemmas.List.Elements.{All-take, All-drop}
 use Rattle.aes_block.specs.Bytes.{IsBytes}
-use Rattle.aes_block.specs.State.{block_sum, from_places}
+use Rattle.aes_block.specs.State.{block_sum}
 use Rattle.aes_block.specs.Cipher.{encrypted}
 use Rattle.aes_block.proofs.Blocks.{IsBytes-block_sum}
 use Rattle.aes_block.proofs.OneToOne.{block_sum-block_sum}
 use Rattle.cloak_model.specs.Chain.{chained, blocks_of, cbc}
 use Rattle.aes_cbc.specs.Opened.{IsOpened}
+use Rattle.aes_block.proofs.Lengths.{length-encrypted}
 
 -- the first n blocks of these bytes, as one chain
 abbrev pub sealed_from : List ℕ → ℕ → List ℕ → List ℕ → List ℕ
@@ -28,14 +29,6 @@ sealed_from-zero key last s = refl
 cbc-sealed_from : (key iv page : List ℕ) → cbc key iv page ≡ sealed_from key 256 iv page
 unfolding cbc
 cbc-sealed_from key iv page = refl
-
-pub length-encrypted : (key s : List ℕ) → length (encrypted key s) ≡ 16
-unfolding encrypted block_sum from_places
-length-encrypted key s = refl
-
-pub length-block_sum : (s t : List ℕ) → length (block_sum s t) ≡ 16
-unfolding block_sum from_places
-length-block_sum s t = refl
 
 -- block j of a page
 abbrev pub block_of : List ℕ → ℕ → List ℕ

@@ -47,7 +47,7 @@ use Rattle.cloak_model.specs.Resources.{Resources, page_at}
 use Rattle.cloak_model.specs.Script as script
 use Rattle.cloak_model.specs.Script.{Question, Reach, Get, Put, Clear, Change, Write, Forget, Script, Gives, Asks, Reads, Changes, asked, played, ◌>>=◌}
 use Rattle.cloak_model.specs.World.{World, Alone, Handed}
-use Rattle.cloak_model.proofs.Clashes.{either}
+use Rattle.cloak_base.proofs.Choices.{either}
 
 -- Since a step began over pages and answers, its pages have not changed, and at most k answers were taken.
 record Kept (k : ℕ) (h now : Handed) : Type 0 where

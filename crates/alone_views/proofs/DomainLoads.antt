@@ -1,6 +1,6 @@
 -- An item completes at most one load of a program that runs alone. So a program that took fewer than 2^64 items has
 -- fewer loads than that, as its report needs.
-use Rattle.std.proofs.Common.{◌≤◌, ◌+◌, ℕ, Bool, true, false, cond, List, [], ◌∷◌, length, arith}
+use Rattle.std.proofs.Common.{◌≤◌, ◌+◌, ℕ, Bool, true, false, cond, List, [], length}
 use Rattle.std.specs.Prelude.{is_some}
 use Rattle.cloak_model.specs.declared.answer.Answer.{Answer}
 use Rattle.cloak_model.specs.declared.item.Item.{Item}
@@ -11,7 +11,7 @@ use Rattle.cloak_model.specs.DomainState.{Domain}
 use Rattle.cloak_model.specs.DomainStep.{Resumes, domain_step}
 use Rattle.cloak_model.specs.Ending.{ended_domain}
 use Rattle.cloak_model.specs.DomainAlone as model
-use Rattle.cloak_model.specs.DomainAlone.{Tried, Over, Wants, Wrong, tried, try_with, handed_of, is_none_left, is_granted, answered_by, made_by, take_answer, take_timer, take_resume, take_ended, domain_gone, resumed_by, domain_step_ended, domain_step_begun, take_domain_step, domain_takes, take_domain_item, domain_taken}
+use Rattle.cloak_model.specs.DomainAlone.{Tried, Over, Wants, Wrong, tried, try_with, handed_of, is_none_left, is_granted, answered_by, made_by, take_answer, take_timer, take_resume, take_ended, domain_gone, resumed_by, domain_step_ended, domain_step_begun, take_domain_step, domain_takes, take_domain_item}
 use Rattle.script_fold.proofs.OneLoad.{no_load, loads_step}
 
 abbrev loads_of : model.DomainAlone → ℕ
@@ -126,12 +126,3 @@ few_takes d schedule _ s = few_either _ s _ s (few_answer s.stage _ s) (no_load 
 pub few_taken : (d : ℕ) (schedule : List ℕ) (s : model.DomainAlone) (i : Item) → length (take_domain_item d schedule s i).part.domain.loads ≤ length s.part.domain.loads + 1
 unfolding take_domain_item
 few_taken d schedule s i = few_either (is_some s.unfit) s s _ (no_load (loads_of s)) (few_takes d schedule i s)
-
--- the loads after these items
-pub few_loads : (d : ℕ) (schedule : List ℕ) (s : model.DomainAlone) (items : List Item) → length (domain_taken d schedule s items).part.domain.loads ≤ length s.part.domain.loads + length items
-unfolding domain_taken
-few_loads d schedule s [] = omega arith
-few_loads d schedule s (i ∷ items) =
-    let once = few_taken d schedule s i in
-    let rest = few_loads d schedule (take_domain_item d schedule s i) items in
-    omega (arith, once, rest)

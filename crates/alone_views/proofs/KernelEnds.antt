@@ -1,5 +1,5 @@
 -- The opening of a kernel that runs alone, and its report.
-use Rattle.std.proofs.Common.{◌≡◌, ◌<◌, ℕ, zero, suc, false, List, [], ◌∷◌, length, All, Option, None, Result, Ok, Err, refl, sym, arith, length-append, replicate, ◌≤◌}
+use Rattle.std.proofs.Common.{◌≡◌, ◌<◌, ℕ, false, List, [], length, All, Option, None, Result, Ok, Err, sym, replicate, ◌≤◌}
 use Rattle.cloak_base.specs.declared.causes.Failed.{Failed}
 use Rattle.cloak_model.specs.Hart.{Hart, started}
 use Rattle.cloak_model.specs.KernelAlone as model
@@ -12,13 +12,7 @@ use Rattle.alone_views.specs.KernelConsole.{ConsoleCounts}
 use Rattle.alone_views.specs.KernelStages.{stood_stage}
 use Rattle.alone_views.specs.KernelStanding.{StandsForKernel, turns_of}
 use Rattle.alone_views.specs.declared.kernel.KernelAlone.{KernelAlone}
-
-length-started_harts : (entry n : ℕ) → length (started_harts entry n) ≡ n
-length-started_harts entry zero = refl
-length-started_harts entry (suc n) =
-    let before = length-started_harts entry n in
-    let more = length-append (started_harts entry n) (started entry n ∷ []) in
-    omega (arith, before, more)
+use Rattle.cloak_model.proofs.Opening.{length-started_harts}
 
 -- the hart of each turn is there
 pub turns_inside : (turns schedule : List ℕ) (harts : List Hart) (entry n : ℕ) → turns ≡ schedule →

@@ -2,6 +2,7 @@
 use Rattle.std.proofs.Common.{◌≡◌, ◌≤◌, ℕ, List, [], ◌++◌, length, sym, ◌∙◌, ap, subst, arith}
 use Rattle.std.proofs.lemmas.List.{append-nil}
 use Rattle.cloak_model.specs.Exchange.{Piece, Emits, shown_each}
+use Rattle.cloak_model.proofs.Emitting.{emits_none}
 use Rattle.cloak_model.specs.KernelAlone as model
 use Rattle.cloak_model.specs.KernelAlone.{plain_step, kernel_step_ended, console_byte}
 use Rattle.cloak_model.specs.declared.outcome.Kernel.{Kernel}
@@ -12,11 +13,6 @@ use Rattle.alone_views.specs.KernelStages.{stood_stage}
 use Rattle.alone_views.specs.KernelChanges.{ChangesTo}
 use Rattle.alone_views.specs.KernelStanding.{Gains, StandsForKernel, state_with, turns_of}
 use Rattle.alone_views.specs.declared.kernel.KernelAlone.{KernelAlone}
-
--- nothing is given
-emits_nothing : {E : Type 0} (gave : E → E → List Piece → Type 0) (e : E) → Emits gave e e []
-emits_nothing {E} gave e =
-    record { more = λ first before given. subst (λ (ps : List Piece). gave first e ps) (sym (append-nil before)) given }
 
 -- the machine stands for the next state, with the same console
 pub record ChangesFrom (new : KernelAlone) (turns : List ℕ) (s next : model.KernelAlone) : Type 0 where
@@ -49,7 +45,7 @@ gains_nothing {E} gave e old new turns s next becomes stands =
       more = [];
       console = from.console ∙ sym (append-nil s.kernel.console);
       at_most_one = omega arith;
-      emits = emits_nothing gave e;
+      emits = emits_none gave e;
     }
 
 pub gains_then : {E : Type 0} (gave : E → E → List Piece → Type 0) (e e' : E) (mid new : KernelAlone) (turns : List ℕ)

@@ -1,7 +1,7 @@
 mod KernelEnds
 mod KernelFits
 mod KernelGains
-mod KernelHarts
+pub mod KernelHarts
 mod KernelItems
 mod KernelRam
 mod KernelSteps

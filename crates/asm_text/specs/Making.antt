@@ -1,8 +1,8 @@
 -- A command that makes a file of what it reads: it reads files for the bytes that are due, and then it writes these, or
 -- shows why there are none. `IsDue` says which bytes are due, and `IsTold` which text tells what is faulty.
-use Rattle.std.specs.Prelude.{ℕ, ◌≡◌, ◌≤◌, ◌⊎◌, List, length, take, Vec, string_bytes, Result, Ok, Err}
+use Rattle.std.specs.Prelude.{ℕ, ◌≡◌, ◌⊎◌, List, Vec, string_bytes, Result, Ok, Err}
 use Rattle.std.specs.declared.alloc.Global.{Global}
-use Rattle.io_traits.specs.Told.{Tells, Grows, GrowsByFront, SameFiles, OtherFiles, Rose}
+use Rattle.io_traits.specs.Told.{Grows, GrowsByFront, SameFiles, Rose}
 use Rattle.command_parts.specs.Outside.{FilesOutside, Outside, Output, OnlyRead}
 use Rattle.command_parts.specs.Refusal.{refusal_line}
 use Rattle.command_parts.specs.declared.refusal.Refusal.{Refusal}
@@ -11,6 +11,7 @@ use Rattle.command_parts.specs.declared.status.Status.{Status}
 use Rattle.command_parts.specs.declared.status.Status.TheVariants as status
 use Rattle.asm_text.specs.declared.making.Reason.{Reason}
 use Rattle.asm_text.specs.declared.making.Reason.TheVariants.{ReadFault, NoMemory, Faulty}
+use Rattle.command_parts.specs.Files.{WritesFile, WritesFront}
 
 -- what was read for: the bytes that are due, or why there are none
 abbrev pub MadeFile : Type 0
@@ -45,20 +46,6 @@ ReadsFor IsDue IsTold before after (Ok bytes) = IsDue bytes.items × OnlyRead be
 ReadsFor IsDue IsTold before after (Err reason) = HasReason IsTold reason before after
 
 -- ---- writing
-
--- The file of this name has these bytes. Other files keep theirs, and no call on files failed.
-pub record WritesFile {S : Type 0} (name bytes : List ℕ) (before after : FilesOutside S) : Type 0 where
-  pub file : Tells (after.held name) bytes
-  pub others : OtherFiles name before.held after.held
-  pub reading : after.reading ≡ before.reading
-  pub writing : after.writing ≡ before.writing
-
--- Writing failed: the file has the bytes that it had, as it could not be begun, or a front of these.
-pub record WritesFront {S : Type 0} (name bytes : List ℕ) (before after : FilesOutside S) : Type 0 where
-  pub file : (after.held name ≡ before.held name) ⊎ ((n : ℕ) × (n ≤ length bytes) × Tells (after.held name) (take n bytes))
-  pub others : OtherFiles name before.held after.held
-  pub reading : after.reading ≡ before.reading
-  pub writing : Rose before.writing after.writing
 
 abbrev pub WritesAs : {S : Type 0} → (name bytes : List ℕ) → FilesOutside S → FilesOutside S → Status → Type 0
 WritesAs name bytes before after status.Done = WritesFile name bytes before after

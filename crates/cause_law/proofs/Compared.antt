@@ -3,7 +3,7 @@
 use Rattle.std.proofs.Common.{◌≡◌, ◌≢◌, ◌∙◌, ℕ, Bool, true, false, cond, List, [], ◌++◌, Option, Some, None, refl, sym, ap, subst}
 use Rattle.std.specs.Prelude.{slice_index_or, ◌||◌}
 use Rattle.std.specs.Str.{bytes_eq}
-use Rattle.std.proofs.lemmas.Bool.{false≢true, false_from_ne_true}
+use Rattle.std.proofs.lemmas.Bool.{false≢true, false_from_ne_true, or_parts}
 use Rattle.std.proofs.lemmas.Slice.Eq.{bytes_eq-Decides}
 use Rattle.cloak_base.proofs.Pages.{same_page-self}
 use Rattle.cloak_base.specs.declared.names.PageId.{PageId}
@@ -11,8 +11,9 @@ use Rattle.cloak_base.specs.Random.{Random}
 use Rattle.cloak_model.specs.Cloaking.{CloakedMemory, AfterSettling, AfterOffer, owed_in, owes, owing_frame, settle, settle_if, settle_owed, settle_frame_if, with_comparison, taken, compared, unless_missed, offer}
 use Rattle.cloak_model.specs.Ledger.{vector_of}
 use Rattle.cause_law.specs.Presented.{Differs, at_comparison}
-use Rattle.cause_law.proofs.Kept.{IsKept, IsHome, kept_settled, housed, owes_page}
+use Rattle.cause_law.proofs.Kept.{IsKept, IsHome, kept_settled, housed}
 use Rattle.cause_law.proofs.Settled.{settles}
+use Rattle.cloak_model.proofs.Owing.{owes_page}
 
 -- A missing draw leaves a mark, which stays.
 
@@ -37,10 +38,6 @@ frame_marks : (f : Option ℕ) (m : CloakedMemory) → Marks (settle_frame_if f 
 frame_marks None m = refl
 frame_marks (Some f) m = settle_marks f m
 
-neither : (a b : Bool) → (a || b) ≡ false → (a ≡ false) × (b ≡ false)
-neither true b is = absurd (false≢true (sym is))
-neither false b is = (refl, is)
-
 -- Neither settling before a comparison lacked a draw, nor was one missing before.
 pub record LacksNoDraw (q : PageId) (g : ℕ) (m : CloakedMemory) : Type 0 where
   pub first : (settle g m).missed ≡ false
@@ -51,8 +48,8 @@ pub drawn_so : (q : PageId) (g : ℕ) (m : CloakedMemory) → (at_comparison q g
     LacksNoDraw q g m
 drawn_so q g m drawn =
     let m' : CloakedMemory = (settle g m).memory in
-    let two = neither _ _ (sym (frame_marks (owing_frame m' q) m') ∙ drawn) in
-    let one = neither _ _ (sym (settle_marks g m) ∙ two.1) in
+    let two = or_parts _ _ (sym (frame_marks (owing_frame m' q) m') ∙ drawn) in
+    let one = or_parts _ _ (sym (settle_marks g m) ∙ two.1) in
     record { first = one.0; second = two.0; before = one.1 }
 
 -- An offer was refused: it is not granted, though no draw is missing.
@@ -138,7 +135,7 @@ unless_by : (P : CloakedMemory → Type 0) (s : AfterSettling) (m : CloakedMemor
     Tells P (cond missed (record { memory = s.memory; ciphers = s.ciphers; granted = false })
     (record { memory = o.memory; ciphers = s.ciphers ++ o.ciphers; granted = o.granted }))
 unless_by P s m o true marks is tells =
-    λ refused. absurd (false≢true (sym (neither _ _ (sym marks ∙ refused.drawn)).0 ∙ is))
+    λ refused. absurd (false≢true (sym (or_parts _ _ (sym marks ∙ refused.drawn)).0 ∙ is))
 unless_by P s m o false marks is tells =
     λ refused. tells (record { granted = refused.granted; drawn = refused.drawn })
 

@@ -1,5 +1,5 @@
 -- What follows a step: if it met a violation, the domain of this ends, or one more is counted.
-use Rattle.std.proofs.Common.{◌≡◌, ◌∙◌, ◌<◌, ◌⊎◌, ◌+◌, ◌-◌, ◌^◌, ℕ, zero, suc, Bool, true, false, List, [], ◌∷◌, length, Option, Some, None, refl, sym, ap, subst, arith, inl, inr}
+use Rattle.std.proofs.Common.{◌≡◌, ◌∙◌, ◌<◌, ◌⊎◌, ◌+◌, ◌-◌, ◌^◌, ℕ, Bool, true, false, List, length, Option, Some, None, refl, sym, ap, subst, inl, inr}
 use Rattle.std.specs.Prelude.{min, slice_get, slice_set}
 use Rattle.std.proofs.lemmas.List.{length-set}
 use Rattle.cloak_base.specs.declared.causes.Violation.{Violation}
@@ -18,12 +18,13 @@ use Rattle.cloak_model.specs.Joint.{Turn, hart_in, memory_of, outside_ended, aft
 use Rattle.cloak_model.specs.KernelStep.{ticked}
 use Rattle.cloak_model.specs.Parts.{Joint}
 use Rattle.cloak_model.specs.World.{World, Cloaked}
-use Rattle.domain_isolation.proofs.InOrder.{same_some}
 use Rattle.cause_law.specs.Causes.{EndsBy, CountsRefused}
 use Rattle.cause_law.proofs.Asked.{Calm, calms_end}
 use Rattle.cause_law.proofs.Kept.{IsKept}
 use Rattle.cause_law.proofs.Over.{AreEmpty, empty_set, ended_empty, AreListed, ended_listed}
 use Rattle.cause_law.proofs.Resumed.{resume_leaves}
+use Rattle.std.proofs.lemmas.Option.{same_Some}
+use Rattle.cloak_base.proofs.Lists.{slice_get-set_same}
 
 -- A step itself leaves the list of what ended, and the count.
 
@@ -178,11 +179,6 @@ pub record IsSame (j j' : Joint) : Type 0 where
   pub listed : j'.ended ≡ j.ended
   pub refused : j'.refused ≡ j.refused
 
-pub set_there : {A : Type 0} (xs : List A) (i : ℕ) (x : A) → i < length xs → slice_get (slice_set xs i x) i ≡ Some x
-set_there [] i x low = absurd (omega (arith, low))
-set_there (y ∷ xs) zero x low = refl
-set_there (y ∷ xs) (suc i) x low = set_there xs i x (omega (arith, low))
-
 end_does : (j : Joint) (t : Turn) (domain : Domain) (v : Violation) → IsSame j t.joint → length j.ended ≡ 4 →
     slice_get j.domains (domain_met v) ≡ Some domain → domain.control.ended ≡ false →
     EndsBy j (end_domain (domain_met v) domain v t).joint v
@@ -197,7 +193,7 @@ end_does j t domain v same places there goes =
       domains = ap (λ (l : List Domain). slice_set l (domain_met v) (ended_domain domain)) same.domains;
       listed = listed;
       entry = λ low. ap (λ (l : List (Option Violation)). slice_get l (domain_met v)) listed
-          ∙ set_there j.ended (domain_met v) (Some v) (subst (λ (n : ℕ). domain_met v < n) (sym places) low);
+          ∙ slice_get-set_same j.ended (domain_met v) (Some v) (subst (λ (n : ℕ). domain_met v < n) (sym places) low);
       refused = same.refused;
     }
 
@@ -217,7 +213,7 @@ once_does : (j : Joint) (t : Turn) (domain : Domain) (v : Violation) (over : Boo
 unfolding ends_once
 once_does j t domain v true same places there over =
     refuses_does j t v same
-    (λ other is. ap (λ (x : Domain). x.control.ended) (same_some other domain (sym is ∙ there)) ∙ over)
+    (λ other is. ap (λ (x : Domain). x.control.ended) (same_Some other domain (sym is ∙ there)) ∙ over)
 once_does j t domain v false same places there goes = inl (end_does j t domain v same places there goes)
 
 resumed_does : (j : Joint) (t : Turn) (found : Option Domain) (v : Violation) → IsSame j t.joint →
@@ -242,7 +238,7 @@ unfolding ends_asked
 asked_does j t domain v None same places there goes is =
     let clash : None ≡ Some domain = sym is ∙ there in absurd cc
 asked_does j t domain v (Some other) same places there goes is =
-    let it : other ≡ domain = same_some other domain (sym is ∙ there) in
+    let it : other ≡ domain = same_Some other domain (sym is ∙ there) in
     end_does j t other v same places is (ap (λ (x : Domain). x.control.ended) it ∙ goes)
 
 -- at a question of a context of this domain

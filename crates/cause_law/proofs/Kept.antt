@@ -7,12 +7,15 @@ use Rattle.std.specs.Str.{bytes_eq}
 use Rattle.std.proofs.lemmas.Bool.{false≢true, cases_lt, ltb-true, ltb-false}
 use Rattle.std.proofs.lemmas.List.{get_or-set_same, get_or-set_other, get_or_past, length-set}
 use Rattle.std.proofs.lemmas.List.Sums.{fails_before_first, passes_at_first}
-use Rattle.cloak_base.proofs.Pages.{same_page_tells, same_page-self}
+use Rattle.cloak_base.proofs.Pages.{same_page-self}
 use Rattle.cloak_base.specs.declared.names.PageId.{PageId}
 use Rattle.cloak_model.specs.Cloaking.{CloakedMemory, AfterSettling, AfterOffer, owed_in, owes, owing_frame, settle, settle_frame_if, with_owed, with_comparison, taken, compared, unless_missed, offer}
-use Rattle.domain_isolation.proofs.InOrder.{decided, same_some}
+use Rattle.domain_isolation.proofs.InOrder.{decided}
 use Rattle.kernel_isolation.proofs.Settlings.{HasPlaces}
-use Rattle.cause_law.proofs.Settled.{Settles, settles, owed_within}
+use Rattle.cause_law.proofs.Settled.{Settles, settles}
+use Rattle.std.proofs.lemmas.Option.{same_Some}
+use Rattle.cloak_model.proofs.Offering.{frame_stays_clean}
+use Rattle.cloak_model.proofs.Owing.{owes_page, owed_within}
 
 pub record IsKept (m : CloakedMemory) : Type 0 where
   pub places : HasPlaces m
@@ -44,16 +47,6 @@ kept_settled f m kept =
       once = λ g h q one two. kept.once g h q (still_owed f m _ s g q one) (still_owed f m _ s h q two);
     }
 
--- a frame that was owed nothing is still owed nothing
-clean_settled : (f : ℕ) (m : CloakedMemory) → IsKept m → (g : ℕ) → owed_in m g ≡ None →
-    owed_in (settle f m).memory g ≡ None
-clean_settled f m kept g none =
-    let s = settles f m kept.places in
-    elim (decided g f) [
-      | inl same ↦ subst (λ (x : ℕ). owed_in (settle f m).memory x ≡ None) (sym same) s.clean
-      | inr other ↦ s.owed g other ∙ none
-    ]
-
 -- A memory after others of its frames were settled: those that owed nothing are as they were.
 pub record Extends (m after : CloakedMemory) : Type 0 where
   pub count : length after.ram ≡ length m.ram
@@ -75,7 +68,7 @@ extends_settled f m kept =
     let s = settles f m kept.places in
     record {
       count = s.count;
-      clean = clean_settled f m kept;
+      clean = λ g none. frame_stays_clean g (Some f) m none;
       ram = λ g none. elim (decided g f) [
         | inl same ↦ subst (λ (x : ℕ). owed_in m x ≡ None →
             slice_index_or (settle f m).memory.ram x [] ≡ slice_index_or m.ram x []) (sym same)
@@ -85,13 +78,6 @@ extends_settled f m kept =
     }
 
 -- The frame that is owed a page is settled.
-
-pub owes_page : (q : PageId) (o : Option PageId) → owes q o ≡ true → o ≡ Some q
-owes_page q None is = absurd (false≢true is)
-owes_page q (Some p) is = elim (same_page_tells p q) [
-  | inl told ↦ ap (λ (x : PageId). Some x) told.1
-  | inr told ↦ absurd (false≢true (sym told.0 ∙ is))
-]
 
 pub record Housed (q : PageId) (m : CloakedMemory) (s : AfterSettling) : Type 0 where
   pub kept : IsKept s.memory
@@ -141,7 +127,7 @@ now_owed q g m f p is = elim (decided f g) [
       elim (cases_lt g (length m.ledger.owed)) [
         | inl low ↦ inl (
           same,
-          same_some p q (sym here ∙ get_or-set_same m.ledger.owed g (Some q) None low),
+          same_Some p q (sym here ∙ get_or-set_same m.ledger.owed g (Some q) None low),
         )
         | inr past ↦ not_none p (owed_in (with_owed g (Some q) m) g)
             (get_or_past (slice_set m.ledger.owed g (Some q)) g None

@@ -13,7 +13,6 @@ use Rattle.cloak_model.specs.declared.inside.Copied.{Copied}
 use Rattle.cloak_model.specs.declared.inside.Copied.TheVariants as copied
 use Rattle.cloak_model.specs.declared.inside.Ran.{Ran}
 use Rattle.cloak_model.specs.declared.inside.Ran.TheVariants as ran
-use Rattle.cloak_model.specs.declared.inside.Went.{Went}
 use Rattle.cloak_model.specs.declared.inside.Went.TheVariants as went
 use Rattle.cloak_model.specs.declared.item.Item.{Item}
 use Rattle.cloak_model.specs.declared.image.Program.{Program}
@@ -25,7 +24,7 @@ use Rattle.cloak_model.specs.DomainState.{Control, Domain, started_control, star
 use Rattle.cloak_model.specs.DomainStep.{domain_script, DomainStepped, instruction_ended, copy_ended, after_write, phase_step, step_if, domain_step, interrupt_if, interrupt, answer_taken, resume_told, resume_slot}
 use Rattle.cloak_model.specs.Ending.{ended_domain}
 use Rattle.cloak_model.specs.Hart.{Hart}
-use Rattle.cloak_model.specs.Joint.{outside_ended, after_outside, outside_step, domain_ended, after_domain_step, interrupt_ended, after_interrupt, by_interrupt, by_running, inside_step, turn_of}
+use Rattle.cloak_model.specs.Joint.{outside_ended, after_outside, outside_step, after_domain_step, after_interrupt, by_interrupt, by_running, inside_step, turn_of}
 use Rattle.cloak_model.specs.KernelStep.{ticked}
 use Rattle.cloak_model.specs.Opening.{started_domains}
 use Rattle.cloak_model.specs.Parts.{Joint}
@@ -36,7 +35,9 @@ use Rattle.cloak_model.specs.World.{World}
 use Rattle.cloak_model.specs.Script.{played}
 use Rattle.cloak_model.proofs.Playing.{by_plain, by_copy_in, by_copy_out, by_ecall}
 use Rattle.hypercall_kinds.proofs.ByKinds.{hypercall_ended}
-use Rattle.domain_isolation.proofs.InOrder.{decided, get_set_other}
+use Rattle.domain_isolation.proofs.InOrder.{decided}
+use Rattle.domain_isolation.proofs.InsideSteps.{ended_domains, interrupt_ended_domains}
+use Rattle.cloak_base.proofs.Lists.{slice_get-set_other}
 
 -- If it has ended, no slot has a context.
 abbrev pub IsEmptyIf : Control → Type 0
@@ -59,7 +60,7 @@ empty_set domains i new all is d domain there over slot = elim (decided d i) [
       (ap (slice_get (slice_set domains i new)) (sym same) ∙ there) in
       ap (λ (x : Domain). context_at x.control.contexts slot) it
       ∙ is (ap (λ (x : Domain). x.control.ended) (sym it) ∙ over) slot
-  | inr other ↦ all d domain (sym (get_set_other domains i d new other) ∙ there) over slot
+  | inr other ↦ all d domain (sym (slice_get-set_other domains i d new other) ∙ there) over slot
 ]
 
 -- Programs as a step itself leaves them: as they were, or one is changed. That has ended if it had before, and has then
@@ -89,7 +90,7 @@ moved_listed old new ended (Sets i was now there same over is) all =
           let it : domain ≡ now = set_at old i now domain (ap (slice_get (slice_set old i now)) (sym here) ∙ found) in
           ap (λ (x : Domain). x.control.ended) it ∙ over ∙ all i was (subst (λ (n : ℕ). n < 4) here low) there
           ∙ ap (λ (n : ℕ). is_some (slice_index_or ended n None)) (sym here)
-      | inr other ↦ all d domain low (sym (get_set_other old i d now other) ∙ found)
+      | inr other ↦ all d domain low (sym (slice_get-set_other old i d now other) ∙ found)
     ])
 
 -- the end of one
@@ -108,7 +109,7 @@ ended_listed domains ended i domain v places all d found low there = elim (decid
       ∙ ap (λ (o : Option Violation). is_some o) (sym (get_or-set_same ended i (Some v) None within))
       ∙ ap (λ (n : ℕ). is_some (slice_index_or (slice_set ended i (Some v)) n None)) (sym here)
   | inr other ↦
-      all d found low (sym (get_set_other domains i d (ended_domain domain) other) ∙ there)
+      all d found low (sym (slice_get-set_other domains i d (ended_domain domain) other) ∙ there)
       ∙ ap (λ (o : Option Violation). is_some o) (sym (get_or-set_other ended i d (Some v) None other))
 ]
 
@@ -245,30 +246,17 @@ outside_moves j number items _ = Stays refl
 
 -- A hart inside.
 
--- what it leaves of programs is what the context's step left
-domain_same : (j : Joint) (number : ℕ) (h : Hart) (d : ℕ) (w : World) (g : Went) →
-    (domain_ended j number h d w g).joint.domains ≡ j.domains
-unfolding domain_ended
-domain_same j number h d w went.Stay = refl
-domain_same j number h d w _ = refl
-
-interrupt_same : (j : Joint) (number : ℕ) (h : Hart) (items : List Item) (g : Went) →
-    (interrupt_ended j number h items g).joint.domains ≡ j.domains
-unfolding interrupt_ended
-interrupt_same j number h items went.Stay = refl
-interrupt_same j number h items _ = refl
-
 due_moves : (due : Bool) (j : Joint) (number : ℕ) (h : Hart) (d slot : ℕ) (was : Domain) (c : Context) →
     slice_get j.domains d ≡ Some was → context_at was.control.contexts slot ≡ Some c →
     Moves j.domains (by_interrupt due j number h d slot was).joint.domains
 unfolding by_interrupt after_interrupt after_domain_step
 due_moves true j number h d slot was c there has =
     let over = over_interrupt slot was.control in
-    Sets d was _ there (interrupt_same _ number h _ (interrupt slot was.control).went) over
+    Sets d was _ there (interrupt_ended_domains _ number h _ (interrupt slot was.control).went) over
     (λ is now. goes_on was.control slot c is has (sym over ∙ now))
 due_moves false j number h d slot was c there has =
     let over = over_step slot was _ in
-    Sets d was _ there (domain_same _ number h d _ _) over
+    Sets d was _ there (ended_domains _ number h d _ _) over
     (λ is now. goes_on was.control slot c is has (sym over ∙ now))
 
 runs_there : (number : ℕ) (o : Option Context) (P : Type 0) → runs_on number o ≡ true →

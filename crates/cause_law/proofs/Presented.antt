@@ -1,6 +1,6 @@
 -- A page that is presented to the step of a context, in a frame that differs, is the step's violation.
-use Rattle.std.proofs.Common.{◌≡◌, ◌∙◌, ◌%◌, ℕ, zero, suc, Bool, true, false, cond, List, [], ◌∷◌, Option, Some, None, refl, sym, ap, subst, eq-eqb}
-use Rattle.std.specs.Prelude.{nat_le, slice_get, slice_set, ◌==◌, ◌&&◌}
+use Rattle.std.proofs.Common.{◌≡◌, ◌∙◌, ◌%◌, ℕ, Bool, true, false, cond, Option, Some, None, refl, sym, ap, subst, eq-eqb}
+use Rattle.std.specs.Prelude.{nat_le, ◌==◌, ◌&&◌}
 use Rattle.std.proofs.lemmas.Bool.{lt-leb, eqb-true}
 use Rattle.cloak_base.specs.declared.causes.Violation.{Violation}
 use Rattle.cloak_base.specs.declared.causes.Violation.TheVariants as violation
@@ -39,6 +39,7 @@ use Rattle.cloak_model.specs.Script.{played}
 use Rattle.cloak_model.proofs.Playing.{plain_played, copy_in_played, copy_out_played}
 use Rattle.cause_law.specs.Presented.{hart_of_step, StepsInside, world_inside, Executes, AsksAt, Fetches, LoadsAt, StoresAt, AtomicAt, CopiesFrom, CopiesTo, PresentsPage}
 use Rattle.cause_law.proofs.Refused.{page_is_refused}
+use Rattle.cloak_base.proofs.Lists.{set_itself}
 
 -- what is left of a step that was stopped
 abbrev halted : Domain → World → Told DomainStepped
@@ -263,7 +264,7 @@ asked_stops slot d c q va kind begun w there lies (CopiesTo done total byte phas
     (question_at q va (byte_address (buffer c) done) kind Store w w at is refl) stops
 
 -- the step of the hart is that of its context
-context_turn : (m : Moment) (s : StepsInside m) →
+pub context_turn : (m : Moment) (s : StepsInside m) →
     step_before_end m
     ≡ after_domain_step m.joint (next_hart m) (ticked (hart_of_step m)) (domain_of s.ctx)
     (domain_step (slot_of s.ctx) s.domain (world_inside m s))
@@ -280,12 +281,6 @@ context_turn m s =
     ∙ (ap (λ (b : Bool). by_interrupt b j number h e slot s.domain) s.goes
     ∙ ap (λ (o : Option Context). after_domain_step j number h e
     (domain_step slot s.domain (Cloaked (cloak_of j.memory h e (pages_for s.domain o))))) s.there)))
-
--- what is there, written back, changes nothing
-set_itself : {A : Type 0} (xs : List A) (i : ℕ) (x : A) → slice_get xs i ≡ Some x → slice_set xs i x ≡ xs
-set_itself [] i x is = absurd cc
-set_itself (y ∷ xs) zero x is = let same : y ≡ x = cc in ap (λ (z : _). z ∷ xs) (sym same)
-set_itself (y ∷ xs) (suc i) x is = ap (λ (l : List _). y ∷ l) (set_itself xs i x is)
 
 -- The step has this violation, and leaves each program's contexts and resources as they were.
 pub record IsStopped (m : Moment) (v : Violation) : Type 0 where

@@ -15,7 +15,6 @@ use Rattle.cloak_model.specs.Joint.{Moment, Turn, next_hart, domain_met, answers
 use Rattle.cloak_model.specs.Opening.{RunEdge}
 use Rattle.cloak_model.specs.Parts.{Joint}
 use Rattle.cloak_model.specs.Run.{Run, run_from, unless_stopped, turns_from, joint_after, closing, first_moment, run_of}
-use Rattle.domain_isolation.proofs.InOrder.{same_some}
 use Rattle.kernel_isolation.proofs.Isolated.{of_opened}
 use Rattle.kernel_isolation.proofs.Numbers.{number_at}
 use Rattle.kernel_isolation.proofs.Opened.{is_opened}
@@ -30,6 +29,7 @@ use Rattle.cause_law.proofs.Presented.{IsStopped, page_violates}
 use Rattle.cause_law.proofs.Resumed.{space_id, refusal}
 use Rattle.cause_law.proofs.Steps.{Cause, turn_presents, own_at, resumed_so}
 use Rattle.cause_law.proofs.Stopped.{told_ends}
+use Rattle.std.proofs.lemmas.Option.{same_Some}
 
 -- What is presented is refused.
 
@@ -365,7 +365,7 @@ does_list b r n d v w low cause (inl ends) is =
     elim (in_list j.ended (domain_met w) d (Some w) (Some v)
     (ap (λ (l : List (Option Violation)). slice_get l d) (sym ends.listed) ∙ is)) [
       | inl here ↦
-          let same : v ≡ w = same_some v w here.1 in
+          let same : v ≡ w = same_Some v w here.1 in
           inr (subst (ListsIt b r n d) (sym same)
           (record { own = sym here.0; presents = presents_at b r n w low cause; ends = ends }))
       | inr there ↦ inl there

@@ -1,14 +1,15 @@
 -- What settling a frame leaves: it owes nothing, every other frame stays, and it is shown if it was owed a page.
-use Rattle.std.proofs.Common.{◌≡◌, ◌≢◌, ◌∙◌, ◌<◌, ℕ, Bool, false, cond, List, [], ◌∷◌, length, Option, Some, None, is_some, refl, sym, ap, subst, inl, inr}
+use Rattle.std.proofs.Common.{◌≡◌, ◌≢◌, ◌∙◌, ◌<◌, ℕ, Bool, false, cond, List, [], ◌∷◌, length, Option, Some, None, is_some, refl, sym, ap, subst}
 use Rattle.std.specs.Prelude.{slice_index_or, slice_set}
-use Rattle.std.proofs.lemmas.Bool.{false≢true, cases_lt}
-use Rattle.std.proofs.lemmas.List.{get_or-set_same, get_or-set_other, get_or_past, length-set}
+use Rattle.std.proofs.lemmas.Bool.{false≢true}
+use Rattle.std.proofs.lemmas.List.{get_or-set_same, get_or-set_other, length-set}
 use Rattle.cloak_base.specs.declared.names.PageId.{PageId}
 use Rattle.cloak_base.specs.Random.{Random}
 use Rattle.cloak_model.specs.Ahead.{is_owed}
 use Rattle.cloak_model.specs.Cloaking.{CloakedMemory, AfterSettling, owed_in, settle_owed, settle_if, settle}
 use Rattle.cloak_model.specs.Ledger.{vector_of}
 use Rattle.kernel_isolation.proofs.Settlings.{HasPlaces}
+use Rattle.cloak_model.proofs.Owing.{owed_within}
 
 -- the frames that the kernel is shown by settling one: itself, if it was owed a page
 abbrev pub shown_if : Bool → ℕ → List ℕ → List (ℕ × List ℕ)
@@ -22,13 +23,6 @@ pub record Settles (f : ℕ) (m : CloakedMemory) (s : AfterSettling) : Type 0 wh
   pub ram : (g : ℕ) → g ≢ f → slice_index_or s.memory.ram g [] ≡ slice_index_or m.ram g []
   pub spared : is_owed m f ≡ false → slice_index_or s.memory.ram f [] ≡ slice_index_or m.ram f []
   pub shown : s.ciphers ≡ shown_if (is_owed m f) f (slice_index_or s.memory.ram f [])
-
--- what is owed a page has its place
-pub owed_within : (m : CloakedMemory) (f : ℕ) (q : PageId) → owed_in m f ≡ Some q → f < length m.ledger.owed
-owed_within m f q some = elim (cases_lt f (length m.ledger.owed)) [
-  | inl h ↦ h
-  | inr h ↦ let clash : None ≡ Some q = sym (get_or_past m.ledger.owed f None h) ∙ some in absurd cc
-]
 
 settles_so : (f : ℕ) (q : PageId) (bytes : List ℕ) (m : CloakedMemory) (s : AfterSettling) → HasPlaces m →
     owed_in m f ≡ Some q → s.memory.ram ≡ slice_set m.ram f bytes →

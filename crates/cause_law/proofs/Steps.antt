@@ -1,8 +1,7 @@
 -- A step of the joint machine: the violation with which it ends is of something that was presented in it, and so is
 -- refused what is presented.
-use Rattle.std.proofs.Common.{◌≡◌, ◌∙◌, ◌⊎◌, ℕ, zero, suc, Bool, true, false, cond, List, length, Option, Some, None, Ok, is_some, eq-eqb, refl, sym, ap, subst, inl, inr}
+use Rattle.std.proofs.Common.{◌≡◌, ◌∙◌, ◌⊎◌, ℕ, Bool, true, false, cond, List, length, Option, Some, None, Ok, is_some, eq-eqb, refl, sym, ap, subst, inl, inr}
 use Rattle.std.specs.Prelude.{slice_get, slice_index_or, is_none}
-use Rattle.std.specs.List.{find}
 use Rattle.std.proofs.lemmas.Bool.{false≢true}
 use Rattle.cloak_base.specs.declared.causes.Violation.{Violation}
 use Rattle.cloak_base.specs.declared.causes.Violation.TheVariants as violation
@@ -13,9 +12,9 @@ use Rattle.cloak_model.specs.declared.item.Item.{Item}
 use Rattle.cloak_model.specs.declared.outcome.Kernel.{Kernel}
 use Rattle.cloak_model.specs.declared.outcome.Kernel.TheVariants as kernel
 use Rattle.cloak_model.specs.declared.regime.InsideRegime.{InsideRegime}
-use Rattle.cloak_model.specs.Ahead.{is_owed, settle_found, settle_while, settle_touched, settled_step, made_after}
+use Rattle.cloak_model.specs.Ahead.{settle_touched, settled_step, made_after}
 use Rattle.cloak_model.specs.Asking.{Told}
-use Rattle.cloak_model.specs.Cloaking.{CloakedMemory, AfterSettling, seen_in, settle}
+use Rattle.cloak_model.specs.Cloaking.{CloakedMemory, seen_in}
 use Rattle.cloak_model.specs.Contexts.{Context, context_at, domain_of, slot_of, is_root}
 use Rattle.cloak_model.specs.Csr.{satp_of, interrupt_due}
 use Rattle.cloak_model.specs.DomainAlone.{runs_on}
@@ -27,12 +26,12 @@ use Rattle.cloak_model.specs.Joint.{Moment, Turn, next_hart, hart_in, cloak_of, 
 use Rattle.cloak_model.specs.KernelStep.{kernel_step, ticked}
 use Rattle.cloak_model.specs.Parts.{Joint}
 use Rattle.cloak_model.specs.Resuming.{resume}
-use Rattle.cloak_model.specs.StepFrames.{step_frames}
 use Rattle.cloak_model.specs.Walk.{walk}
 use Rattle.cloak_model.specs.World.{World, MidStep, Flat, Cloaked, Alone, items_of}
 use Rattle.cloak_model.specs.Script.{played}
 use Rattle.settling_ahead.proofs.Laws.{keeps_rest}
 use Rattle.settling_ahead.proofs.Touching.{writes_touched_alone}
+use Rattle.kernel_isolation.proofs.Ahead.{touched_keeps}
 use Rattle.kernel_isolation.proofs.Accounts.{ram_seen}
 use Rattle.kernel_isolation.proofs.Numbers.{number_at}
 use Rattle.kernel_isolation.proofs.Turns.{IsSteady}
@@ -207,22 +206,6 @@ inside_meets m ctx (Some was) runs steady kept is =
 
 -- A hart outside.
 
-found_kept : (o : Option ℕ) (next : CloakedMemory → AfterSettling) (m : CloakedMemory) → IsKept m →
-    ((n : CloakedMemory) → IsKept n → IsKept (next n).memory) → IsKept (settle_found o next m).memory
-found_kept None next m kept more = kept
-found_kept (Some f) next m kept more = more (settle f m).memory (kept_settled f m kept)
-
-while_kept : (frames : List (List ℕ) → List ℕ) (n : ℕ) (m : CloakedMemory) → IsKept m →
-    IsKept (settle_while frames n m).memory
-unfolding settle_while
-while_kept frames zero m kept = kept
-while_kept frames (suc n) m kept =
-    found_kept (find (is_owed m) (frames m.ram)) (settle_while frames n) m kept (λ x there. while_kept frames n x there)
-
-touched_kept : (h : Hart) (disk : List ℕ) (m : CloakedMemory) → IsKept m → IsKept (settle_touched h disk m).memory
-unfolding settle_touched
-touched_kept h disk m kept = while_kept (λ ram. step_frames h ram disk) (length m.ledger.owed) m kept
-
 -- the machine after the plain step of a hart outside
 abbrev pub told_outside : Moment → Told SteppedKernel
 told_outside m = settled_step (hart_of_step m) m.joint.disk (cloak_outside m.joint.memory (hart_of_step m))
@@ -239,7 +222,7 @@ unfolding settled_step made_after
 outside_leaves m kept =
     let h = hart_of_step m in
     let s = settle_touched h m.joint.disk m.joint.memory in
-    let there = touched_kept h m.joint.disk m.joint.memory kept in
+    let there = touched_keeps IsKept kept_settled h m.joint.disk m.joint.memory kept in
     record {
       kept = record {
         places = there.places ∙ sym (writes_touched_alone h m.joint.disk (seen_in s.memory)).count

@@ -1,10 +1,9 @@
 -- A step in which a question of a program was stopped ends its domain, or stops the run.
-use Rattle.std.proofs.Common.{◌≡◌, ◌≢◌, ◌∙◌, ◌⊎◌, ℕ, zero, Bool, true, false, cond, List, [], ◌∷◌, ◌++◌, Option, Some, None, Result, Ok, Err, is_some, eq-eqb, refl, sym, ap, subst, arith, inl, inr, append-nil, append_assoc, ne_eqb}
+use Rattle.std.proofs.Common.{◌≡◌, ◌≢◌, ◌∙◌, ◌⊎◌, ℕ, zero, Bool, true, false, cond, List, [], ◌∷◌, ◌++◌, Option, Some, None, Result, Ok, Err, is_some, eq-eqb, refl, sym, ap, subst, arith, inl, inr, append_assoc, ne_eqb}
 use Rattle.std.specs.Prelude.{slice_get, ◌||◌, ◌==◌}
 use Rattle.std.specs.List.{list_any, Contains}
-use Rattle.std.proofs.lemmas.Bool.{false≢true, or_right}
+use Rattle.std.proofs.lemmas.Bool.{false≢true, or_right, or_cases}
 use Rattle.std.proofs.lemmas.List.Elements.{filter-append, Contains-append_right}
-use Rattle.cloak_base.specs.declared.causes.Shown.{Shown}
 use Rattle.cloak_base.specs.declared.causes.Stop.TheVariants as stop
 use Rattle.cloak_base.specs.declared.causes.Violation.{Violation}
 use Rattle.cloak_model.specs.declared.answer.Answer.{Answer}
@@ -36,7 +35,7 @@ use Rattle.kernel_isolation.proofs.Numbers.{number_at}
 use Rattle.kernel_isolation.proofs.Turns.{IsSteady}
 use Rattle.domain_isolation.proofs.Answers.{IsServing}
 use Rattle.domain_isolation.proofs.Endings.{end_world, end_leaves}
-use Rattle.domain_isolation.proofs.InOrder.{decided, same_some, get_set_same}
+use Rattle.domain_isolation.proofs.InOrder.{decided, get_set_same}
 use Rattle.domain_isolation.proofs.Played.{answers_of, answer_items, played_items, played_stopped}
 use Rattle.cloak_model.specs.Script.{played}
 use Rattle.domain_isolation.proofs.Steady.{is_halted}
@@ -44,6 +43,9 @@ use Rattle.script_fold.proofs.StepScripts.{of_domain, step_scripted}
 use Rattle.cause_law.specs.Causes.{kernel_ending, EndsOrStops}
 use Rattle.cause_law.specs.Presented.{hart_of_step}
 use Rattle.cause_law.proofs.Steps.{joint_outside, outside_turn}
+use Rattle.domain_isolation.proofs.InsideSteps.{with_leave, ended_items}
+use Rattle.std.proofs.lemmas.Option.{same_Some}
+use Rattle.cloak_base.proofs.Choices.{or_more}
 
 abbrev is_stop : Item → Bool
 is_stop (item.Stopped d) = true
@@ -138,16 +140,6 @@ outside_tells d m outside =
 
 -- A hart inside.
 
-left_half : (d : ℕ) (items : List Item) (s : Shown) → inward_half d (items ++ item.Leave s ∷ []) ≡ inward_half d items
-left_half d items s = filter-append (is_inward d) items (item.Leave s ∷ []) ∙ append-nil (inward_half d items)
-
-domain_half : (d : ℕ) (j : Joint) (number : ℕ) (h : Hart) (e : ℕ) (v : World) (g : Went) →
-    inward_half d (domain_ended j number h e v g).items ≡ inward_half d (items_of v)
-unfolding domain_ended
-domain_half d j number h e v (went.Leave s) = left_half d (items_of v) s
-domain_half d j number h e v (went.SpaceGone space s) = left_half d (items_of v) s
-domain_half d j number h e v _ = refl
-
 -- what is told of a stop is an answer that stops
 stop_answer : (a : Answer) (e : ℕ) → is_stop (answer_item e a) ≡ is_stopped a
 stop_answer told.Ok e = refl
@@ -169,11 +161,6 @@ stopped_answers d e (a ∷ answers) is =
     either_stops (is_inward d (answer_item e a)) (answer_item e a) (inward_half d (answer_items e answers))
     (is_stopped a) (list_any is_stopped answers) (stop_answer a e) (stopped_answers d e answers) is
 
--- the step of a program that is to stop
-halted_by : (missed some : Bool) → (missed || some) ≡ true → (missed ≡ true) ⊎ (some ≡ true)
-halted_by true some is = inl refl
-halted_by false some is = inr is
-
 missed_there : (v : World) (m : CloakedMemory) → is_missed v ≡ true → (memory_of v m).ledger.missed ≡ true
 missed_there (Cloaked c) m is = is
 missed_there _ m is = absurd (false≢true is)
@@ -190,7 +177,7 @@ domain_stops d j number h ctx v went.Stopped was new is halted own there = recor
   own = own;
   domain = new;
   there = get_set_same j.domains (domain_of ctx) was new there;
-  stops = elim (halted_by (is_missed v) (is_some (violation_of v)) halted) [
+  stops = elim (or_cases (is_missed v) (is_some (violation_of v)) halted) [
     | inl missed ↦ inl (missed_there v j.memory missed)
     | inr some ↦ inr some
   ];
@@ -235,7 +222,7 @@ played_tells d j number h ctx slot was w serving none owner there =
           played_items n s is_scripted.own w serving d
           ∙ ap (λ (l : List Item). inward_half d l ++ inward_half d (answer_items n answers)) none in
           let told = ap (list_any is_stop)
-          (sym (domain_half d _ number h (domain_of ctx) u.world u.answer.went ∙ half)) ∙ is in
+          (sym (ended_items d _ number h (domain_of ctx) u.world u.answer.went ∙ half)) ∙ is in
           let halts = played_stopped n (of_domain slot was) s is_scripted.own w is_scripted.ends serving.form
           (stopped_answers d n answers told) in
           domain_stops d j number h ctx u.world u.answer.went was u.answer.domain halts.stopped halts.halted
@@ -246,7 +233,7 @@ interrupt_tells : (d : ℕ) (inside : Option ℕ) (j : Joint) (number : ℕ) (h 
     Tells d inside (interrupt_ended j number h (item.Timer e ∷ []) g)
 unfolding interrupt_ended
 interrupt_tells d inside j number h e (went.Leave s) =
-    tells_none d inside _ (ap (list_any is_stop) (left_half d (item.Timer e ∷ []) s) ∙ none_if _ (item.Timer e) refl)
+    tells_none d inside _ (ap (list_any is_stop) (with_leave d (item.Timer e ∷ []) s) ∙ none_if _ (item.Timer e) refl)
 interrupt_tells d inside j number h e (went.SpaceGone space s) =
     tells_none d inside _ (none_if _ (item.Timer e) refl)
 interrupt_tells d inside j number h e _ = tells_none d inside _ (none_if _ (item.Timer e) refl)
@@ -298,15 +285,11 @@ end_writes d domain v t = record {
   none = λ e. (end_leaves d t.joint.memory).items e;
 }
 
-or_front : (s a b : Bool) → (a ≡ true → b ≡ true) → (s || a) ≡ true → (s || b) ≡ true
-or_front true a b more is = refl
-or_front false a b more is = more is
-
 front_any : (a b : List Item) → list_any is_stop b ≡ false → list_any is_stop (a ++ b) ≡ true →
     list_any is_stop a ≡ true
 front_any [] b none any = absurd (false≢true (sym none ∙ any))
 front_any (i ∷ a) b none any =
-    or_front (is_stop i) (list_any is_stop (a ++ b)) (list_any is_stop a) (λ later. front_any a b none later) any
+    or_more (is_stop i) (list_any is_stop (a ++ b)) (list_any is_stop a) (λ later. front_any a b none later) any
 
 -- what is told then was told by the step itself
 told_before : (d e : ℕ) (t t' : Turn) → EndsWith e t t' → TellsStop d t'.items → TellsStop d t.items
@@ -395,7 +378,7 @@ ends_or_stops d inside None t before after stops met is = elim stops.stops [
 ]
 ends_or_stops d None (Some v) t before after stops met is = let clash = stops.is in absurd cc
 ends_or_stops d (Some ctx) (Some v) t before after stops met is =
-    let same : ctx ≡ stops.ctx = same_some ctx stops.ctx stops.is in
+    let same : ctx ≡ stops.ctx = same_Some ctx stops.ctx stops.is in
     inl (asked_ends d ctx t stops.domain v (slice_get t.joint.domains (domain_of ctx)) before after
     (ap domain_of same ∙ stops.own)
     (ap (λ (c : ℕ). slice_get t.joint.domains (domain_of c)) same ∙ stops.there) is)

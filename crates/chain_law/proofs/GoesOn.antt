@@ -33,6 +33,7 @@ use Rattle.chain_law.proofs.Contents.{Has, IsOf, contents_are, file_at, has_cont
 use Rattle.chain_law.proofs.Making.{IsAt, made_byte, files_made, no_program}
 use Rattle.chain_law.proofs.Opened.{OpensFiles, IsSized, IsAmong, opens_files}
 use Rattle.chain_law.proofs.ZeroRuns.{left_unshown_are_zeros}
+use Rattle.cloak_base.proofs.Lists.{none_by}
 
 -- A page of a file of the earlier run is there as the next one begins, and each byte is the one that was stored last.
 pub record PageGoesOn (next earlier : MadeRun) (p : FilePage) (q : PageId) : Type 0 where
@@ -228,16 +229,12 @@ page_goes_on earlier next made made' goes p q is =
 
 -- And no page is there of another file.
 
-none_test : (test : Bool) (n : ℕ) → ◌≡◌ {A = Option ℕ} (cond test (Some n) None) None → test ≡ false
-none_test true n none = absurd cc
-none_test false n none = refl
-
 -- a file that is there has a place
 pub no_place : (number : ℕ) (held : List (Option Resource)) (k : ℕ) →
     holds_file number (slice_index_or held k None) ≡ true → position (holds_file number) held ≡ None → ⊥
 no_place number held k holds none = elim (cases_lt (position_or_len (holds_file number) held) (length held)) [
   | inl inside ↦
-      false≢true (sym (none_test (nat_lt (position_or_len (holds_file number) held) (length held)) _ none)
+      false≢true (sym (none_by (nat_lt (position_or_len (holds_file number) held) (length held)) _ none)
       ∙ lt-ltb (position_or_len (holds_file number) held) (length held) inside)
   | inr past ↦
       elim (cases_lt k (length held)) [

@@ -26,6 +26,7 @@ use Rattle.page_law.proofs.Given.{ComesBy, WasThere, IsNew, comes_by, new_at, af
 use Rattle.chain_law.proofs.Contents.{Has}
 use Rattle.chain_law.proofs.Making.{same_file}
 use Rattle.latest_store.proofs.Begun.{holds_itself, given_place, place_stays, get_other, get_same}
+use Rattle.cloak_model.proofs.Opening.{joint_domains}
 
 -- The size of a file.
 
@@ -292,10 +293,6 @@ joint_unique b m d program is n number holds = absurd (domains_none 0 d b.progra
 joint_from : (files : List FileContents) (b : Bundle) (m : CloakedMemory) → ComeFrom files (started_joint b m)
 unfolding started_joint
 joint_from files b m d program is n number holds = absurd (domains_none 0 d b.programs program is n number holds)
-
-joint_domains : (b : Bundle) (m : CloakedMemory) → (started_joint b m).domains ≡ started_domains 0 b.programs
-unfolding started_joint
-joint_domains b m = refl
 
 machine_opens : (b : Bundle) (from : Beginning) (o : RunEdge) → opening_from b from ≡ Ok o →
     OpensFiles (files_of from) o.joint

@@ -9,14 +9,15 @@ use Rattle.cloak_base.specs.declared.names.PageId.{PageId}
 use Rattle.rv_atomic.specs.Combine.{combined}
 use Rattle.cloak_model.specs.declared.image.Program.{Program}
 use Rattle.cloak_model.specs.DomainState.{Domain}
-use Rattle.cloak_model.specs.StoredFiles.{PageContent, FileContents}
+use Rattle.cloak_model.specs.StoredFiles.{FileContents}
 use Rattle.kernel_isolation.specs.Isolation.{joint_until}
 use Rattle.page_law.specs.Ciphers.{items_of_turn}
 use Rattle.page_law.specs.OwnPages.{context_of_step}
 use Rattle.latest_store.specs.Deeds.{step_moves, end_moves}
-use Rattle.latest_store.specs.LatestStore.{made_pages, made_programs, files_of, made_contents, made_file, made_files, resource_of_file, history_until}
+use Rattle.latest_store.specs.LatestStore.{made_pages, made_programs, files_of, made_file, made_files, resource_of_file, history_until}
 use Rattle.latest_store.specs.Moves.{Move, Makes, Stores, Combines, Copies, Zeros, Drops, Loads, covers, value_from, latest, loads_of, with_moves}
 use Rattle.chain_law.specs.Chain.{MadeRun, history, moves_until, latest_since, loads_since, LatestIsSince}
+use Rattle.latest_store.proofs.Begun.{contents_loads}
 
 pub since_append : (moves before : List Move) (q : PageId) (at : ℕ) →
     latest (moves ++ before) q at ≡ latest_since (latest before) moves q at
@@ -91,17 +92,10 @@ loads_append (Loads q address width ∷ moves) before d =
 
 -- An opening completes none.
 
-contents_load : (d e n page : ℕ) (contents : List (Option PageContent)) (history : List Move) →
-    loads_of d (made_contents e n page contents history) ≡ loads_of d history
-unfolding loads_of
-contents_load d e n page [] history = refl
-contents_load d e n page (None ∷ contents) history = contents_load d e n (page + 1) contents history
-contents_load d e n page (Some c ∷ contents) history = contents_load d e n (page + 1) contents _
-
 file_load : (d : ℕ) (f : FileContents) (o : Option ℕ) (history : List Move) →
     loads_of d (made_file f o history) ≡ loads_of d history
 file_load d f None history = refl
-file_load d f (Some n) history = contents_load d f.domain n 0 f.pages history
+file_load d f (Some n) history = contents_loads d f.domain n 0 f.pages history
 
 files_load : (d : ℕ) (domains : List Domain) (files : List FileContents) (history : List Move) →
     loads_of d (made_files domains files history) ≡ loads_of d history

@@ -16,6 +16,7 @@ use Rattle.cloak_model.specs.declared.item.Item.{Item}
 use Rattle.cloak_model.specs.Asking.{Told, Asking}
 use Rattle.cloak_model.specs.AskPages.{answer_item, is_store, replies, if_drawn, ask_led_inside, offered_by, ask_offer, reached, reach_by_table, is_marked, settled_if_marked, clear_from, ask_reach, ask_write, ask_get, ask_put, ask_clear, ask_copy, ask_forget}
 use Rattle.cloak_model.specs.Cloaking.{CloakedMemory, owed_in, settle, offer}
+use Rattle.cloak_model.proofs.Offering.{settle_cleans}
 use Rattle.cloak_model.specs.Events.{Event}
 use Rattle.cloak_model.specs.Memory.{is_in_ram}
 use Rattle.cloak_model.specs.PageMoves.{copy_pages, drop_pages}
@@ -27,10 +28,11 @@ use Rattle.domain_isolation.proofs.Steady.{is_cloaked}
 use Rattle.domain_isolation.proofs.Answers.{question_answered}
 use Rattle.kernel_isolation.proofs.Leading.{leads_inside}
 use Rattle.kernel_isolation.proofs.Settlings.{HasPlaces}
-use Rattle.kernel_isolation.proofs.Shown.{either}
 use Rattle.script_fold.proofs.Questions.{Kept, opens_of, replies_of, keeps_led_inside, keeps_reach, keeps_get, keeps_put, keeps_clear}
+use Rattle.limit_law.proofs.Worlds.{InWorld, in_wide, kept_noted, kept_written}
 use Rattle.chain_law.specs.Zeros.{IsFresh, FreshAreZeros, HaveVectors}
-use Rattle.chain_law.proofs.Zeros.{FreshStay, fresh_same, fresh_then, keeps_places, IsAtHand, offer_offered, settle_fresh, settle_cleans}
+use Rattle.chain_law.proofs.Zeros.{FreshStay, fresh_same, fresh_then, keeps_places, IsAtHand, offer_offered, settle_fresh, settle_others}
+use Rattle.cloak_base.proofs.Choices.{either}
 
 -- No page becomes fresh by a question.
 
@@ -117,11 +119,6 @@ IsTidy m = HaveVectors m × FreshAreZeros m
 abbrev pub Knows : CloakedMemory → Type 0
 Knows m = HasPlaces m × IsTidy m
 
--- of the memory of a world
-abbrev pub InWorld : (CloakedMemory → Type 0) → World → Type 0
-InWorld P (Cloaked c) = P c.memory
-InWorld P _ = Unit {0}
-
 abbrev pub KnowsIn : World → Type 0
 KnowsIn w = InWorld Knows w
 
@@ -129,8 +126,7 @@ abbrev pub PlacesIn : World → Type 0
 PlacesIn w = InWorld HasPlaces w
 
 pub places_of : (w : World) → KnowsIn w → PlacesIn w
-places_of (Cloaked c) knows = knows.0
-places_of _ knows = tt
+places_of = in_wide Knows HasPlaces (λ m knows. knows.0)
 
 pub record Learns (w v : World) : Type 0 where
   pub by : KnowsIn w → KnowsIn v
@@ -204,17 +200,9 @@ module _ (P : CloakedMemory → Type 0) where
   abbrev pub IfOk : Told Answer → Type 0
   IfOk t = t.answer ≡ told.Ok → InWorld P t.world
 
-  ok_written : (i : Item) (w : World) → InWorld P w → InWorld P (written i w)
-  ok_written i (Cloaked c) here = here
-  ok_written i _ here = tt
-
-  ok_noted : (events : List Event) (w : World) → InWorld P w → InWorld P (noted events w)
-  ok_noted events (Cloaked c) here = here
-  ok_noted events _ here = tt
-
   ok_replies : (a : Answer) (w : World) → (a ≡ told.Ok → InWorld P w) → IfOk (replies a w)
   unfolding replies
-  ok_replies a w here is = ok_written _ w (here is)
+  ok_replies a w here is = (kept_written P _ w).by (here is)
 
   ok_stopped : (w : World) → IfOk (replies told.Stopped w)
   ok_stopped w = ok_replies told.Stopped w (λ is. absurd (stopped_ok is))
@@ -238,7 +226,7 @@ module _ (P : CloakedMemory → Type 0) where
       ok_offered : (va : ℕ) (walked : Walked) (granted : Bool) (w : World) → (granted ≡ true → InWorld P w) →
           IfOk (offered_by q va kind walked granted w)
       unfolding offered_by
-      ok_offered va walked true w here = ok_replies told.Ok _ (λ is. ok_noted _ w (here refl))
+      ok_offered va walked true w here = ok_replies told.Ok _ (λ is. (kept_noted P _ w).by (here refl))
       ok_offered va walked false (Flat seen) here = ok_stopped (Flat seen)
       ok_offered va walked false (Cloaked c) here = ok_stopped _
       ok_offered va walked false (Alone h) here = ok_stopped (Alone h)
@@ -387,10 +375,11 @@ ClearBelow n domain marked w =
 pub settled_below : (domain : ℕ) (marked : List Bool) (f : ℕ) (w : World) → ClearBelow f domain marked w →
     ClearBelow (f + 1) domain marked (settled f w)
 settled_below domain marked f (Cloaked c) clear g low =
-    let s = settle_cleans f c.memory in
     elim (decided g f) [
-      | inl same ↦ ap (is_marked domain marked) (ap (owed_in (settle f c.memory).memory) same ∙ s.here)
-      | inr other ↦ ap (is_marked domain marked) (s.others g other) ∙ clear g (omega (arith, low, other))
+      | inl same ↦
+          ap (is_marked domain marked) (ap (owed_in (settle f c.memory).memory) same ∙ settle_cleans f c.memory)
+      | inr other ↦
+          ap (is_marked domain marked) (settle_others f c.memory g other) ∙ clear g (omega (arith, low, other))
     ]
 settled_below domain marked f _ clear g low = refl
 

@@ -1,6 +1,6 @@
 -- Settling and offering: no page becomes fresh by them, and a page that was offered is not fresh.
-use Rattle.std.proofs.Common.{◌≡◌, ◌≢◌, ◌∙◌, ◌<◌, inl, inr, ℕ, zero, suc, Bool, true, false, cond, List, [], ◌∷◌, length, Option, Some, None, is_some, refl, sym, ap, subst}
-use Rattle.std.specs.Prelude.{slice_index_or, slice_set}
+use Rattle.std.proofs.Common.{◌≡◌, ◌≢◌, ◌∙◌, ◌<◌, inl, inr, ℕ, Bool, true, false, cond, List, [], length, Option, Some, None, is_some, refl, sym, ap, subst}
+use Rattle.std.specs.Prelude.{slice_index_or}
 use Rattle.std.specs.Str.{bytes_eq}
 use Rattle.std.proofs.lemmas.Bool.{false≢true}
 use Rattle.std.proofs.lemmas.List.{get_or-set_same, get_or-set_other, length-set}
@@ -12,9 +12,11 @@ use Rattle.cloak_model.specs.Cloaking.{CloakedMemory, AfterSettling, AfterOffer,
 use Rattle.cloak_model.specs.Ledger.{vector_of}
 use Rattle.domain_isolation.proofs.InOrder.{decided}
 use Rattle.kernel_isolation.proofs.Settlings.{HasPlaces}
-use Rattle.cause_law.proofs.Kept.{owes_page}
 use Rattle.chain_law.specs.Zeros.{IsFresh, HaveVectors}
-use Rattle.kernel_isolation.proofs.Shown.{either}
+use Rattle.cloak_base.proofs.Choices.{either}
+use Rattle.cloak_model.proofs.Offering.{SettlesKept, settle_keeps, settle_frame_keeps, settle_cleans, frame_stays_clean}
+use Rattle.cloak_model.proofs.Owing.{owes_page}
+use Rattle.std.proofs.lemmas.Option.{same_Some}
 
 -- No page becomes fresh.
 pub record FreshStay (m n : CloakedMemory) : Type 0 where
@@ -58,9 +60,6 @@ pub was_none : (b : Bool) (x : List ℕ) (o : Option (List ℕ)) → cond b (Som
 was_none true x o is = absurd cc
 was_none false x o is = record { test = refl; none = is }
 
-same_some : (p q : PageId) → Some p ≡ Some q → p ≡ q
-same_some p q is = cc
-
 -- Settling.
 
 settle_owed_fresh : (f : ℕ) (p : PageId) (draw : Option (List ℕ × Random)) (m : CloakedMemory) → owed_in m f ≡ Some p →
@@ -83,72 +82,40 @@ settle_owed_fresh f p (Some draw) m owed = record {
         was.none,
         (λ g is. elim (decided g f) [
           | inl same ↦
-              let is_p : p ≡ q = same_some p q (sym owed ∙ (sym (ap (owed_in m) same) ∙ is)) in
+              let is_p : p ≡ q = same_Some p q (sym owed ∙ (sym (ap (owed_in m) same) ∙ is)) in
               false≢true (sym was.test ∙ (ap (λ (x : PageId). same_page q x) is_p ∙ same_page-self q))
           | inr other ↦ fresh.1 g (get_or-set_other m.ledger.owed f g None None other ∙ is)
         ]),
       );
 }
 
-settle_if_fresh : (f : ℕ) (o : Option PageId) (m : CloakedMemory) → owed_in m f ≡ o →
-    FreshStay m (settle_if f o m).memory
-unfolding settle_if
-settle_if_fresh f None m owed = fresh_same m
-settle_if_fresh f (Some p) m owed = settle_owed_fresh f p (vector_of m.ledger p) m owed
+-- after a settling
+stay_settled : (m : CloakedMemory) → SettlesKept (FreshStay m)
+stay_settled m f p x owed stay = fresh_then m x _ stay (settle_owed_fresh f p (vector_of x.ledger p) x owed)
 
 pub settle_fresh : (f : ℕ) (m : CloakedMemory) → FreshStay m (settle f m).memory
-unfolding settle
-settle_fresh f m = settle_if_fresh f (owed_in m f) m refl
+settle_fresh f m = settle_keeps (FreshStay m) (stay_settled m) f m (fresh_same m)
 
 settle_frame_fresh : (o : Option ℕ) (m : CloakedMemory) → FreshStay m (settle_frame_if o m).memory
-settle_frame_fresh None m = fresh_same m
-settle_frame_fresh (Some f) m = settle_fresh f m
+settle_frame_fresh o m = settle_frame_keeps (FreshStay m) (stay_settled m) o m (fresh_same m)
 
--- The frame is owed nothing, and what others are owed stays.
+-- What other frames are owed stays.
 
-none_here : (xs : List (Option PageId)) (f : ℕ) → slice_index_or (slice_set xs f None) f None ≡ None
-none_here [] f = refl
-none_here (x ∷ xs) zero = refl
-none_here (x ∷ xs) (suc f) = none_here xs f
-
-pub record Cleans (f : ℕ) (m n : CloakedMemory) : Type 0 where
-  pub here : owed_in n f ≡ None
-  pub others : (g : ℕ) → g ≢ f → owed_in n g ≡ owed_in m g
-
-owed_cleans : (f : ℕ) (p : PageId) (draw : Option (List ℕ × Random)) (m : CloakedMemory) →
-    Cleans f m (settle_owed f p draw m).memory
+owed_others : (f : ℕ) (p : PageId) (draw : Option (List ℕ × Random)) (m : CloakedMemory) (g : ℕ) → g ≢ f →
+    owed_in (settle_owed f p draw m).memory g ≡ owed_in m g
 unfolding settle_owed
-owed_cleans f p None m = record {
-  here = none_here m.ledger.owed f;
-  others = λ g other. get_or-set_other m.ledger.owed f g None None other;
-}
-owed_cleans f p (Some draw) m = record {
-  here = none_here m.ledger.owed f;
-  others = λ g other. get_or-set_other m.ledger.owed f g None None other;
-}
+owed_others f p None m g other = get_or-set_other m.ledger.owed f g None None other
+owed_others f p (Some draw) m g other = get_or-set_other m.ledger.owed f g None None other
 
-if_cleans : (f : ℕ) (o : Option PageId) (m : CloakedMemory) → owed_in m f ≡ o → Cleans f m (settle_if f o m).memory
+if_others : (f : ℕ) (o : Option PageId) (m : CloakedMemory) (g : ℕ) → g ≢ f →
+    owed_in (settle_if f o m).memory g ≡ owed_in m g
 unfolding settle_if
-if_cleans f None m owed = record { here = owed; others = λ g other. refl }
-if_cleans f (Some p) m owed = owed_cleans f p (vector_of m.ledger p) m
+if_others f None m g other = refl
+if_others f (Some p) m g other = owed_others f p (vector_of m.ledger p) m g other
 
-pub settle_cleans : (f : ℕ) (m : CloakedMemory) → Cleans f m (settle f m).memory
+pub settle_others : (f : ℕ) (m : CloakedMemory) (g : ℕ) → g ≢ f → owed_in (settle f m).memory g ≡ owed_in m g
 unfolding settle
-settle_cleans f m = if_cleans f (owed_in m f) m refl
-
--- a frame that was owed nothing is still owed nothing
-still_clean : (f : ℕ) (m : CloakedMemory) (g : ℕ) → owed_in m g ≡ None → owed_in (settle f m).memory g ≡ None
-still_clean f m g none =
-    let s = settle_cleans f m in
-    elim (decided g f) [
-      | inl same ↦ subst (λ (x : ℕ). owed_in (settle f m).memory x ≡ None) (sym same) s.here
-      | inr other ↦ s.others g other ∙ none
-    ]
-
-pub frame_clean : (o : Option ℕ) (m : CloakedMemory) (g : ℕ) → owed_in m g ≡ None →
-    owed_in (settle_frame_if o m).memory g ≡ None
-frame_clean None m g none = none
-frame_clean (Some f) m g none = still_clean f m g none
+settle_others f m = if_others f (owed_in m f) m
 
 -- Offering.
 
@@ -241,7 +208,7 @@ offer_offered q g write m = by (owes q (owed_in m g)) refl
 
     last : OfferLeaves q g s'.memory (compared q g write (s'.memory.ledger.recorded q) s'.memory)
     last = compared_offered q g write (s'.memory.ledger.recorded q) s'.memory
-        (frame_clean (owing_frame m' q) m' g (settle_cleans g m).here) refl
+        (frame_stays_clean g (owing_frame m' q) m' (settle_cleans g m)) refl
 
     by : (b : Bool) → owes q (owed_in m g) ≡ b →
         OfferLeaves q g m (cond b (record { memory = m; ciphers = []; granted = true })

@@ -9,6 +9,12 @@ pub const RAM_START: u32 = 0x8000_0000;
 /// The address where a hart that runs a context waits in U mode.
 pub const TRAMPOLINE: u32 = 0x0000_1000;
 
+/// The cause of the timer interrupt (RISC-V privileged manual, scause).
+pub const TIMER_CAUSE: u32 = 0x8000_0005;
+
+/// The number of the hypercall EXIT, which an ending shows, too.
+pub const EXIT: u32 = 0x4f56_0007;
+
 /// The bytes of the largest file of an image.
 pub const LARGEST_BUNDLE: u32 = 67_108_864;
 

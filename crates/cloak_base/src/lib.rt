@@ -13,7 +13,8 @@ mod registers;
 
 pub use causes::{Failed, NoMemory, Shown, Stop, Violation};
 pub use constants::{
-    LARGEST_BUNDLE, RAM_START, TRAMPOLINE, frame_of, is_in_frames, place_of, ram_end,
+    EXIT, LARGEST_BUNDLE, RAM_START, TIMER_CAUSE, TRAMPOLINE, frame_of, is_in_frames, place_of,
+    ram_end,
 };
 pub use names::{CtxId, Frame, HartId, Kind, Meta, Mode, PageId, SpaceId, Start};
 pub use registers::Regs;

@@ -6,7 +6,6 @@ use Rattle.cloak_model.specs.declared.fault.BundleFault.{BundleFault}
 use Rattle.cloak_model.specs.declared.image.Bundle.{Bundle}
 use Rattle.cloak_model.specs.Bundle.{IsBundle}
 use Rattle.cloak_model.specs.BundleFault.{bundle_fault}
-use Rattle.completeness.proofs.Faults.{no_fault}
 use Rattle.command_words.specs.Command as spec
 use Rattle.command_parts.specs.declared.refusal.Refusal.{Refusal}
 use Rattle.command_parts.specs.declared.refusal.Refusal.TheVariants as refusal
@@ -19,6 +18,7 @@ use Rattle.command_parts.specs.Outside.{FilesOutside, Outside}
 use Rattle.command_parts.specs.Refusal.{status_of_refusal}
 use Rattle.cloak_commands.specs.Answering.{Answers}
 use Rattle.cloak_commands.specs.BundleFirst.{JudgesBundleFirst}
+use Rattle.guest_bundle.proofs.Faultless.{no_fault}
 
 -- a file with a fault is no bundle
 is_none : (held : List ℕ → Option (List ℕ)) (asked name bytes : List ℕ) (fault : BundleFault) (b : Bundle) →

@@ -1,17 +1,16 @@
 -- What the program answers to words.
-use Rattle.std.specs.Prelude.{◌≡◌, map, string_bytes, Option, Some, None, Result, Ok, Err}
+use Rattle.std.specs.Prelude.{map, string_bytes, Option, Some, None, Result, Ok, Err}
 use Rattle.cloak_base.specs.declared.causes.NoMemory.{NoMemory}
 use Rattle.command_words.specs.declared.usage_fault.UsageFault.TheVariants.{WrongWords}
 use Rattle.command_words.specs.declared.request.Request.{Request}
 use Rattle.command_words.specs.Command as spec
 use Rattle.command_words.specs.Request.{asked_of}
-use Rattle.command_parts.specs.declared.refusal.Refusal.TheVariants as refusal
 use Rattle.command_parts.specs.declared.status.Status.{Status}
 use Rattle.cloak_commands.specs.declared.words.ProgramWords.{ProgramWords}
 use Rattle.cloak_commands.specs.declared.words.ProgramWords.TheVariants as words
 use Rattle.cloak_commands.specs.Answering.{Answers, KeepsOthers}
 use Rattle.command_parts.specs.Outside.{Outside}
-use Rattle.command_parts.specs.Refusing.{Refuses}
+use Rattle.command_parts.specs.Refusing.{LacksMemory}
 
 -- the status comes by its cause, and no file is changed that the words do not name to be written
 pub record AnswersAsked {S O : Type 0} (asked : spec.Asked) (before after : Outside S O) (answer : Status) : Type 0
@@ -36,14 +35,9 @@ abbrev pub asked_in : Result Request NoMemory → Option spec.Asked
 asked_in (Ok request) = Some (asked_of request)
 asked_in (Err no_memory) = None
 
--- the line of want of memory was shown, and no file was asked for anything
-pub record WantsMemory {S O : Type 0} (before after : Outside S O) (answer : Status) : Type 0 where
-  pub line : Refuses before.output after.output refusal.NoMemory answer
-  pub untouched : after.files ≡ before.files
-
 -- What was answered to these words. One that is no text makes them faulty.
 abbrev pub AnswersWords : {S O : Type 0} → ProgramWords → Outside S O → Outside S O → Status → Type 0
 AnswersWords (words.Taken texts) before after answer =
     AnswersAsked (spec.words_of (map string_bytes texts.items)) before after answer
 AnswersWords words.NotText before after answer = AnswersAsked (spec.Faulty WrongWords) before after answer
-AnswersWords words.NoMemory before after answer = WantsMemory before after answer
+AnswersWords words.NoMemory before after answer = LacksMemory before after answer

@@ -2,11 +2,11 @@
 use Rattle.std.proofs.Common.{◌≡◌, ◌∙◌, ◌≤◌, ◌<◌, ℕ, zero, suc, List, [], ◌∷◌, length, map, filter, replicate, slice_index_or, Option, Some, None, Result, Ok, Err, All, refl, ap, sym, subst, arith}
 use Rattle.std.specs.Prelude.{◌==◌, true}
 use Rattle.std.proofs.lemmas.Bool.Decides.{Decides-eqb}
-use Rattle.std.proofs.lemmas.List.{append-nil}
 use Rattle.cloak_base.specs.Random.{Random}
 use Rattle.cloak_base.specs.declared.names.PageId.{PageId}
 use Rattle.cloak_model.specs.Beginning.{Beginning, opening_from}
 use Rattle.cloak_model.specs.Cloaking.{CloakedMemory, owed_in}
+use Rattle.cloak_model.proofs.Emitting.{emits_none}
 use Rattle.cloak_model.specs.Exchange.{Emits, Piece, item_pieces}
 use Rattle.cloak_model.specs.Ledger.{Keys}
 use Rattle.cloak_model.specs.Opening.{Lack, RunEdge, drawn_keys, is_placed, key_count, keys_for, numbers_below, opened_by, opened_with, opening, opening_items, started_joint, started_ledger, started_memory}
@@ -86,9 +86,7 @@ none_left xs is = by_length xs ((Decides-eqb (length xs) 0).0 is)
 pub emits_nothing : {E : Type 0} (gave : E → E → List Piece → Type 0) (e : E) (items : List Item) → items ≡ [] →
     Emits gave e e (item_pieces items)
 emits_nothing gave e items none =
-    subst (λ (l : List Item). Emits gave e e (item_pieces l)) (sym none) (record {
-      more = λ first before given. subst (gave first e) (sym (append-nil before)) given;
-    })
+    subst (λ (l : List Item). Emits gave e e (item_pieces l)) (sym none) (emits_none gave e)
 
 -- a run begins with no frame owed a page
 

@@ -4,10 +4,11 @@ use Rattle.cloak_base.specs.Random.{Random}
 use Rattle.cloak_base.specs.declared.causes.Stop.{Stop}
 use Rattle.cloak_base.specs.declared.causes.Stop.TheVariants as stop
 use Rattle.cloak_base.specs.declared.names.PageId.{PageId}
-use Rattle.cloak_model.specs.Cloaking.{CloakedMemory, owed_in, settle, settle_if, settle_owed}
+use Rattle.cloak_model.specs.Cloaking.{CloakedMemory, settle, settle_owed}
 use Rattle.cloak_model.specs.Joint.{cloak_outside, hart_in}
 use Rattle.cloak_model.specs.Ledger.{vector_of}
 use Rattle.cloak_model.specs.Parts.{Joint}
+use Rattle.cloak_model.proofs.Offering.{settle_keeps}
 use Rattle.cloak_model.specs.Run.{closing, settled_below}
 use Rattle.cloak_model.specs.World.{MidStep}
 
@@ -17,14 +18,10 @@ unfolding settle_owed
 owed_keys f q None m = refl
 owed_keys f q (Some draw) m = refl
 
-if_keys : (f : ℕ) (owed : Option PageId) (m : CloakedMemory) → (settle_if f owed m).memory.ledger.keys ≡ m.ledger.keys
-unfolding settle_if
-if_keys f None m = refl
-if_keys f (Some q) m = owed_keys f q (vector_of m.ledger q) m
-
 settle_keys : (f : ℕ) (m : CloakedMemory) → (settle f m).memory.ledger.keys ≡ m.ledger.keys
-unfolding settle
-settle_keys f m = if_keys f (owed_in m f) m
+settle_keys f m =
+    settle_keeps (λ x. x.ledger.keys ≡ m.ledger.keys)
+    (λ g q x is same. owed_keys g q (vector_of x.ledger q) x ∙ same) f m refl
 
 below_keys : (n : ℕ) (c : MidStep) → (settled_below n c).memory.ledger.keys ≡ c.memory.ledger.keys
 unfolding settled_below

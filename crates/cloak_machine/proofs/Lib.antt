@@ -1,7 +1,6 @@
 pub mod DomainOrder
 pub mod Opening
 pub mod GoingOn
-pub mod ShownFrames
 pub mod Stepping
 pub mod Turning
 pub mod Closed

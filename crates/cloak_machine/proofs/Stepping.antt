@@ -21,7 +21,7 @@ use Rattle.cloak_model.specs.Run.{closing, first_moment}
 use Rattle.joint_machine.specs.Standing.{StandsForJoint, TakesTurn, ShowsAs, step_in, shown_byte}
 use Rattle.joint_machine.specs.declared.joint.Joint.{Joint as Machines}
 use Rattle.joint_machine.specs.declared.turned.Turned.{Turned}
-use Rattle.cloaked_side.proofs.Emitting.{emits_then, emits_items}
+use Rattle.cloak_model.proofs.Emitting.{emits_then, emits_items}
 use Rattle.kernel_report.specs.Console.{ConsoleShows}
 use Rattle.kernel_report.specs.KernelText.{kernel_text}
 use Rattle.kernel_report.proofs.KernelSaid.{IsSaid, kernel_text-is}

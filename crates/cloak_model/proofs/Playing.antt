@@ -9,10 +9,9 @@ use Rattle.cloak_model.specs.AskPages.{ask_read}
 use Rattle.cloak_model.specs.Script.{Script, Gives, Asks, Reads, Changes, asked, changed, played, ◌>>=◌}
 use Rattle.cloak_model.specs.Contexts.{Context}
 use Rattle.cloak_model.specs.Calls.{copy_in_step, copy_out_step}
-use Rattle.cloak_model.specs.DomainState.{Control, Domain}
+use Rattle.cloak_model.specs.DomainState.{Domain}
 use Rattle.cloak_model.specs.DomainStep.{DomainStepped, instruction_ended, phase_step, copy_ended, after_write, within}
-use Rattle.cloak_model.specs.Fork.{fork, end_context}
-use Rattle.cloak_model.specs.Hypercalls.{fork_call, exit_call, fork_told, end_told, with_spaces, hypercall, hypercall_of}
+use Rattle.cloak_model.specs.Hypercalls.{hypercall, hypercall_of}
 use Rattle.cloak_model.specs.InsideStep.{instruction_inside}
 
 pub played_then : {A B : Type 0} (s : Script A) (next : A → Script B) (w : World) →
@@ -62,20 +61,6 @@ pub ecall_played : (slot : ℕ) (d : Domain) (c : Context) (w : World) →
     ≡ then_ask (played (hypercall (hypercall_of c) slot c d.control)) (λ step. answered (within d step)) w
 unfolding instruction_ended
 ecall_played slot d c w = played_then (hypercall (hypercall_of c) slot c d.control) _ w
-
-pub fork_played : (slot : ℕ) (c : Context) (d : Control) (w : World) →
-    played (fork_call slot c d) w
-    ≡ then_ask (played (fork d.number c d.resources d.contexts))
-    (λ made. answered (fork_told slot c d made.answer (with_spaces made.spaces d))) w
-unfolding fork_call
-fork_played slot c d w = played_then (fork d.number c d.resources d.contexts) _ w
-
-pub exit_played : (slot : ℕ) (c : Context) (d : Control) (w : World) →
-    played (exit_call slot c d) w
-    ≡ then_ask (played (end_context d.number slot c.space d.resources d.contexts))
-    (λ made. answered (end_told slot c d made.ending (with_spaces made.spaces d))) w
-unfolding exit_call
-exit_played slot c d w = played_then (end_context d.number slot c.space d.resources d.contexts) _ w
 
 -- What holds of the parts of a step, one after another, holds of the step.
 

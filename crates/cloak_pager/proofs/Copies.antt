@@ -1,7 +1,7 @@
 -- What becomes of a pager when the metadata of whole resources changes, over plain variables.
 use Rattle.std.proofs.Common.{◌≡◌, ◌<◌, ℕ, Bool, true, false, ◌&&◌, ◌||◌, List, [], Option, None, Some, length, get_or}
 use Rattle.std.proofs.Common.{map, refl, ap, sym, ◌∙◌, subst, ◌⊎◌, inl, inr}
-use Rattle.std.proofs.lemmas.Bool.{or_cases}
+use Rattle.std.proofs.lemmas.Bool.{or_cases, or_parts}
 use Rattle.aes_block.specs.Bytes.{IsBytes}
 use Rattle.cloak_base.specs.Random.{next_draw}
 use Rattle.cloak_base.specs.declared.names.PageId.{PageId}
@@ -73,10 +73,6 @@ of_tells domain resource o = elim (is_of_tells domain resource o) [ inl t ↦ in
 beside : (domain from : ℕ) (o : PageId) → o.domain ≡ domain → is_of domain from (page_in from o) ≡ true
 beside domain from o d = (is_of-decides domain from (page_in from o)).1 (d, refl)
 
-or_false : (a b : Bool) → (a || b) ≡ false → (a ≡ false) × (b ≡ false)
-or_false true b e = absurd (cc)
-or_false false b e = (refl, e)
-
 stays_kept : (a b c : Bool) → b ≡ false → (a || (b && c)) ≡ a
 stays_kept true b c e = refl
 stays_kept false b c e = ap (λ (x : Bool). x && c) e
@@ -115,7 +111,7 @@ follows_copy p p' domain from to t shown away w m s =
                   let stands : Option Meta → Type 0 = λ x. PageStands (w' o) m' o x in
                   subst stands (sym meta)
                   (page_as (w o) (w' o) m m' o o (meta_at p.table o) refl (chosen_false _ _ _ off)
-                  (λ kept free. ((or_false (w o) _ kept).0, free, chosen_false _ _ _ off)) (s.pages o))
+                  (λ kept free. ((or_parts (w o) _ kept).0, free, chosen_false _ _ _ off)) (s.pages o))
             ];
         vectors = λ o.
             elim (of_tells domain to o) [
@@ -135,7 +131,7 @@ follows_copy p p' domain from to t shown away w m s =
                   let e : m'.plain o ≡ m.plain (page_in from o) = chosen_true _ _ _ is.0 in
                   rw e (s.plain (page_in from o) (kept_from o is.0 kept))
               | inr off ↦
-                  let e : m'.plain o ≡ m.plain o = chosen_false _ _ _ off in rw e (s.plain o (or_false (w o) _ kept).0)
+                  let e : m'.plain o ≡ m.plain o = chosen_false _ _ _ off in rw e (s.plain o (or_parts (w o) _ kept).0)
             ];
         drained = λ o lost.
             elim (or_cases (w o) (is_of domain to o && w (page_in from o)) lost) [
@@ -157,7 +153,7 @@ follows_copy p p' domain from to t shown away w m s =
     and_right false b e = absurd (cc)
 
     kept_from : (o : PageId) → is_of domain to o ≡ true → w' o ≡ false → w (page_in from o) ≡ false
-    kept_from o is kept = ap (λ (x : Bool). x && w (page_in from o)) (sym is) ∙ (or_false (w o) _ kept).1
+    kept_from o is kept = ap (λ (x : Bool). x && w (page_in from o)) (sym is) ∙ (or_parts (w o) _ kept).1
 
     unowed : (b : PageId) → is_of domain from b ≡ true → IsUnowed m b
     unowed b is k owes =

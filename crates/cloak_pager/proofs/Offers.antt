@@ -33,7 +33,8 @@ use Rattle.cloak_pager.specs.declared.offering.Offered.TheVariants.{Ready, Misma
 use Rattle.cloak_base.proofs.Pages.{same_page-self, same_page-decides}
 use Rattle.cloak_pager.proofs.Keeping.{HasRight, named_as, whole_turned}
 use Rattle.cloak_pager.proofs.Stands.{stands_turned, owed_by_right, owed_held, page_stays, vector_stays}
-use Rattle.cloak_pager.proofs.Touches.{page_is, owed_nothing, settle_none}
+use Rattle.cloak_pager.proofs.Touches.{page_is, owed_nothing}
+use Rattle.cloak_model.proofs.Settling.{settle_unowed}
 
 -- The pager stands for a memory that differs in what the relation does not speak of.
 pub stands_same : (p : PagerState) (w : PageId → Bool) (m m' : CloakedMemory) → StandsForMemory p w m → m'.ram ≡ m.ram →
@@ -209,7 +210,7 @@ offer_settled q g write m none nobody =
     ap (λ (b : Bool).
     if b then record { memory = m; ciphers = []; granted = true } else unless_missed (settle g m) later) owing in
     let second : unless_missed (settle g m) later ≡ later m =
-    ap (λ (x : AfterSettling). unless_missed x later) (settle_none g m none) in
+    ap (λ (x : AfterSettling). unless_missed x later) (settle_unowed g m none) in
     let third : later m ≡ compared q g write (m.ledger.recorded q) m =
     ap (λ (x : Option ℕ).
     unless_missed (settle_frame_if x m) (λ m''. compared q g write (m''.ledger.recorded q) m'')) nobody in

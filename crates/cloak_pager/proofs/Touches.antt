@@ -29,6 +29,7 @@ use Rattle.cloak_pager.proofs.Pages.{with_page-same, with_page-other}
 use Rattle.cloak_pager.proofs.Keeping.{HasRight, whole_turned}
 use Rattle.cloak_pager.proofs.Turned.{set_keeps}
 use Rattle.cloak_pager.proofs.Stands.{stands_turned, owed_by_right, page_as, page_stays, vector_stays}
+use Rattle.cloak_model.proofs.Settling.{settle_unowed}
 
 -- no other frame holds the page that a frame holds
 pub held_alone : (p : PagerState) → IsWholePager p → (f : ℕ) (q : PageId) → held_in p f ≡ Some q →
@@ -204,11 +205,6 @@ stands_wiped p p' w m f r s whole inside at none t =
 
 -- Settling.
 
-pub settle_none : (f : ℕ) (m : CloakedMemory) → owed_in m f ≡ None →
-    settle f m ≡ record { memory = m; ciphers = []; missed = false }
-unfolding settle settle_if
-settle_none f m e = ap (λ (x : Option PageId). settle_if f x m) e
-
 pub settle_draw : (f : ℕ) (m : CloakedMemory) (q : PageId) (d : List ℕ × Random) → owed_in m f ≡ Some q →
     next_draw m.ledger.stream ≡ Some d →
     settle f m ≡ record {
@@ -236,7 +232,7 @@ pub settled_follows : (p' : PagerState) (w : PageId → Bool) (m : CloakedMemory
     StandsForMemory p' w m → owed_in m f ≡ None → m.ledger.stream ≡ left → FollowsCallFrom p' left ([], false) (after_touch f w m)
 settled_follows p' w m f left s none e =
     let M : AfterSettling → Type 0 = λ x. FollowsCallFrom p' left ([], false) (after_settling x (owed_in m f) w) in
-    subst M (sym (settle_none f m none)) (record { answer = refl; stands = s; drawn = e })
+    subst M (sym (settle_unowed f m none)) (record { answer = refl; stands = s; drawn = e })
 
 pub whole_outside : (p p' : PagerState) (f : ℕ) (bytes : List ℕ) (metas : PageId → Option Meta) → IsWholePager p →
     f < length p.frames → ShowsNow p p' f bytes metas → ((o : PageId) → meta_at p.table o ≢ None → metas o ≢ None) →

@@ -1,9 +1,10 @@
 -- Which numbers are free once a space was copied, or has ended.
-use Rattle.std.proofs.Common.{◌≡◌, ◌⊎◌, ◌+◌, ℕ, zero, suc, Bool, true, false, List, [], ◌∷◌, Option, Some, None, refl, map, slice_index_or, slice_set, inl, inr}
+use Rattle.std.proofs.Common.{◌≡◌, ◌⊎◌, ◌+◌, ℕ, zero, suc, Bool, true, false, List, [], ◌∷◌, Option, None, refl, map, slice_index_or, inl, inr}
 use Rattle.cloak_model.specs.declared.resource.Resource.{Resource}
 use Rattle.cloak_model.specs.Resources.{Resources, resource_at, is_private_to, without_space, drop_space}
 use Rattle.cloak_model.specs.Fork.{marked, places, private_numbers, with_copies, copies, forked_resources}
 use Rattle.cloaked_fork.specs.Marks.{marked_numbers}
+use Rattle.cloak_base.proofs.Lists.{free_before}
 
 -- the numbers of the marked resources are those of the private ones
 marked_places : {A : Type 0} (test : A → Bool) (n : ℕ) (xs : List A) → places (λ mark. mark) n (map test xs) ≡ places test n xs
@@ -28,17 +29,9 @@ pub free-drop_space : (space : ℕ) (r : Resources) (n : ℕ) → resource_at (d
 unfolding drop_space
 free-drop_space space r n free = dropped_held space r.held n free
 
--- a number that is free after copies were made was free
-set_free : {A : Type 0} (xs : List (Option A)) (i n : ℕ) (x : A) → slice_index_or (slice_set xs i (Some x)) n None ≡ None → slice_index_or xs n None ≡ None
-set_free [] i n x free = refl
-set_free (y ∷ xs) zero zero x free = cc
-set_free (y ∷ xs) zero (suc n) x free = free
-set_free (y ∷ xs) (suc i) zero x free = free
-set_free (y ∷ xs) (suc i) (suc n) x free = set_free xs i n x free
-
 copied_free : (space : ℕ) (held : List (Option Resource)) (list : List (ℕ × ℕ)) (r : Resources) (n : ℕ) → slice_index_or (with_copies space held list r) n None ≡ None → slice_index_or held n None ≡ None
 copied_free space held [] r n free = free
-copied_free space held (copy ∷ rest) r n free = set_free held copy.1 n _ (copied_free space _ rest r n free)
+copied_free space held (copy ∷ rest) r n free = free_before held copy.1 n _ (copied_free space _ rest r n free)
 
 pub free-forked : (space new : ℕ) (r : Resources) (n : ℕ) → resource_at (forked_resources space new r) n ≡ None → resource_at r n ≡ None
 unfolding forked_resources

@@ -26,12 +26,12 @@ use Rattle.cloaked_side.specs.Offering.{Offers, OffersPage}
 use Rattle.cloaked_side.specs.declared.leading.Led.{Led}
 use Rattle.cloak_model.specs.declared.access.Walked.{Walked}
 use Rattle.cloak_model.specs.Walk.{Walk}
-use Rattle.cloaked_side.proofs.Emitting.{emits_items}
+use Rattle.cloak_model.proofs.Emitting.{emits_items}
 use Rattle.cloaked_side.proofs.Sided.{Repaged, still_turned, sees_still}
 use Rattle.cloaked_side.proofs.Tracking.{respaced, tracks_on}
 use Rattle.cloaked_side.specs.Tracking.{Tracks, TracksBy, MapsBy, spent_in}
 use Rattle.shadow_fold.specs.Reads.{SpendsFor, looks_in, reads_due}
-use Rattle.cloaked_side.proofs.Spending.{ciphers_due, due_then, looks_then, maps_of, maps_on, maps_still, spends_looks, spends_more, spends_then}
+use Rattle.cloaked_side.proofs.Spending.{ciphers_due, due_then, maps_of, maps_on, maps_still, spends_looks, spends_more, spends_then}
 use Rattle.shadow_fold.specs.Fold.{Fold, after_events}
 use Rattle.cloak_model.specs.Ask.{known}
 use Rattle.cloak_model.specs.Asking.{Told}
@@ -41,6 +41,7 @@ use Rattle.cloak_pager.specs.Asking.{ReadsNewest, FollowsCallStill, after_write_
 use Rattle.shadow_fold.specs.declared.entry.Regime.{Regime}
 use Rattle.cloaked_side.specs.Seeing.{FollowsAlways, IsRegimeFor, Sees, SeesCloak, asked_by, space_in}
 use Rattle.cloaked_side.specs.declared.side.Side.{Side}
+use Rattle.shadow_fold.proofs.Looks.{looks_then}
 
 -- the domain that is answered
 domain_of : {E : Type 0} (gave : E → E → List Piece → Type 0) (first now : Side E) (w : World) →

@@ -11,7 +11,7 @@ use Rattle.cloak_model.specs.Exchange.{Piece}
 use Rattle.cloak_model.specs.Memory.{mark_of}
 use Rattle.cloak_model.specs.Walk.{Walk}
 use Rattle.cloak_model.specs.World.{World, is_clashed}
-use Rattle.cloak_model.proofs.Later.{IsLater, IsLater-refl, IsLater-trans, IsLater-stored_at, later_value, later_mark, later_unmark}
+use Rattle.cloak_model.proofs.Later.{later_reserved_at, later_conditional_at, later_combined_at}
 use Rattle.rv_atomic.specs.Combine.{combined}
 use Rattle.rv_atomic.specs.declared.atomic.AtomicOp.{AtomicOp}
 use Rattle.cloaked_side.specs.Atomic.{word_there, ask_led_word}
@@ -54,11 +54,6 @@ same_cause : (a b : ℕ) (x : Result LedWord ℕ) → Err a ≡ x → x ≡ Err 
 same_cause a b x one two = cc
 
 -- LR.
-
-later_reserved_at : (satp : ℕ) (a : Access) (hart : ℕ) (to : Walk) (w : World) → IsLater w (reserved_at satp a hart to w).world
-unfolding reserved_at
-later_reserved_at satp a hart (Err cause) w = IsLater-refl w
-later_reserved_at satp a hart (Ok walked) w = IsLater-trans _ _ _ (later_value satp a walked 4 w) (later_mark hart walked.pa _)
 
 pub reserve_unclashed : (satp : ℕ) (a : Access) (hart : ℕ) (w : World) → is_clashed (ask_reserve satp a hart w).world ≡ false →
     is_clashed (ask_led satp a w).world ≡ false
@@ -105,18 +100,6 @@ reserve_fault gave first new satp a hart cause w told =
     let to = ask_led satp a w in reserve_fault_by gave first new satp a hart cause to.answer to.world told
 
 -- SC.
-
-later_stored_if : (reserved : Bool) (hart pa value : ℕ) (w : World) → IsLater w (stored_if reserved hart pa value w).world
-unfolding stored_if
-later_stored_if true hart pa value w = IsLater-trans _ _ _ (IsLater-stored_at pa 4 value w) (later_unmark hart _)
-later_stored_if false hart pa value w = later_unmark hart w
-
-later_conditional_at : (satp : ℕ) (a : Access) (hart value : ℕ) (to : Walk) (w : World) →
-    IsLater w (conditional_at satp a hart value to w).world
-unfolding conditional_at ask_marked
-later_conditional_at satp a hart value (Err cause) w = IsLater-refl w
-later_conditional_at satp a hart value (Ok walked) w =
-    IsLater-trans _ _ _ (later_value satp a walked 4 w) (later_stored_if _ hart walked.pa value _)
 
 pub conditional_unclashed : (satp : ℕ) (a : Access) (hart value : ℕ) (w : World) →
     is_clashed (ask_store_conditional satp a hart value w).world ≡ false → is_clashed (ask_led satp a w).world ≡ false
@@ -187,12 +170,6 @@ conditional_fault gave first new satp a hart value cause w told =
     let to = ask_led satp a w in conditional_fault_by gave first new satp a hart value cause to.answer to.world told
 
 -- The operations.
-
-later_combined_at : (satp : ℕ) (a : Access) (op : AtomicOp) (operand : ℕ) (to : Walk) (w : World) →
-    IsLater w (combined_at satp a op operand to w).world
-unfolding combined_at
-later_combined_at satp a op operand (Err cause) w = IsLater-refl w
-later_combined_at satp a op operand (Ok walked) w = IsLater-trans _ _ _ (later_value satp a walked 4 w) (IsLater-stored_at walked.pa 4 _ _)
 
 pub combine_unclashed : (satp : ℕ) (a : Access) (op : AtomicOp) (operand : ℕ) (w : World) →
     is_clashed (ask_combine satp a op operand w).world ≡ false → is_clashed (ask_led satp a w).world ≡ false

@@ -21,7 +21,6 @@ use Rattle.cloak_model.specs.Exchange.{Piece, Emits, item_pieces}
 use Rattle.cloak_pager.specs.State.{PagerState, IsWholePager, IsNoneOwed, IsNoneHeld, right_at, held_in, owed_at}
 use Rattle.cloak_pager.specs.Asking.{FollowsCallStill, after_copy_pages, after_drop_pages, wiped_copies}
 use Rattle.cloak_pager.proofs.Stands.{owed_by_right, owed_held}
-use Rattle.cloak_pager.proofs.Touches.{settle_none}
 use Rattle.cloak_pager.proofs.Writes.{held_within}
 use Rattle.cloak_pager.proofs.Pages.{same_or_not}
 use Rattle.cloaked_side.specs.Holding.{Holds, HoldsNoMore, Settles, frames_of}
@@ -29,7 +28,7 @@ use Rattle.shadow_fold.specs.declared.entry.Regime.{Regime}
 use Rattle.cloaked_side.specs.Seeing.{IsRegimeFor, Sees, ShowsWorld, asked_by, space_in}
 use Rattle.shadow_fold.specs.Reads.{Spends, reads_due}
 use Rattle.shadow_fold.specs.Table.{Table}
-use Rattle.cloaked_side.proofs.Spending.{due_events, looks_then, maps_further, maps_of, maps_on, maps_same, maps_still, spends_looks, spends_more, spends_still, spends_then}
+use Rattle.cloaked_side.proofs.Spending.{due_events, maps_further, maps_of, maps_on, maps_same, maps_still, spends_looks, spends_more, spends_still, spends_then}
 use Rattle.cloaked_side.specs.declared.side.Side.{Side}
 use Rattle.cloaked_side.proofs.Rooming.{changed_or_not, unheld_unowed}
 use Rattle.cloaked_side.proofs.Sided.{Repaged, AgreesAlways, count_of}
@@ -37,7 +36,9 @@ use Rattle.cloaked_side.proofs.Tracking.{respaced, tracks_drop, tracks_on, track
 use Rattle.cloaked_side.specs.Tracking.{Tracks, TracksBy, MapsStill, spent_in}
 use Rattle.shadow_fold.specs.Fold.{Fold, holds, touched_where}
 use Rattle.cloaked_side.proofs.Answering.{drawn_told, undrawn_told}
-use Rattle.cloaked_side.proofs.Emitting.{emits_items}
+use Rattle.cloak_model.proofs.Emitting.{emits_items}
+use Rattle.cloak_model.proofs.Settling.{settle_unowed}
+use Rattle.shadow_fold.proofs.Looks.{looks_then}
 
 -- what a frame is owed in a world
 owed_by_world : {E : Type 0} (gave : E → E → List Piece → Type 0) (first now : Side E) (f : ℕ) (w : World) →
@@ -223,7 +224,7 @@ shows_settled gave first old new f (Alone handed) settles spends maps violation 
 shows_settled gave first old new f (Cloaked c) settles spends maps violation domain regime none shows =
     let h = shows.holds in
     let unowed : owed_in c.memory f ≡ None = owed_by_right old.memory.now.pager h.wiped c.memory h.pager f ∙ none in
-    let s = subst (λ (x : AfterSettling). Settles gave old.emitter.now new.emitter.now new.memory.now x) (settle_none f c.memory unowed) (settles c.memory h) in
+    let s = subst (λ (x : AfterSettling). Settles gave old.emitter.now new.emitter.now new.memory.now x) (settle_unowed f c.memory unowed) (settles c.memory h) in
     record {
       holds = s.holds;
       emits = subst (λ (is : List Item). Emits gave first.emitter.now new.emitter.now (item_pieces is))
@@ -237,7 +238,7 @@ shows_settled gave first old new f (Cloaked c) settles spends maps violation dom
           (spends_then 0 0 (reads_due (asked_by (space_in old.regime) c)) 0 (spent_in first.memory.now) (spent_in old.memory.now) (spent_in new.memory.now)
           shows.spends
           (subst (λ (x : AfterSettling). Spends 0 (length x.ciphers) (spent_in old.memory.now) (spent_in new.memory.now))
-          (settle_none f c.memory unowed) (spends c.memory h))));
+          (settle_unowed f c.memory unowed) (spends c.memory h))));
       maps = maps_further first.memory.now old.memory.now new.memory.now (space_in new.regime) c.events
           (maps_of first.memory.now old.memory.now (space_in old.regime) (space_in new.regime) c.events (ap space_in regime) shows.maps) maps;
     }

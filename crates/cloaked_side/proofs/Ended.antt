@@ -1,8 +1,7 @@
 -- The end of a domain's pages, over plain variables.
-use Rattle.std.proofs.Common.{◌≡◌, ◌≢◌, ◌<◌, ◌≤◌, ◌+◌, ℕ, zero, suc, true, false, List, [], ◌∷◌, ◌++◌, Some, None, length, slice_index_or}
+use Rattle.std.proofs.Common.{◌≡◌, ◌≢◌, ◌<◌, ◌≤◌, ◌+◌, ℕ, zero, suc, List, [], ◌∷◌, ◌++◌, Some, None, length}
 use Rattle.std.proofs.Common.{refl, ap, sym, ◌∙◌, subst, inl, inr, arith}
 use Rattle.std.proofs.lemmas.Bool.{cases_lt}
-use Rattle.std.proofs.lemmas.List.{get_or-replicate}
 use Rattle.cloak_base.specs.declared.names.PageId.{PageId}
 use Rattle.cloak_base.proofs.Pages.{is_of_tells}
 use Rattle.cloak_model.specs.AskPages.{settled_if_marked, ask_forget}
@@ -51,9 +50,6 @@ settled_next d n w =
     let one : suc n ≡ n + 1 = omega arith in
     ap (λ (k : ℕ). settled_if_marked d all_marked k (settled_for d 0 n w)) here ∙ sym (settled_last d 0 n w)
     ∙ ap (λ (k : ℕ). settled_for d 0 k w) one
-
-pub mark_of_all : (r : ℕ) → r < 16 → slice_index_or all_marked r false ≡ true
-mark_of_all r low = get_or-replicate 16 r true false low
 
 -- Forgetting.
 

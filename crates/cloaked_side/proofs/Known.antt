@@ -19,7 +19,6 @@ use Rattle.shadow_fold.specs.Table.{is_known, one_more, with_room, emptied}
 use Rattle.shadow_law.specs.Agreeing.{present, entry_walk, touches, AreOutside}
 use Rattle.shadow_law.specs.Walks.{listed}
 use Rattle.shadow_law.specs.Misses.{StayOutsideBut}
-use Rattle.shadow_law.proofs.Changes.{settle_count}
 use Rattle.shadow_law.proofs.Misses.{asked_walk, open_entry_agrees, page_entry_agrees, entry_within, keeps_birth}
 use Rattle.cloaked_side.specs.Holding.{HoldsNoMore, HoldsNoOther}
 use Rattle.cloaked_side.specs.Leading.{IsWalkOf, IsLedBy, IsLedSo, IsLive, IsReachedSo, IsRegimeIn, IsEntryOf, IsFoundSo, Leads, Reaches, asked_led, entry_to}
@@ -63,7 +62,7 @@ use Rattle.shadow_fold.specs.declared.entry.Regime.TheVariants.{Outside, Inside}
 use Rattle.cloak_model.specs.World.{ram_of}
 use Rattle.cloaked_side.proofs.Answering.{asked_fault, reached_fault}
 use Rattle.cloaked_side.proofs.Sided.{count_of, sees_also, sees_noted, within_of}
-use Rattle.cloaked_side.proofs.Spending.{due_events, paid_is, maps_born, maps_looked, maps_on, looks_then, maps_still, since_then, spends_looks, spends_missed, spends_more, spends_still, spends_then, live_looked}
+use Rattle.cloaked_side.proofs.Spending.{due_events, paid_is, maps_born, maps_looked, maps_on, maps_still, since_then, spends_looks, spends_missed, spends_more, spends_still, spends_then, live_looked}
 use Rattle.shadow_fold.specs.Reads.{SpendsFor, looks_in, reads_due}
 use Rattle.shadow_fold.proofs.Keys.{is_for-key}
 use Rattle.shadow_fold.proofs.Agreeing.{found}
@@ -75,6 +74,9 @@ use Rattle.cloaked_side.specs.Seeing.{Sees}
 use Rattle.cloaked_side.specs.declared.leading.Led.{Led}
 use Rattle.cloaked_side.specs.declared.side.Side.{Side}
 use Rattle.cloaked_side.proofs.Presents.{pager_owes}
+use Rattle.cloak_model.proofs.Settling.{count_settle}
+use Rattle.multi_shadow.proofs.Tables.{room_frames}
+use Rattle.shadow_fold.proofs.Looks.{looks_then}
 
 led_there : (c : MidStep) (regime : Regime) (va : ℕ) (kind : Kind) (e : Entry) → (e.regime ≡ regime) × (e.page ≡ va / 4096) × (e.kind ≡ kind)
     → (b : Told Walk) → ask_translate (satp_in e.regime) (access_in e.regime va e.kind) (Cloaked c) ≡ b
@@ -390,14 +392,6 @@ entry_leads gave first old t (Cloaked c) regime va kind e cloaked led sees viewe
       )
     ])
 
-room_frames : (t : Table) → (with_room t).frames ≡ t.frames
-unfolding with_room emptied
-room_frames t = by_test (nat_le 1024 (length t.live))
-  where
-    by_test : (b : Bool) → (cond b (record t { live = []; counts = record t.counts { flushes = one_more t.counts.flushes } }) t).frames ≡ t.frames
-    by_test true = refl
-    by_test false = refl
-
 birth_frames : (known : Bool) (e : Entry) (old new : Table) → AreBirthCalls known e old new → new.frames ≡ old.frames
 birth_frames true e old new made = ap (λ (t : Table). t.frames) made
 birth_frames false e old new made = ap (λ (t : Table). t.frames) made.1 ∙ room_frames old
@@ -489,7 +483,7 @@ open_entry gave first old new regime va kind walked (Cloaked c) sees is outside 
       open_entry_agrees (held_in old.memory.now.pager) (held_in new.memory.now.pager) c.memory regime va kind walked is.0 is.1
           (pager_owes old.memory.now.pager h.wiped c.memory h.pager) outside
           (outside_still old.memory.now.pager new.memory.now.pager (frame_of walked.pa) less) none,
-      subst (λ (n : ℕ). IsWithin n (entry_of regime (va / 4096) kind walked None)) (sym (settle_count (frame_of walked.pa) c.memory))
+      subst (λ (n : ℕ). IsWithin n (entry_of regime (va / 4096) kind walked None)) (sym (count_settle (frame_of walked.pa) c.memory))
           (entry_within c.memory.ram regime va kind walked None is.0 is.1),
     )
 

@@ -1,4 +1,3 @@
-pub mod Emitting
 pub mod Holders
 pub mod Settling
 pub mod Marking

@@ -1,7 +1,7 @@
 -- A table whose entries end: what was not known is not known.
 use Rattle.std.proofs.Common.{◌≡◌, ◌/◌, ℕ, Bool, true, false, ◌||◌, not, cond, List, [], ◌∷◌, filter, refl, sym, ◌∙◌}
 use Rattle.std.specs.List.{list_any}
-use Rattle.std.proofs.lemmas.Bool.{false≢true}
+use Rattle.std.proofs.lemmas.Bool.{false≢true, or_right}
 use Rattle.cloak_base.specs.declared.names.Frame.{Frame}
 use Rattle.cloak_base.specs.declared.names.Kind.{Kind}
 use Rattle.cloak_model.specs.Asking.{Keeps}
@@ -15,14 +15,7 @@ use Rattle.cloaked_side.specs.Leading.{WalkLeaves}
 use Rattle.cloaked_side.specs.Seeing.{LosesOnly, StaysWalking}
 use Rattle.cloaked_side.specs.declared.side.Side.{Side}
 use Rattle.cloaked_side.proofs.Sided.{within_self, within_then}
-
-or_right : (c d : Bool) → d ≡ true → (c || d) ≡ true
-or_right true d is = refl
-or_right false d is = is
-
-or_more : (c d e : Bool) → (d ≡ true → e ≡ true) → (c || d) ≡ true → (c || e) ≡ true
-or_more true d e more is = refl
-or_more false d e more is = more is
+use Rattle.cloak_base.proofs.Choices.{or_more}
 
 kept_any : {A : Type 0} (p : A → Bool) (x : A) (xs : List A) (b : Bool) → list_any p (cond b (x ∷ xs) xs) ≡ true
     → (p x || list_any p xs) ≡ true

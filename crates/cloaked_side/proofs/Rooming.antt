@@ -2,16 +2,13 @@
 use Rattle.std.proofs.Common.{◌≡◌, ◌≢◌, ◌<◌, ◌+◌, ℕ, Bool, true, false, not, cond, List, [], ◌∷◌, ◌++◌, Option, Some, None}
 use Rattle.std.proofs.Common.{length, get_or, append_assoc, inl, inr, ◌⊎◌, refl, ap, sym, ◌∙◌, subst, arith}
 use Rattle.std.specs.Str.{bytes_eq}
-use Rattle.std.specs.List.{position, position_or_len}
-use Rattle.std.proofs.lemmas.Grind.{common_steps}
 use Rattle.std.proofs.lemmas.Bool.{false≢true}
 use Rattle.std.proofs.lemmas.List.{append-nil, length-append, length-map}
 use Rattle.std.proofs.lemmas.List.Quantifiers.{position-Some}
-use Rattle.std.proofs.lemmas.List.Sums.{fails_before_first}
 use Rattle.cloak_base.specs.declared.names.PageId.{PageId}
-use Rattle.cloak_base.proofs.Pages.{same_page-decides, same_page-self}
+use Rattle.cloak_base.proofs.Pages.{same_page-self}
 use Rattle.cloak_model.specs.Cloaking.{CloakedMemory, AfterSettling, AfterOffer, settle}
-use Rattle.cloak_model.specs.Cloaking.{settle_frame_if, offer, owes, owing_frame, compared, unless_missed, owed_in}
+use Rattle.cloak_model.specs.Cloaking.{settle_frame_if, offer, owes, owing_frame, compared, unless_missed, owed_in, taken, with_owed, with_comparison}
 use Rattle.cloak_pager.specs.Turns.{StaysBut}
 use Rattle.cloak_pager.proofs.Pages.{same_or_not}
 use Rattle.cloak_pager.specs.State.{PagerState, IsWholePager, page_of, owed_under, right_at, held_in, owed_at}
@@ -19,7 +16,6 @@ use Rattle.cloak_pager.specs.Relation.{StandsForMemory}
 use Rattle.cloak_pager.specs.declared.frame_right.FrameRight.{FrameRight}
 use Rattle.cloak_pager.specs.declared.frame_right.FrameRight.TheVariants.{Outside, Clean, Changed, Spent}
 use Rattle.cloak_pager.proofs.Stands.{owed_by_right, owed_held}
-use Rattle.cloak_pager.proofs.Touches.{settle_none}
 use Rattle.cloak_pager.proofs.Writes.{held_within}
 use Rattle.cloak_pager.proofs.Offers.{unowed_nowhere, unowed_clean, none_owing, offer_settled, offer_at_once}
 use Rattle.cloak_model.specs.World.{cipher_items}
@@ -31,10 +27,14 @@ use Rattle.cloaked_side.specs.Holding.{Holds}
 use Rattle.cloaked_side.specs.Tracking.{spent_in}
 use Rattle.shadow_fold.specs.Reads.{Spends}
 use Rattle.cloaked_side.proofs.Spending.{spends_more}
-use Rattle.cloaked_side.proofs.Emitting.{emits_none}
+use Rattle.cloak_model.proofs.Emitting.{emits_none}
 use Rattle.cloaked_side.specs.Offering.{behind_ciphers, offer_left, Rooms, Offers}
 use Rattle.cloaked_side.specs.declared.memory.Memory.{Memory}
 use Rattle.cloaked_side.proofs.Settling.{TellsDraws, counts, draws_by, missed_by, marks_by}
+use Rattle.cloak_model.proofs.Owing.{owes_page}
+use Rattle.cloak_model.proofs.Settling.{settle_unowed}
+use Rattle.cloak_base.proofs.Choices.{either}
+use Rattle.cloak_base.proofs.Lists.{fails_all}
 
 -- a frame that holds a page is owed it or owed nothing
 pub changed_or_not : (h : FrameRight) (q : PageId) → page_of h ≡ Some q → (owed_under h ≡ Some q) ⊎ (owed_under h ≡ None)
@@ -49,15 +49,6 @@ unheld_unowed (Clean r) e = refl
 unheld_unowed (Changed r) e = e
 unheld_unowed Spent e = refl
 
-position_none : {X : Type 0} (p : X → Bool) (xs : List X) (i : ℕ) (d : X) → position p xs ≡ None → i < length xs →
-    p (get_or xs i d) ≡ false
-position_none p xs i d e lt = let far : i < position_or_len p xs = grind (arith, common_steps) in
-    fails_before_first p xs i d far
-
-owing_is : (q : PageId) (o : Option PageId) → owes q o ≡ true → o ≡ Some q
-owing_is q None e = absurd (false≢true e)
-owing_is q (Some x) e = ap (λ (y : PageId). Some y) ((same_page-decides x q).0 e)
-
 -- a frame that does not hold the page is not owed it
 unowed_here : (p : PagerState) (w : PageId → Bool) (m : CloakedMemory) (g : ℕ) (q : PageId) → StandsForMemory p w m →
     held_in p g ≢ Some q → owes q (owed_in m g) ≡ false
@@ -66,7 +57,7 @@ unowed_here p w m g q s n = by_value (owes q (owed_in m g)) refl
     by_value : (b : Bool) → owes q (owed_in m g) ≡ b → owes q (owed_in m g) ≡ false
     by_value false e = e
     by_value true e = absurd (n
-        (owed_held (right_at p g) q (sym (owed_by_right p w m s g) ∙ owing_is q (owed_in m g) e)))
+        (owed_held (right_at p g) q (sym (owed_by_right p w m s g) ∙ owes_page q (owed_in m g) e)))
 
 -- the frame that holds a page changed is the one that is found to be owed it
 found : (p : PagerState) (w : PageId → Bool) (m : CloakedMemory) (f : ℕ) (q : PageId) → StandsForMemory p w m →
@@ -82,11 +73,11 @@ found p w m f q s held owed = by_value (owing_frame m q) refl
     here = ap (λ o. owes q o) (owed_by_right p w m s f ∙ owed) ∙ same_page-self q
 
     by_value : (o : Option ℕ) → owing_frame m q ≡ o → o ≡ Some f
-    by_value None e = absurd (false≢true (sym (position_none (owes q) m.ledger.owed f None e within) ∙ here))
+    by_value None e = absurd (false≢true (sym (fails_all (owes q) m.ledger.owed f None e within) ∙ here))
     by_value (Some i) e =
         let at = position-Some (owes q) m.ledger.owed i None e in
         ap (λ k. Some k) (s.whole.one_home i f q
-        (owed_held (right_at p i) q (sym (owed_by_right p w m s i) ∙ owing_is q (owed_in m i) at.1)) held)
+        (owed_held (right_at p i) q (sym (owed_by_right p w m s i) ∙ owes_page q (owed_in m i) at.1)) held)
 
 -- so settling the frame that holds a page is settling the one that is owed it, if there is one
 home_settled : (p : PagerState) (w : PageId → Bool) (m : CloakedMemory) (f : ℕ) (q : PageId) → StandsForMemory p w m →
@@ -94,7 +85,7 @@ home_settled : (p : PagerState) (w : PageId → Bool) (m : CloakedMemory) (f : �
 home_settled p w m f q s held = elim (changed_or_not (right_at p f) q held) [
   | inl owed ↦ ap (λ o. settle_frame_if o m) (found p w m f q s held owed)
   | inr none ↦ ap (λ o. settle_frame_if o m) (none_owing m q (unowed_clean p w m s f q held none))
-      ∙ sym (settle_none f m (owed_by_right p w m s f ∙ none))
+      ∙ sym (settle_unowed f m (owed_by_right p w m s f ∙ none))
 ]
 
 -- what follows the settling of the frame
@@ -223,46 +214,26 @@ rest_by p2 w2 m g f q write false missed s outside nowhere = rest_drawn p2 w2 m 
 
 -- An offer that shows nothing draws nothing, and ends no reservation.
 
-record Same (m : CloakedMemory) (o : AfterOffer) : Type 0 where
-  pub draws : o.memory.ledger.draws ≡ m.ledger.draws
-  pub missed : o.memory.ledger.missed ≡ m.ledger.missed
-  pub marks : o.memory.marks ≡ m.marks
+record SameIn (m n : CloakedMemory) : Type 0 where
+  pub draws : n.ledger.draws ≡ m.ledger.draws
+  pub missed : n.ledger.missed ≡ m.ledger.missed
+  pub marks : n.marks ≡ m.marks
 
-pick : {A : Type 0} (P : A → Type 0) (b : Bool) (x y : A) → P x → P y → P (cond b x y)
-pick P true x y here there = here
-pick P false x y here there = there
-
-compared_draws : (q : PageId) (g : ℕ) (write : Bool) (r : Option (List ℕ)) (m : CloakedMemory) →
-    (compared q g write r m).memory.ledger.draws ≡ m.ledger.draws
-unfolding compared
-compared_draws q g write None m = refl
-compared_draws q g write (Some c) m =
-    pick (λ (o : AfterOffer). o.memory.ledger.draws ≡ m.ledger.draws) (bytes_eq (get_or m.ram g []) c) _ _
-    (pick (λ (x : CloakedMemory). x.ledger.draws ≡ m.ledger.draws) write _ _ refl refl) refl
-
-compared_missed : (q : PageId) (g : ℕ) (write : Bool) (r : Option (List ℕ)) (m : CloakedMemory) →
-    (compared q g write r m).memory.ledger.missed ≡ m.ledger.missed
-unfolding compared
-compared_missed q g write None m = refl
-compared_missed q g write (Some c) m =
-    pick (λ (o : AfterOffer). o.memory.ledger.missed ≡ m.ledger.missed) (bytes_eq (get_or m.ram g []) c) _ _
-    (pick (λ (x : CloakedMemory). x.ledger.missed ≡ m.ledger.missed) write _ _ refl refl) refl
-
-compared_marks : (q : PageId) (g : ℕ) (write : Bool) (r : Option (List ℕ)) (m : CloakedMemory) →
-    (compared q g write r m).memory.marks ≡ m.marks
-unfolding compared
-compared_marks q g write None m = refl
-compared_marks q g write (Some c) m =
-    pick (λ (o : AfterOffer). o.memory.marks ≡ m.marks) (bytes_eq (get_or m.ram g []) c) _ _
-    (pick (λ (x : CloakedMemory). x.marks ≡ m.marks) write _ _ refl refl) refl
+abbrev Same : CloakedMemory → AfterOffer → Type 0
+Same m o = SameIn m o.memory
 
 compared_same : (q : PageId) (g : ℕ) (write : Bool) (r : Option (List ℕ)) (m : CloakedMemory) →
     Same m (compared q g write r m)
-compared_same q g write r m = record {
-  draws = compared_draws q g write r m;
-  missed = compared_missed q g write r m;
-  marks = compared_marks q g write r m;
-}
+unfolding compared
+compared_same q g write None m = record { draws = refl; missed = refl; marks = refl }
+compared_same q g write (Some c) m =
+    let there = get_or m.ram g [] in
+    let m' : CloakedMemory = with_comparison there c m in
+    let same : SameIn m m' = record { draws = refl; missed = refl; marks = refl } in
+    either (Same m) (bytes_eq there c) (record { memory = taken q g write m'; ciphers = []; granted = true })
+    (record { memory = m'; ciphers = []; granted = false })
+    (either (SameIn m) write (with_owed g (Some q) m') m' (record { draws = refl; missed = refl; marks = refl }) same)
+    same
 
 nothing_left : {A : Type 0} (xs ys : List A) → xs ++ ys ≡ [] → (xs ≡ []) × (ys ≡ [])
 nothing_left [] ys e = (refl, e)
@@ -314,7 +285,7 @@ offer_same q g write m none = by_owes (owes q (owed_in m g)) refl
         (λ m''. compared q g write (m''.ledger.recorded q) m'') (counts_frame_if (owing_frame m' q) m')
         (λ m'' n. compared_same q g write (m''.ledger.recorded q) m'')))
     by_owes true e =
-        same_by _ (offer_at_once q g write m (owing_is q (owed_in m g) e))
+        same_by _ (offer_at_once q g write m (owes_page q (owed_in m g) e))
         (λ n. record { draws = refl; missed = refl; marks = refl })
 
 -- a frame that holds the page has room for it

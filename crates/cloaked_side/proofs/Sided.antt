@@ -35,14 +35,14 @@ use Rattle.cloak_base.specs.declared.names.Meta.{Meta}
 use Rattle.protect_meta.specs.Pages.{IsIn}
 use Rattle.protect_meta.specs.Table.{domains_of}
 use Rattle.cloak_pager.specs.State.{PagerState, held_in}
-use Rattle.cloaked_side.proofs.Emitting.{emits_none, emits_items, some_then}
+use Rattle.cloak_model.proofs.Emitting.{emits_none, emits_items, some_then}
 use Rattle.cloaked_side.proofs.Marking.{stands_remarked}
 use Rattle.cloaked_side.proofs.Holders.{no_more_self, no_more_then, no_more_rights}
 use Rattle.cloaked_side.proofs.Translating.{agrees_read, agrees_rights, ending_frames}
 use Rattle.cloaked_side.specs.Offering.{OfferLeaves}
 use Rattle.cloaked_side.specs.Tracking.{Tracks, TracksBy, MapsBy, MapsStill, spent_in}
 use Rattle.shadow_fold.specs.Reads.{Spends, SpendsFor, looks_in, reads_due}
-use Rattle.cloaked_side.proofs.Spending.{paid_is, looks_then, spends_looks, spends_more, spends_on, spends_then, spends_read, spends_still, spends_ended, due_events, due_items, due_event, ciphers_due, maps_ending, maps_further, maps_of, maps_on, maps_same, maps_still, since_then}
+use Rattle.cloaked_side.proofs.Spending.{paid_is, spends_looks, spends_more, spends_on, spends_then, spends_read, spends_still, spends_ended, due_events, due_items, due_event, ciphers_due, maps_ending, maps_further, maps_of, maps_on, maps_same, maps_still, since_then}
 use Rattle.cloaked_side.proofs.Tracking.{no_events, read_held, respaced, same_tracks, tracks_on, tracks_read, tracks_same, tracks_touch}
 use Rattle.shadow_fold.specs.Fold.{Fold, after_events, frame, touched}
 use Rattle.cloaked_side.specs.declared.memory.Memory.{Memory}
@@ -53,6 +53,7 @@ use Rattle.cloak_base.specs.declared.names.Kind.{Kind}
 use Rattle.cloak_base.specs.declared.names.Kind.TheVariants.{Store}
 use Rattle.cloak_model.specs.declared.answer.Answer.{Answer}
 use Rattle.cloak_model.specs.declared.answer.Answer.TheVariants as answer
+use Rattle.shadow_fold.proofs.Looks.{looks_then}
 
 -- What calls did to a side that sees this: events and items more, and a memory that went on with them.
 pub counted_on : {E : Type 0} (gave : E → E → List Piece → Type 0) (first old new : Side E) (c c' : MidStep) (left more : ℕ)
@@ -194,7 +195,7 @@ pub stays_then : {E : Type 0} (gave : E → E → List Piece → Type 0) (first 
 stays_then gave first old new s t = record {
   same_memory = t.same_memory ∙ s.same_memory;
   same_emitter = t.same_emitter ∙ s.same_emitter;
-  emits_some = some_then gave _ _ _ s.emits_some t.emits_some;
+  emits_some = some_then s.emits_some t.emits_some;
   size = size_then first.memory.now old.memory.now new.memory.now s.size t.size;
   domain = t.domain ∙ s.domain;
   regime = t.regime ∙ s.regime;

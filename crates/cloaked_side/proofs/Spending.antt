@@ -27,7 +27,7 @@ use Rattle.shadow_fold.specs.Agreement.{IsMapped}
 use Rattle.shadow_fold.specs.Births.{MakeAll}
 use Rattle.shadow_fold.specs.Following.{killed_if, AreBirthCalls}
 use Rattle.shadow_fold.specs.Fold.{entry_in}
-use Rattle.shadow_fold.specs.Reads.{Spent, Spends, SpendsFor, counted_up, is_look, is_read, looks_in, reads_due}
+use Rattle.shadow_fold.specs.Reads.{Spent, Spends, SpendsFor, counted_up, is_read, looks_in, reads_due}
 use Rattle.shadow_fold.specs.Table.{Table, looked, one_more, ending, killed}
 use Rattle.shadow_fold.specs.Entries.{is_target, is_table}
 use Rattle.shadow_fold.specs.declared.entry.Entry.{Entry}
@@ -37,6 +37,7 @@ use Rattle.shadow_law.proofs.Misses.{keeps_birth}
 use Rattle.cloaked_side.specs.declared.memory.Memory.{Memory}
 use Rattle.cloaked_side.specs.Seeing.{paid, touched_since}
 use Rattle.cloaked_side.specs.Tracking.{MapsBy, MapsStill, spent_in}
+use Rattle.shadow_fold.proofs.Looks.{looks_then}
 
 -- Reads.
 
@@ -146,10 +147,6 @@ pub due_event : (space : Option SpaceId) (es : List Event) (is : List Item) (e :
 due_event space es is e =
     let both : count_by is_read (es ++ e ∷ []) ≡ count_by is_read es + count_by is_read (e ∷ []) = sum_by-append (λ x. cond (is_read x) 1 0) es (e ∷ []) in
     omega (arith, both)
-
--- looks go on with events
-pub looks_then : (es fs : List Event) → looks_in (es ++ fs) ≡ looks_in es + looks_in fs
-looks_then es fs = sum_by-append (λ e. cond (is_look e) 1 0) es fs
 
 pub ciphers_due : (cs : List (ℕ × List ℕ)) → count_by is_cipher (cipher_items cs) ≡ length cs
 ciphers_due [] = refl

@@ -23,7 +23,7 @@ use Rattle.cloaked_side.specs.Seeing.{IsRegimeFor, Sees, asked_by, space_in}
 use Rattle.cloaked_side.specs.Telling.{HoldsWorld, TellsSide}
 use Rattle.cloaked_side.specs.declared.memory.Memory.{Memory}
 use Rattle.cloaked_side.specs.declared.side.Side.{Side}
-use Rattle.cloaked_side.proofs.Emitting.{emits_none}
+use Rattle.cloak_model.proofs.Emitting.{emits_none}
 
 -- a side as a step begins
 pub sees_first : {E : Type 0} (gave : E → E → List Piece → Type 0) (s : Side E) (c : MidStep) →

@@ -5,7 +5,6 @@ use Rattle.std.specs.Prelude.{IfSome}
 use Rattle.std.proofs.lemmas.Bool.{false≢true, eq-eqb, cases_lt}
 use Rattle.std.proofs.lemmas.Bool.Decides.{eqb_tells}
 use Rattle.cloak_base.specs.Pages.{same_page, is_of}
-use Rattle.cloak_base.proofs.Pages.{same_page-decides, same_page-self}
 use Rattle.cloak_base.specs.declared.names.Frame.{Frame}
 use Rattle.cloak_base.specs.declared.names.PageId.{PageId}
 use Rattle.cloak_base.specs.declared.names.SpaceId.{SpaceId}
@@ -36,6 +35,8 @@ use Rattle.cloak_pager.specs.declared.touching.Touched.TheVariants.{Quiet}
 use Rattle.cloaked_side.specs.declared.memory.Memory.{Memory}
 use Rattle.cloaked_side.proofs.Translating.{quiet_held}
 use Rattle.cloaked_side.specs.Tracking.{KeepsFold, Tracks, TracksBy, room_made, touched_if}
+use Rattle.shadow_law.proofs.Tables.{held_page, not_holding_page}
+use Rattle.shadow_law.proofs.Changes.{holds_self}
 
 -- events one after another
 pub events_then : (space : Option SpaceId) (es fs : List Event) (s : Fold) → after_events space (es ++ fs) s ≡ after_events space fs (after_events space es s)
@@ -116,26 +117,12 @@ read_held old new read k = ap (λ (p : PagerState). held_in p k) read
 
 -- Page q is offered in frame g.
 
-holds_it : (q : PageId) (o : Option PageId) → holds (same_page q) o ≡ true → o ≡ Some q
-holds_it q None is = absurd (false≢true is)
-holds_it q (Some p) is = ap (λ (x : PageId). Some x) (sym ((same_page-decides q p).0 is))
-
-it_holds : (q : PageId) (o : Option PageId) → o ≡ Some q → holds (same_page q) o ≡ true
-it_holds q o is = ap (λ (x : Option PageId). holds (same_page q) x) is ∙ same_page-self q
-
-holds_not : (q : PageId) (o : Option PageId) → o ≢ Some q → holds (same_page q) o ≡ false
-holds_not q o n = by (holds (same_page q) o) refl
-  where
-    by : (b : Bool) → holds (same_page q) o ≡ b → holds (same_page q) o ≡ false
-    by false e = e
-    by true e = absurd (n (holds_it q o e))
-
 -- nobody holds the page: the frames that hold it are none
 pub goes_on_none : (c : Bool) (t : Table) (held : ℕ → Option PageId) (q : PageId) (s : Fold) → ((k : ℕ) → held k ≢ Some q) → KeepsFold c t held s
     → KeepsFold c t held (touched_where (same_page q) s)
 unfolding touched_where
 goes_on_none c t held q s nowhere keeps = record {
-  pages = λ k. keeps.pages k ∙ ap (λ (b : Bool). cond b None (s.held k)) (sym (holds_not q (s.held k) (away k)));
+  pages = λ k. keeps.pages k ∙ ap (λ (b : Bool). cond b None (s.held k)) (sym (not_holding_page q (s.held k) (away k)));
   entries = λ counts. subst (λ (u : Table). FollowsTable t u) (each_is_all s.held (same_page q) [] s.table none) (keeps.entries counts);
 }
   where
@@ -143,7 +130,7 @@ goes_on_none c t held q s nowhere keeps = record {
     away k is = nowhere k (keeps.pages k ∙ is)
 
     none : HasAll s.held (same_page q) []
-    none f is = absurd (away f (holds_it q (s.held f) is))
+    none f is = absurd (away f (held_page q (s.held f) is))
 
 -- One frame holds the page: the frames that hold it are that one.
 pub goes_on_home : (c c' : Bool) (t t' : Table) (held held' : ℕ → Option PageId) (q : PageId) (f : ℕ) (s : Fold) → KeepsFold c t held s → held f ≡ Some q
@@ -158,18 +145,18 @@ goes_on_home c c' t t' held held' q f s before home one keeps = record {
     here = sym (before.pages f) ∙ home
 
     all : HasAll s.held (same_page q) (frame f ∷ [])
-    all k is = ap (λ (n : ℕ). (f == n) || false) (one k (before.pages k ∙ holds_it q (s.held k) is)) ∙ ap (λ (b : Bool). b || false) (eq-eqb f f refl)
+    all k is = ap (λ (n : ℕ). (f == n) || false) (one k (before.pages k ∙ held_page q (s.held k) is)) ∙ ap (λ (b : Bool). b || false) (eq-eqb f f refl)
 
     table : (cond (is_some (s.held f)) (with_held (frame f) None (with_table (killed (frame f) s.table) s)) s).table ≡ ending (part_holds s.held (same_page q)) s.table
     table =
         ap (λ (o : Option PageId). (cond (is_some o) (with_held (frame f) None (with_table (killed (frame f) s.table) s)) s).table) here
-        ∙ ap (λ (b : Bool). killed_if b (frame f) s.table) (sym (it_holds q (s.held f) here))
+        ∙ ap (λ (b : Bool). killed_if b (frame f) s.table) (sym (holds_self q (s.held f) here))
         ∙ each_is_all s.held (same_page q) (frame f ∷ []) s.table all
 
     by : (k : ℕ) → emptied_at f s.held k ≡ cond (holds (same_page q) (s.held k)) None (s.held k)
     by k = elim (eqb_tells k f) [
-      | inl h ↦ ap (λ (b : Bool). cond b None (s.held k)) (h.0 ∙ sym (it_holds q (s.held k) (ap s.held h.1 ∙ here)))
-      | inr h ↦ ap (λ (b : Bool). cond b None (s.held k)) (h.0 ∙ sym (holds_not q (s.held k) (λ is. h.1 (one k (before.pages k ∙ is)))))
+      | inl h ↦ ap (λ (b : Bool). cond b None (s.held k)) (h.0 ∙ sym (holds_self q (s.held k) (ap s.held h.1 ∙ here)))
+      | inr h ↦ ap (λ (b : Bool). cond b None (s.held k)) (h.0 ∙ sym (not_holding_page q (s.held k) (λ is. h.1 (one k (before.pages k ∙ is)))))
     ]
 
 -- what an offer is, by whether the frame holds the page
@@ -177,13 +164,13 @@ goes_on_home c c' t t' held held' q f s before home one keeps = record {
 pub offered_again : (q : PageId) (g : ℕ) (grant : Bool) (s : Fold) → s.held g ≡ Some q → offered q (frame g) grant s ≡ s
 unfolding offered
 offered_again q g grant s is =
-    ap (λ (b : Bool). cond b s (granted q (frame g) grant (touched_where (same_page q) (touched (frame g) s)))) (it_holds q (s.held g) is)
+    ap (λ (b : Bool). cond b s (granted q (frame g) grant (touched_where (same_page q) (touched (frame g) s)))) (holds_self q (s.held g) is)
 
 pub offered_new : (q : PageId) (g : ℕ) (grant : Bool) (s : Fold) → s.held g ≢ Some q
     → offered q (frame g) grant s ≡ granted q (frame g) grant (touched_where (same_page q) (touched (frame g) s))
 unfolding offered
 offered_new q g grant s n =
-    ap (λ (b : Bool). cond b s (granted q (frame g) grant (touched_where (same_page q) (touched (frame g) s)))) (holds_not q (s.held g) n)
+    ap (λ (b : Bool). cond b s (granted q (frame g) grant (touched_where (same_page q) (touched (frame g) s)))) (not_holding_page q (s.held g) n)
 
 -- the frame holds the page now
 pub goes_on_granted : (c : Bool) (t t' : Table) (held held' : ℕ → Option PageId) (q : PageId) (g : ℕ) (s : Fold) → KeepsFold c t held s

@@ -13,7 +13,6 @@ use Rattle.cloak_pager.specs.declared.frame_right.FrameRight.TheVariants.{Outsid
 use Rattle.cloak_pager.specs.declared.touching.Touched.TheVariants.{Quiet, Resealed, Sealed, Wiped}
 use Rattle.cloak_pager.proofs.Pages.{same_or_not}
 use Rattle.cloak_pager.proofs.Stands.{owed_by_right}
-use Rattle.cloak_pager.proofs.Touches.{settle_none}
 use Rattle.shadow_fold.specs.Agreement.{EntryAgrees}
 use Rattle.shadow_fold.specs.Keeping.{Agrees}
 use Rattle.shadow_fold.proofs.Agreeing.{keeps_ending}
@@ -26,6 +25,7 @@ use Rattle.shadow_law.proofs.Tables.{touch_agrees, held_agrees, grant_agrees, re
 use Rattle.cloaked_side.specs.Holding.{Holds}
 use Rattle.cloaked_side.specs.declared.memory.Memory.{Memory}
 use Rattle.cloaked_side.proofs.Presents.{pager_owes, pager_shows}
+use Rattle.cloak_model.proofs.Settling.{settle_unowed}
 
 -- frames hold what their rights say
 pub held_by_rights : (old new : PagerState) → new.rights ≡ old.rights → held_in new ≡ held_in old
@@ -81,7 +81,7 @@ pub quiet_agrees : (old new : PagerState) (w : PageId → Bool) (m : CloakedMemo
 quiet_agrees old new w m f draw t stands quiet stays outside agrees =
     let was = quiet_held (right_at old f) draw quiet in
     subst (λ (n : CloakedMemory). Agrees (present (held_in new) n) t)
-    (sym (ap (λ (s : AfterSettling). s.memory) (settle_none f m (owed_by_right old w m stands f ∙ was.1))))
+    (sym (ap (λ (s : AfterSettling). s.memory) (settle_unowed f m (owed_by_right old w m stands f ∙ was.1))))
     (agrees_held (held_in old) (held_in new) m t (held_all f old new stays (outside ∙ sym was.0)) agrees)
 
 pub touched_agrees : (old new : PagerState) (m : CloakedMemory) (f : ℕ) (t : Table) → StaysBut f old new

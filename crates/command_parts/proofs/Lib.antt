@@ -2,6 +2,5 @@ pub mod BundleFacts
 pub mod FaultFacts
 pub mod FileFacts
 pub mod PutFacts
-pub mod RefusalFacts
 pub mod Refused
 pub mod StreamFacts

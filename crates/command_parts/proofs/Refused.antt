@@ -163,3 +163,9 @@ no_stream {S} {asked} {name} (spec.Numbered number) r before after reading asks 
     absurd of_file
 no_stream {S} {asked} {name} (spec.FromFile file) r before after reading asks next same reads of_file low held writing =
     no_file Random file r before after reading asks (next file refl) same reads of_file low held writing
+
+-- there was no memory
+pub no_memory : {S : Type 0} (asked : spec.Asked) (before after : FilesOutside S) → after.reading ≡ before.reading →
+    SameFiles before.held after.held → after.writing ≡ before.writing → NoRun asked refusal.NoMemory before after
+no_memory {S} asked before after reading held writing =
+    record { cause = record { reading = reading }; held = held; writing = writing }

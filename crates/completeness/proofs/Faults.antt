@@ -1,16 +1,12 @@
 -- A call that failed raised a count, and the bundle of a file is one.
 use native.Mathlib.Omega.{arith}
-use Rattle.std.proofs.Common.{◌≡◌, ◌∙◌, ◌-◌, ◌^◌, ◌<◌, ℕ, List, Option, Some, None, Result, sym, subst}
+use Rattle.std.proofs.Common.{◌≡◌, ◌-◌, ◌^◌, ◌<◌, ℕ, List, Option, Some, subst}
 use Rattle.std.specs.Prelude.{IfSome}
 use Rattle.std.proofs.Math.Nat.{lt_irrefl}
 use Rattle.cloak_model.specs.declared.image.Bundle.{Bundle}
-use Rattle.cloak_model.specs.declared.fault.BundleFault.{BundleFault}
 use Rattle.cloak_model.specs.Bundle.{IsBundle}
-use Rattle.cloak_model.specs.BundleFault.{bundle_fault}
 use Rattle.cloak_model.specs.Exchange.{Piece, recorded, shown}
-use Rattle.guest_bundle.proofs.Only.{one_bundle, bundle_again}
-use Rattle.guest_bundle.proofs.Faulty.{bundle_tells}
-use Rattle.guest_bundle.proofs.Tells.{Tells}
+use Rattle.guest_bundle.proofs.Only.{one_bundle}
 use Rattle.io_traits.specs.Told.{Rose}
 use Rattle.command_parts.specs.Bundles.{IsInFile}
 use Rattle.command_parts.specs.Outside.{Outside, NothingRose, Raised}
@@ -28,14 +24,6 @@ never_failed {S} {O} (shown bytes) before after nothing fault = never_rose _ _ n
 pub never_counted : (before now : ℕ) → before < 2 ^ 64 - 1 → now ≡ before → Rose before now → ⊥
 never_counted before now low same rose =
     lt_irrefl before (subst (λ (n : ℕ). before < n) same (omega (arith, low, rose)))
-
--- a bundle is no file with a fault
-pub no_fault : (bytes : List ℕ) (b : Bundle) (fault : BundleFault) → IsBundle bytes b → bundle_fault bytes ≡ Some fault → ⊥
-no_fault bytes b fault is faulty =
-    let none : bundle_fault bytes ≡ None =
-    subst (λ (r : Result Bundle BundleFault). Tells r (bundle_fault bytes)) (bundle_again bytes b is) (bundle_tells bytes)
-    in
-    let clash : None ≡ Some fault = sym none ∙ faulty in absurd cc
 
 -- the bundle of a file is one
 pub same_bundle : (told : Option (List ℕ)) (bytes : List ℕ) (a b : Bundle) → told ≡ Some bytes → IsBundle bytes a →

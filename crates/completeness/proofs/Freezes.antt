@@ -19,21 +19,13 @@ use Rattle.command_parts.specs.Refusal.{refusal_line, status_of_refusal}
 use Rattle.completeness.specs.Asked.{OnlyLine, WantsMemory}
 use Rattle.completeness.specs.Freezes.{AreToldFrozen, ComesToFrozen, EndsFrozen, FreezesAreComplete}
 use Rattle.completeness.specs.Runs.{Lacks}
-use Rattle.completeness.proofs.Faults.{never_failed, never_rose, no_fault}
+use Rattle.completeness.proofs.Faults.{never_failed, never_rose}
 use Rattle.command_parts.proofs.StreamFacts.{same_stream}
 use Rattle.completeness.proofs.Sources.{one_image}
+use Rattle.frozen_commands.proofs.SameWords.{as_freeze}
+use Rattle.guest_bundle.proofs.Faultless.{no_fault}
 
 -- The words.
-
--- what is said of the words of a run that is frozen is said of these
-as_asked : (P : spec.FreezeNames → ℕ → spec.Randomness → Type 0) (names n : spec.FreezeNames) (steps k : ℕ)
-    (from x : spec.Randomness) → spec.Freeze names steps from ≡ spec.Freeze n k x → P n k x → P names steps from
-as_asked P names n steps k from x same said =
-    let a : n ≡ names = cc in
-    let b : k ≡ steps = cc in
-    let d : x ≡ from = cc in
-    subst (λ (y : spec.FreezeNames). P y steps from) a
-    (subst (λ (y : ℕ). P n y from) b (subst (λ (y : spec.Randomness). P n k y) d said))
 
 no_run : (names : spec.FreezeNames) (steps : ℕ) (from : spec.Randomness) (n : List ℕ) (r : Option (List ℕ)) (k : ℕ)
     (x : spec.Randomness) → spec.Freeze names steps from ≡ spec.asked_run n r k x → ⊥
@@ -78,7 +70,7 @@ lacks : {S O : Type 0} (names : spec.FreezeNames) (steps : ℕ) (from : spec.Ran
     IsFreezeLack (spec.Freeze names steps from) lack before.files after.files → Lacks lack answer before after →
     Complete names steps s answer before after
 lacks {S} {O} names steps from s lack answer before after told cause given =
-    let both = as_asked (λ n k x. AsksFrozen n x before.files.held cause.sources
+    let both = as_freeze (λ n k x. AsksFrozen n x before.files.held cause.sources
     × (opening cause.sources.bundle cause.sources.stream ≡ Err lack)) names cause.names steps cause.steps from
     cause.randomness cause.freeze (cause.asks, cause.lacks) in
     let opens : opening s.bundle s.stream ≡ Err lack =
@@ -154,7 +146,7 @@ made : {S O : Type 0} (names : spec.FreezeNames) (steps : ℕ) (from : spec.Rand
     ((r : Run) → Becomes names steps s r → IfNoneClashed r (EndsFrozen names steps s r answer before after)) →
     Complete names steps s answer before after
 made {S} {O} names steps from s answer before after Becomes told has ends =
-    let both = as_asked (λ n k x. AsksFrozen n x before.files.held has.sources
+    let both = as_freeze (λ n k x. AsksFrozen n x before.files.held has.sources
     × ((joint_run has.sources.bundle has.sources.stream k ≡ Ok has.made) × Becomes n k has.sources has.made)) names
     has.names steps has.steps from has.randomness has.freeze (has.asks, (has.joint, has.becomes)) in
     let all = subst (λ (t : FreezeSources). (joint_run t.bundle t.stream steps ≡ Ok has.made)

@@ -20,8 +20,9 @@ use Rattle.run_command.proofs.PrepareFacts.{run_named}
 use Rattle.completeness.specs.Asked.{IsBundleFile, OnlyLine, WantsMemory}
 use Rattle.completeness.specs.Runs.{Lacks}
 use Rattle.command_parts.specs.Streams.{IsToldStream}
-use Rattle.completeness.proofs.Faults.{never_rose, no_fault, same_bundle}
+use Rattle.completeness.proofs.Faults.{never_rose, same_bundle}
 use Rattle.command_parts.proofs.StreamFacts.{same_stream}
+use Rattle.guest_bundle.proofs.Faultless.{no_fault}
 
 -- What is asked for.
 

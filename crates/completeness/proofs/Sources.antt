@@ -1,8 +1,8 @@
 -- The image that a file tells, with its bytes and its version, is one.
 use native.Mathlib.Omega.{arith}
 use Rattle.std.proofs.Common.{◌≡◌, ◌∙◌, ◌⊎◌, ◌%◌, ℕ, true, List, get_or, Option, Some, refl, sym, ap, subst, inl, inr}
-use Rattle.std.specs.Prelude.{◌==◌, ◌||◌, Bool, false, IfSome}
-use Rattle.std.proofs.lemmas.Bool.{eqb-true}
+use Rattle.std.specs.Prelude.{◌==◌, IfSome}
+use Rattle.std.proofs.lemmas.Bool.{eqb-true, or_cases}
 use Rattle.cloak_model.specs.declared.image.Bundle.{Bundle}
 use Rattle.cloak_model.specs.Bundle.{IsBundleIn, bundle_bytes, is_version}
 use Rattle.guest_bundle.proofs.Only.{one_bundle}
@@ -12,12 +12,8 @@ version_at : (version : ℕ) (b : Bundle) → get_or (bundle_bytes version b) 8 
 unfolding bundle_bytes
 version_at version b = refl
 
-either : (a b : Bool) → (a || b) ≡ true → (a ≡ true) ⊎ (b ≡ true)
-either true b is = inl refl
-either false b is = inr is
-
 version_is : (version : ℕ) → is_version version ≡ true → (version ≡ 1) ⊎ (version ≡ 2)
-version_is version known = elim (either (version == 1) (version == 2) known) [
+version_is version known = elim (or_cases (version == 1) (version == 2) known) [
   | inl one ↦ inl (eqb-true version 1 one)
   | inr two ↦ inr (eqb-true version 2 two)
 ]

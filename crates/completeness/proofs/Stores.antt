@@ -28,9 +28,10 @@ use Rattle.store_command.specs.Recording.{StoresAll}
 use Rattle.completeness.specs.Asked.{OnlyLine, WantsMemory}
 use Rattle.completeness.specs.Runs.{Lacks}
 use Rattle.completeness.specs.Stores.{AreTold, ComesToStored, StoresAreComplete}
-use Rattle.completeness.proofs.Faults.{never_failed, never_rose, no_fault}
+use Rattle.completeness.proofs.Faults.{never_failed, never_rose}
 use Rattle.command_parts.proofs.StreamFacts.{same_stream}
 use Rattle.completeness.proofs.Sources.{one_image}
+use Rattle.guest_bundle.proofs.Faultless.{no_fault}
 
 -- The words.
 

@@ -29,21 +29,13 @@ use Rattle.command_parts.specs.Refusal.{refusal_line, status_of_refusal}
 use Rattle.command_parts.specs.Thawing.{AsksThawed, IsBadState, IsTooLong, IsUnthawed, SpellsState, ThawSources, largest_state, state_fault}
 use Rattle.completeness.specs.Asked.{OnlyLine, WantsMemory}
 use Rattle.completeness.specs.Thaws.{AreToldThawed, ComesToThawed, IsUnfit, Thawed, ThawsAreComplete, TooLong, Unfit}
-use Rattle.completeness.proofs.Faults.{never_failed, never_rose, no_fault}
+use Rattle.completeness.proofs.Faults.{never_failed, never_rose}
 use Rattle.command_parts.proofs.StreamFacts.{same_stream}
 use Rattle.completeness.proofs.Sources.{one_image}
+use Rattle.frozen_commands.proofs.SameWords.{as_thaw}
+use Rattle.guest_bundle.proofs.Faultless.{no_fault}
 
 -- The words.
-
--- what is said of the words of a run that goes on is said of these
-as_asked : (P : spec.ThawNames → ℕ → spec.Randomness → Type 0) (names n : spec.ThawNames) (steps k : ℕ)
-    (from x : spec.Randomness) → spec.Thaw names steps from ≡ spec.Thaw n k x → P n k x → P names steps from
-as_asked P names n steps k from x same said =
-    let a : n ≡ names = cc in
-    let b : k ≡ steps = cc in
-    let d : x ≡ from = cc in
-    subst (λ (y : spec.ThawNames). P y steps from) a
-    (subst (λ (y : ℕ). P n y from) b (subst (λ (y : spec.Randomness). P n k y) d said))
 
 no_run : (names : spec.ThawNames) (steps : ℕ) (from : spec.Randomness) (n : List ℕ) (r : Option (List ℕ)) (k : ℕ)
     (x : spec.Randomness) → spec.Thaw names steps from ≡ spec.asked_run n r k x → ⊥
@@ -96,7 +88,7 @@ no_bad_state : {S : Type 0} (names : spec.ThawNames) (steps : ℕ) (from : spec.
     (fault : FrozenFault) (before after : FilesOutside S) → AreToldThawed names from before.held s →
     IsBadState (spec.Thaw names steps from) fault before after → ⊥
 no_bad_state {S} names steps from s fault before after told cause =
-    let found = as_asked (λ n k x. IsInFileAs cause.version (before.held n.bundle) cause.bytes cause.bundle
+    let found = as_thaw (λ n k x. IsInFileAs cause.version (before.held n.bundle) cause.bytes cause.bundle
     × IfSome (before.held n.state_name) (λ file. state_fault cause.bundle (sha256 cause.bytes) file ≡ Some fault)) names
     cause.names steps cause.steps from cause.randomness cause.thaw (cause.file, cause.first_fault) in
     let image = one_image told.bundle told.is_bundle found.0 in
@@ -118,7 +110,7 @@ too_long : {S O : Type 0} (names : spec.ThawNames) (steps : ℕ) (from : spec.Ra
     IsTooLong (spec.Thaw names steps from) fault before.files after.files → answer ≡ status.Usage →
     OnlyLine (refusal_line (refusal.Usage fault)) before after → Complete names steps s answer before after
 too_long {S} {O} names steps from s fault answer before after told cause is line =
-    let both = as_asked (λ n k x. AsksThawed n x before.files.held cause.sources
+    let both = as_thaw (λ n k x. AsksThawed n x before.files.held cause.sources
     × (most_steps < cause.sources.state.steps + k)) names cause.names steps cause.steps from cause.randomness cause.thaw
     (cause.asks, cause.too_long) in
     let many = subst (λ (t : ThawSources). most_steps < t.state.steps + steps)
@@ -134,7 +126,7 @@ unthawed : {S O : Type 0} (names : spec.ThawNames) (steps : ℕ) (from : spec.Ra
     (Cause s.bundle s.stream s.state → IsUnfit s r) → answer ≡ status_of_refusal r →
     OnlyLine (refusal_line r) before after → Complete names steps s answer before after
 unthawed {S} {O} names steps from s r answer before after Cause told cause unfit is line =
-    let both = as_asked (λ n k x. AsksThawed n x before.files.held cause.sources
+    let both = as_thaw (λ n k x. AsksThawed n x before.files.held cause.sources
     × ((cause.sources.state.steps + k ≤ most_steps)
     × Cause cause.sources.bundle cause.sources.stream cause.sources.state)) names cause.names steps cause.steps from
     cause.randomness cause.thaw (cause.asks, (cause.few, cause.cause)) in
@@ -214,7 +206,7 @@ thawed : {S O : Type 0} (names : spec.ThawNames) (steps : ℕ) (from : spec.Rand
     HasThawed (spec.Thaw names steps from) answer before after → Complete names steps s answer before after
 thawed {S} {O} names steps from s answer before after told given =
     let has = given.thaws in
-    let both = as_asked (λ n k x. AsksThawed n x before.files.held has.sources
+    let both = as_thaw (λ n k x. AsksThawed n x before.files.held has.sources
     × ((has.sources.state.steps + k ≤ most_steps) × Ends answer before after n k has.sources)) names has.names steps
     has.steps from has.randomness has.thaw (has.asks, (has.few, has.becomes)) in
     let all = subst (λ (t : ThawSources). (t.state.steps + steps ≤ most_steps)

@@ -39,7 +39,8 @@ use Rattle.read_back.specs.Answering.{HasSolo, HasView, viewed_unfit, viewed_tex
 use Rattle.read_back.specs.Reading.{BeginsWith, FileIs, FitsAs, ReadsAs, ReadsRecord, status_of_ending}
 use Rattle.completeness.specs.Asked.{IsBundleFile, OnlyLine, WantsMemory}
 use Rattle.completeness.specs.Views.{IsRecordFile, ShowsAll, SolosAreComplete, ViewsAreComplete}
-use Rattle.completeness.proofs.Faults.{never_counted, never_rose, no_fault, same_bundle}
+use Rattle.completeness.proofs.Faults.{never_counted, never_rose, same_bundle}
+use Rattle.guest_bundle.proofs.Faultless.{no_fault}
 
 -- A front of a record.
 

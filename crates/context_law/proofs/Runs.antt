@@ -39,12 +39,14 @@ use Rattle.latest_store.specs.Moves.{Move, latest_value}
 use Rattle.latest_store.specs.Deeds.{both_granted, page_for, step_moves}
 use Rattle.latest_store.specs.LatestStore.{history_until}
 use Rattle.latest_store.proofs.Moved.{Agrees}
-use Rattle.latest_store.proofs.Histories.{runs_give_latest, has_step, after_step}
+use Rattle.latest_store.proofs.Histories.{runs_give_latest, has_step}
 use Rattle.context_law.specs.Inside.{Reached, atomic_reached, fetched_reached, phase_reached, context_reached, program_reached, step_reached, moves_of_step, reserved_by, stored_with, stored_by, WasReservedInside, ContextsKeepReservations, ContextsStoreReserved}
 use Rattle.context_law.proofs.Marks.{mark_of, mark_at}
 use Rattle.context_law.proofs.Others.{Misses}
 use Rattle.context_law.proofs.InstructionMarks.{placed_reached}
 use Rattle.context_law.proofs.TurnMarks.{mark_in, marks_in, MarksAfter, step_marks}
+use Rattle.kernel_isolation.proofs.Numbers.{number_of_context}
+use Rattle.cloak_model.proofs.Steps.{after_step}
 
 -- The opening: no context has a reservation.
 
@@ -135,10 +137,6 @@ AreKept b from r n =
 
 own_domain : (d k : ℕ) → k < 8 → domain_of (context_number d k) ≡ d
 own_domain d k less = omega (arith, less)
-
--- a context by its domain and its slot
-whole_number : (ctx : ℕ) → context_number (domain_of ctx) (slot_of ctx) ≡ ctx
-whole_number ctx = omega arith
 
 -- one more step, in which the word was not stored
 still_reserved : (b : Bundle) (from : Beginning) (r : Run) (n ctx : ℕ) (word : PageWord) →
@@ -351,5 +349,5 @@ contexts_store_reserved b from budget r grammar begins runs n ctx word low own s
     let mark : marks_in j.domains (domain_of ctx) (slot_of ctx) ≡ Some word =
     program_own (slice_get j.domains (domain_of ctx)) history (slot_of ctx) (inward_half (domain_of ctx) items) word
     here in
-    subst (λ (x : ℕ). WasReservedInside b from r n x word) (whole_number ctx)
+    subst (λ (x : ℕ). WasReservedInside b from r n x word) (number_of_context ctx)
     (run_kept b from budget r grammar begins runs n (omega (arith, low)) (domain_of ctx) (slot_of ctx) word mark).1

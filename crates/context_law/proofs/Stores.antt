@@ -1,7 +1,7 @@
 -- Which words a move stores in: the one that was written in, and pages of its own domain.
 use Rattle.std.proofs.Common.{◌≡◌, ◌≢◌, ◌∙◌, ◌⊎◌, inl, inr, ℕ, ◌+◌, ◌/◌, ◌*◌, ◌%◌, ◌<◌, Bool, true, false, ◌&&◌, ◌||◌, refl, sym, ap, subst, arith, eq-eqb, ne_eqb}
 use Rattle.std.specs.Prelude.{nat_eq, nat_lt}
-use Rattle.std.proofs.lemmas.Bool.{false≢true, and_parts, ltb-true, eqb-true}
+use Rattle.std.proofs.lemmas.Bool.{false≢true, and_parts, ltb-true, eqb-true, false_from_ne_true}
 use Rattle.cloak_base.specs.declared.names.PageId.{PageId}
 use Rattle.cloak_model.specs.declared.context.PageWord.{PageWord}
 use Rattle.cloak_model.specs.Contexts.{word_of_page, same_word}
@@ -13,10 +13,6 @@ use Rattle.context_law.specs.Inside.{meets_place}
 pub or_none : (b : Bool) → b ≡ false → (b || false) ≡ false
 or_none true is = absurd (false≢true (sym is))
 or_none false is = refl
-
-pub false_if : (b : Bool) → (b ≡ true → ⊥) → b ≡ false
-false_if true never = absurd (never refl)
-false_if false never = refl
 
 -- A store of 1, 2 or 4 bytes at a multiple of its width: it lies in one word.
 
@@ -55,7 +51,7 @@ same_word_is word q va resource page at =
 -- it does not meet another word
 pub misses_word : (n : ℕ) (word : PageWord) (q : PageId) (va width : ℕ) → word.at % 4 ≡ 0 → IsOnWord va width →
     same_word word (word_of_page q va) ≡ false → meets_place n word q (va % 4096) width ≡ false
-misses_word n word q va width aligned on other = false_if (meets_place n word q (va % 4096) width) (λ meets.
+misses_word n word q va width aligned on other = false_from_ne_true (meets_place n word q (va % 4096) width) (λ meets.
     let parts = and_parts (nat_eq q.domain n && (nat_eq q.resource word.resource && nat_eq q.page word.page))
     (reaches (va % 4096) width word.at) meets in
     let page = and_parts (nat_eq q.domain n) (nat_eq q.resource word.resource && nat_eq q.page word.page) parts.0 in

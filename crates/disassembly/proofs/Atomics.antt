@@ -14,7 +14,8 @@ use Rattle.rv_asm.specs.declared.operation.Operation.TheVariants as ops
 use Rattle.word_text.specs.Operands.{register, base}
 use Rattle.word_text.specs.Text.{mnemonic, reserve_text, combine_text, operation_text, atomic_text}
 use Rattle.disassembly.proofs.Operands as operands
-use Rattle.disassembly.proofs.Statements.{Reads, IsMnemonic, two_reads, three_reads, two_cut, three_cut, register_operand}
+use Rattle.disassembly.proofs.Statements.{Reads, IsMnemonic, two_reads, three_reads, two_cut, three_cut}
+use Rattle.disassembly.proofs.Operands.{register_is_operand}
 
 by_order : (P : ℕ → Type 0) → P 0 → P 1 → P 2 → P 3 → (order : ℕ) → order < 4 → P order
 by_order P a b c d zero h = a
@@ -55,8 +56,8 @@ reserve_reads : (order rd rs1 : ℕ) → order < 4 → rd < 32 → rs1 < 32 →
     Reads (reserve_text order rd rs1) (Fixed (Atomic (record { op = amo.Lr; rd = rd; rs1 = rs1; rs2 = 0; order = order }) ∷ []))
 unfolding asm.reserve_form atomic_form
 reserve_reads order rd rs1 o a b =
-    two_reads (mnemonic amo.Lr order) (register rd) (base rs1) _ _ (mnemonic_is amo.Lr order o) (register_operand rd a) (base_operand rs1 b)
-    (rw (two_cut (register rd) (base rs1) (register_operand rd a), operands.register_operand rd a, operands.base_after rs1 b) refl)
+    two_reads (mnemonic amo.Lr order) (register rd) (base rs1) _ _ (mnemonic_is amo.Lr order o) (register_is_operand rd a) (base_operand rs1 b)
+    (rw (two_cut (register rd) (base rs1) (register_is_operand rd a), operands.register_operand rd a, operands.base_after rs1 b) refl)
 
 combine_reads : (op : AtomicOp) (order rd rs1 rs2 : ℕ) → ((text : List ℕ) → atomic_form op order text ≡ combine_form op order text) →
     order < 4 → rd < 32 → rs1 < 32 → rs2 < 32 →
@@ -64,11 +65,11 @@ combine_reads : (op : AtomicOp) (order rd rs1 rs2 : ℕ) → ((text : List ℕ) 
 unfolding combine_form
 combine_reads op order rd rs1 rs2 form o a b c =
     let rest = register rd ++ (codes ", " ++ (register rs2 ++ (codes ", " ++ base rs1))) in
-    three_reads (mnemonic op order) (register rd) (register rs2) (base rs1) _ _ (mnemonic_is op order o) (register_operand rd a)
-    (register_operand rs2 c) (base_operand rs1 b)
+    three_reads (mnemonic op order) (register rd) (register rs2) (base rs1) _ _ (mnemonic_is op order o) (register_is_operand rd a)
+    (register_is_operand rs2 c) (base_operand rs1 b)
     (rw (
       form rest,
-      three_cut (register rd) (register rs2) (base rs1) (register_operand rd a) (register_operand rs2 c),
+      three_cut (register rd) (register rs2) (base rs1) (register_is_operand rd a) (register_is_operand rs2 c),
       operands.register_operand rd a,
       operands.register_after rs2 c,
       operands.base_after rs1 b,

@@ -1,18 +1,14 @@
 -- Texts cut at a byte that their first part does not have.
-use Rattle.std.proofs.Common.{◌≡◌, ℕ, suc, ◌+◌, ◌<◌, Bool, true, false, true≢false, cond, not, ◌&&◌, eqb, nat_lt, List, [], ◌∷◌, ◌++◌, length, take, drop, Option, Some, None, refl, sym, ap, ◌∙◌, arith, lt-ltb, le-ltb, length-append, codes}
+use Rattle.std.proofs.Common.{◌≡◌, ℕ, suc, ◌+◌, ◌<◌, Bool, true, false, true≢false, cond, not, eqb, nat_lt, List, [], ◌∷◌, ◌++◌, length, take, drop, Option, Some, None, refl, sym, ap, ◌∙◌, arith, lt-ltb, le-ltb, length-append, codes}
 use Rattle.std.specs.List.{list_all, prefix_len, position_or_len, before_first, after_first}
 use Rattle.std.proofs.Math.Seq.{take-append_seam, drop-append-add, take-length}
 use Rattle.std.proofs.lemmas.List.{drop_all}
-use Rattle.std.proofs.lemmas.Bool.{ne_eqb, eqb-false}
+use Rattle.std.proofs.lemmas.Bool.{ne_eqb, eqb-false, and_parts}
 use Rattle.rv_asm.specs.Words.{cut, is_blank, from_word, leading_word, sole_word}
-
-pub both : (a b : Bool) → (a && b) ≡ true → (a ≡ true) × (b ≡ true)
-both true b is = (refl, is)
-both false b is = absurd (true≢false (sym is))
 
 pub all_of : (p q : ℕ → Bool) → ((b : ℕ) → p b ≡ true → q b ≡ true) → (text : List ℕ) → list_all p text ≡ true → list_all q text ≡ true
 all_of p q weaker [] h = refl
-all_of p q weaker (b ∷ bs) h = let parts = both (p b) (list_all p bs) h in rw (weaker b parts.0, all_of p q weaker bs parts.1) refl
+all_of p q weaker (b ∷ bs) h = let parts = and_parts (p b) (list_all p bs) h in rw (weaker b parts.0, all_of p q weaker bs parts.1) refl
 
 not_false : (b : Bool) → not b ≡ true → b ≡ false
 not_false true h = absurd (true≢false (sym h))
@@ -33,11 +29,11 @@ same c = go (eqb c c) refl
 
 stops : (q : ℕ → Bool) (a : List ℕ) (c : ℕ) (b : List ℕ) → list_all q a ≡ true → q c ≡ false → prefix_len q (a ++ c ∷ b) ≡ length a
 stops q [] c b h g = rw g refl
-stops q (x ∷ a) c b h g = let parts = both (q x) (list_all q a) h in rw (parts.0, stops q a c b parts.1 g) (omega arith)
+stops q (x ∷ a) c b h g = let parts = and_parts (q x) (list_all q a) h in rw (parts.0, stops q a c b parts.1 g) (omega arith)
 
 passes : (q : ℕ → Bool) (a : List ℕ) → list_all q a ≡ true → prefix_len q a ≡ length a
 passes q [] h = refl
-passes q (x ∷ a) h = let parts = both (q x) (list_all q a) h in rw (parts.0, passes q a parts.1) (omega arith)
+passes q (x ∷ a) h = let parts = and_parts (q x) (list_all q a) h in rw (parts.0, passes q a parts.1) (omega arith)
 
 -- ---- a text without a byte
 
@@ -72,7 +68,7 @@ starts : (text rest : List ℕ) → 0 < length text → is_solid text ≡ true �
 unfolding from_word
 starts [] rest some solid = absurd (omega arith)
 starts (b ∷ bs) rest some solid =
-    let parts = both (not (is_blank b)) (is_solid bs) solid in
+    let parts = and_parts (not (is_blank b)) (is_solid bs) solid in
     rw (not_false (is_blank b) parts.0) refl
 
 -- the first word, and what stands after the blank that ends it
@@ -90,7 +86,7 @@ pub alone : (name : List ℕ) → 0 < length name → is_solid name ≡ true →
 unfolding leading_word from_word
 alone [] some solid = absurd (omega arith)
 alone (b ∷ bs) some solid =
-    let parts = both (not (is_blank b)) (is_solid bs) solid in
+    let parts = and_parts (not (is_blank b)) (is_solid bs) solid in
     let at : position_or_len is_blank (b ∷ bs) ≡ length (b ∷ bs) = passes (λ b. not (is_blank b)) (b ∷ bs) solid in
     let past : drop (length (b ∷ bs) + 1) (b ∷ bs) ≡ [] = drop_all (length (b ∷ bs) + 1) (b ∷ bs) (omega arith) in
     rw (not_false (is_blank b) parts.0, at, take-length (b ∷ bs), past) refl

@@ -6,7 +6,7 @@ use Rattle.std.specs.Str.{IsAscii, IsUtf8, bytes_eq}
 use Rattle.std.proofs.lemmas.Str.{IsAscii-append, IsUtf8-from_ascii}
 use Rattle.std.proofs.lemmas.Str.Ascii.{IsAscii-from_all, IsAscii-nil}
 use Rattle.std.proofs.lemmas.List.Sums.{AllPass-from_list_all}
-use Rattle.std.proofs.lemmas.Bool.{eqb-false}
+use Rattle.std.proofs.lemmas.Bool.{eqb-false, and_parts}
 use Rattle.std.proofs.lemmas.Slice.Eq.{bytes_eq-Decides}
 use Rattle.std.proofs.lemmas.Option.{same_Some}
 use Rattle.hex.specs.Hex.{lower_digits}
@@ -18,7 +18,7 @@ use Rattle.rv_asm.specs.Assembly.{lines_of, size, mark, labels_of, find_in}
 use Rattle.rv_asm.specs.declared.labels.Mark.{Mark}
 use Rattle.word_text.specs.Operands.{label}
 use Rattle.disassembly.specs.Listing.{lead, text_by_lead, word_line, label_lines, lines_from, with_feed}
-use Rattle.disassembly.proofs.Bytes.{both, all_of, not_zero, lacks, is_solid, cut_at, before_none, alone}
+use Rattle.disassembly.proofs.Bytes.{all_of, not_zero, lacks, is_solid, cut_at, before_none, alone}
 use Rattle.disassembly.proofs.Numbers.{by_digit, hexadecimal_read}
 use Rattle.disassembly.proofs.Operands as operands
 use Rattle.disassembly.proofs.Operands.{are_word, joined, words_are_operand, hexadecimal_all}
@@ -54,11 +54,11 @@ AreLines [] = Unit {0}
 AreLines (line ∷ lines) = (are_line line ≡ true) × AreLines lines
 
 no_feed : (b : ℕ) → is_line_byte b ≡ true → eqb b 10 ≡ false
-no_feed b h = let low = leb-true 32 b (both (leb 32 b) (leb b 122) h).0 in ne_eqb b 10 (λ e. omega (arith, low, e))
+no_feed b h = let low = leb-true 32 b (and_parts (leb 32 b) (leb b 122) h).0 in ne_eqb b 10 (λ e. omega (arith, low, e))
 
 one_line : (line rest : List ℕ) → are_line line ≡ true → lines_of (line ++ 10 ∷ rest) ≡ line ∷ lines_of rest
 one_line [] rest h = refl
-one_line (b ∷ bs) rest h = let parts = both (is_line_byte b) (are_line bs) h in rw (no_feed b parts.0, one_line bs rest parts.1) refl
+one_line (b ∷ bs) rest h = let parts = and_parts (is_line_byte b) (are_line bs) h in rw (no_feed b parts.0, one_line bs rest parts.1) refl
 
 pub all_lines : (lines : List (List ℕ)) → AreLines lines → lines_of (flat_map with_feed lines) ≡ lines
 all_lines [] h = refl
@@ -69,7 +69,7 @@ abbrev is_low : ℕ → Bool
 is_low b = leb b 122
 
 line_is_low : (b : ℕ) → is_line_byte b ≡ true → is_low b ≡ true
-line_is_low b h = (both (leb 32 b) (leb b 122) h).1
+line_is_low b h = (and_parts (leb 32 b) (leb b 122) h).1
 
 low_is_ascii : (text : List ℕ) → list_all is_low text ≡ true → IsAscii text
 low_is_ascii text h =

@@ -4,8 +4,9 @@ use Rattle.std.specs.Prelude.{decimal, slice_index, ℤ, pos, negsuc}
 use Rattle.std.specs.Fmt.{signed_decimal}
 use Rattle.std.specs.List.{list_all}
 use Rattle.std.specs.Str.Parse.{AllDigits}
-use Rattle.std.proofs.lemmas.Fmt.{decimal_digit, decimal_step, decimal_is_IsNumeral}
+use Rattle.std.proofs.lemmas.Fmt.{decimal_digit, decimal_step, decimal_is_IsNumeral, decimal_nonempty}
 use Rattle.std.proofs.lemmas.List.Folds.{list_all-append}
+use Rattle.std.proofs.lemmas.Bool.{and_parts}
 use Rattle.hex.specs.Hex.{lower_digits, encode_with}
 use Rattle.cloak_model.specs.Report.{hexadecimal}
 use Rattle.rv_isa.specs.Range.{FitsSigned}
@@ -13,7 +14,7 @@ use Rattle.rv_asm.specs.Words.{◌>>=◌, cut, is_blank, is_digit, is_name, is_n
 use Rattle.rv_asm.specs.Statements as asm
 use Rattle.rv_asm.specs.declared.words.Numeral.{Numeral}
 use Rattle.word_text.specs.Operands.{register, last_digits, upper, csr_number, memory, base, label}
-use Rattle.disassembly.proofs.Bytes.{both, all_of, lacks, is_solid, cut_at, sole, sole_after}
+use Rattle.disassembly.proofs.Bytes.{all_of, lacks, is_solid, cut_at, sole, sole_after}
 use Rattle.disassembly.proofs.Numbers.{digit_code, by_digit, unsigned_read, negative_read, hexadecimal_read, five_read, three_read, prefixed_read}
 
 -- ---- classes of bytes
@@ -27,7 +28,7 @@ abbrev pub is_operand_byte : ℕ → Bool
 is_operand_byte b = (leb 40 b && leb b 122) && not (eqb b 44)
 
 between : (low b : ℕ) → (leb low b && leb b 122) ≡ true → (low ≤ b) × (b ≤ 122)
-between low b h = let parts = both _ _ h in (leb-true _ _ parts.0, leb-true _ _ parts.1)
+between low b h = let parts = and_parts _ _ h in (leb-true _ _ parts.0, leb-true _ _ parts.1)
 
 differs : (low b c : ℕ) → (leb low b && leb b 122) ≡ true → c < low → not (eqb b c) ≡ true
 differs low b c h below = let at = (between low b h).0 in rw (ne_eqb b c (λ e. omega (arith, at, e, below))) refl
@@ -39,14 +40,14 @@ word_in_operand b h =
     rw (le-leb 40 b (omega (arith, low)), le-leb b 122 at.1, differs 45 b 44 h (omega arith)) refl
 
 pub operand_lacks_comma : (b : ℕ) → is_operand_byte b ≡ true → not (eqb b 44) ≡ true
-operand_lacks_comma b h = (both _ _ h).1
+operand_lacks_comma b h = (and_parts _ _ h).1
 
 pub operand_lacks_hash : (b : ℕ) → is_operand_byte b ≡ true → not (eqb b 35) ≡ true
-operand_lacks_hash b h = differs 40 b 35 (both _ _ h).0 (omega arith)
+operand_lacks_hash b h = differs 40 b 35 (and_parts _ _ h).0 (omega arith)
 
 pub operand_is_solid : (b : ℕ) → is_operand_byte b ≡ true → not (is_blank b) ≡ true
 operand_is_solid b h =
-    let at = (between 40 b (both _ _ h).0).0 in
+    let at = (between 40 b (and_parts _ _ h).0).0 in
     rw (ne_eqb b 32 (λ e. omega (arith, at, e)), ne_eqb b 9 (λ e. omega (arith, at, e))) refl
 
 word_lacks_open : (b : ℕ) → is_word_byte b ≡ true → not (eqb b 40) ≡ true
@@ -105,9 +106,6 @@ digits_are_word (c ∷ cs) h =
 pub decimal_is_word : (n : ℕ) → n < 2 ^ 64 → are_word (decimal n) ≡ true
 decimal_is_word n below = digits_are_word (decimal n) (decimal_is_IsNumeral n below).0.1
 
-pub decimal_is_some : (n : ℕ) → n < 2 ^ 64 → 0 < length (decimal n)
-decimal_is_some n below = (decimal_is_IsNumeral n below).0.0
-
 pub register_is_word : (n : ℕ) → n < 32 → are_word (register n) ≡ true
 register_is_word n below = rw (decimal_is_word n (omega arith)) refl
 
@@ -116,7 +114,7 @@ signed_is_word (pos n) fits = decimal_is_word n (omega (arith, fits))
 signed_is_word (negsuc n) fits = rw (decimal_is_word (suc n) (omega (arith, fits))) refl
 
 pub signed_is_some : (imm : ℤ) → FitsSigned 12 imm → 0 < length (signed_decimal imm)
-signed_is_some (pos n) fits = decimal_is_some n (omega (arith, fits))
+signed_is_some (pos n) fits = decimal_nonempty n (omega (arith, fits))
 signed_is_some (negsuc n) fits = omega arith
 
 -- ---- hexadecimal digits
@@ -150,7 +148,7 @@ hexadecimal_is_word w = hexadecimal_all is_word_byte hex_digit_is_word w
 dropped : (p : ℕ → Bool) (n : ℕ) (text : List ℕ) → list_all p text ≡ true → list_all p (drop n text) ≡ true
 dropped p zero text h = h
 dropped p (suc n) [] h = refl
-dropped p (suc n) (b ∷ bs) h = dropped p n bs (both _ _ h).1
+dropped p (suc n) (b ∷ bs) h = dropped p n bs (and_parts _ _ h).1
 
 pub upper_is_word : (imm : ℕ) → are_word (upper imm) ≡ true
 upper_is_word imm = rw (dropped is_word_byte 3 (hexadecimal (imm / 4096)) (hexadecimal_is_word (imm / 4096))) refl
@@ -243,7 +241,7 @@ unsigned_is limit n below = rw (lt-ltb n limit below) refl
 pub small_after : (n : ℕ) → n < 32 → asm.unsigned_operand 32 (32 ∷ decimal n) ≡ Some n
 unfolding asm.unsigned_operand
 small_after n below =
-    rw (number_after (decimal n) (decimal_is_some n (omega arith)) (decimal_is_word n (omega arith)), unsigned_read n (omega arith))
+    rw (number_after (decimal n) (decimal_nonempty n (omega arith)) (decimal_is_word n (omega arith)), unsigned_read n (omega arith))
     (unsigned_is 32 n below)
 
 pub upper_after : (imm : ℕ) → imm < 2 ^ 32 → asm.unsigned_operand 0x100000 (32 ∷ upper imm) ≡ Some (imm / 4096)

@@ -1,6 +1,7 @@
 -- The fields of a word's instruction are in range.
 use Rattle.std.proofs.Common.{◌≡◌, ℕ, zero, suc, ◌+◌, ◌-◌, ◌*◌, ◌/◌, ◌%◌, ◌^◌, ◌<◌, Bool, true, false, true≢false, cond, sym, ap, ◌∙◌, Option, Some, None, IfSome, refl, arith, rules, nat_lt, ltb-true, ltb-false, ◌&&◌, ◌==◌, eqb-true}
 use Rattle.std.specs.Prelude.{ℤ, pos, negsuc}
+use Rattle.std.proofs.lemmas.Bool.{and_parts}
 use Rattle.rv_isa.specs.Fields.{bits, opcode, rd_of, funct3, rs1_of, rs2_of, funct7, shamt_of, uimm_of, csr_of, rest_of, sign_extended, imm_i, imm_s, imm_b, imm_u, imm_j}
 use Rattle.rv_isa.specs.Range.{InRange, FitsSigned, IsEven}
 use Rattle.rv_isa.specs.Table.{jalr_line, branch_line, load_line, store_line, op_imm_line, op_line, misc_mem_line, system_line, privileged_line, instruction}
@@ -12,7 +13,6 @@ use Rattle.rv_atomic.specs.declared.atomic.Atomic as atomics
 use Rattle.rv_atomic.specs.declared.atomic.AtomicOp.{AtomicOp}
 use Rattle.rv_atomic.specs.declared.atomic.AtomicOp.TheVariants as amo
 use Rattle.rv_asm.specs.Statements.{IsAtomicInRange}
-use Rattle.disassembly.proofs.Bytes.{both}
 
 signed_fits : (count n : ℕ) → 0 < count → n < 2 ^ count → 2 ^ count ≡ 2 * 2 ^ (count - 1) → FitsSigned count (sign_extended count n)
 signed_fits count n some below twice = go (nat_lt n (2 ^ (count - 1))) refl
@@ -133,7 +133,7 @@ not_lr : (op : AtomicOp) (n : ℕ) → is_lr op ≡ false → op ≡ amo.Lr → 
 not_lr op n other is = let lr : is_lr op ≡ true = ap is_lr is in absurd (true≢false (sym lr ∙ other))
 
 without_operand : (w : ℕ) → (atomic_table.funct5 w == 0b00010 && (rs2_of w == 0)) ≡ true → amo.Lr ≡ amo.Lr → rs2_of w ≡ 0
-without_operand w test same = eqb-true _ _ (both _ _ test).1
+without_operand w test same = eqb-true _ _ (and_parts _ _ test).1
 
 operation_without : (w : ℕ) → IfSome (operation w) (λ op. op ≡ amo.Lr → rs2_of w ≡ 0)
 unfolding operation

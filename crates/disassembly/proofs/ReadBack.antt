@@ -1,6 +1,7 @@
 -- The assembler reads the words of a listing.
 use Rattle.std.proofs.Common.{◌≡◌, ◌⊎◌, inl, inr, ℕ, suc, ◌+◌, ◌*◌, ◌^◌, ◌<◌, ◌≤◌, Bool, true, false, not, cond, eqb, ◌||◌, nat_lt, List, [], ◌∷◌, ◌++◌, length, codes, Option, Some, None, Result, Ok, Err, refl, sym, ap, ◌∙◌, arith, le-ltb, eq-eqb}
 use Rattle.std.specs.List.{flat_map}
+use Rattle.std.proofs.lemmas.Bool.{or_right}
 use Rattle.rv_isa.specs.declared.instr.Instr.TheVariants as instr
 use Rattle.rv_asm.specs.Operations.{branch_instruction}
 use Rattle.rv_asm.specs.Statements.{Meaning, statement}
@@ -31,10 +32,6 @@ AreCovered has count place [] = Unit {0}
 AreCovered has count place (w ∷ ws) =
     ((there : ℕ) → lead count place w ≡ To there → has there ≡ true) × AreCovered has count (place + 1) ws
 
-or_true : (a b : Bool) → b ≡ true → (a || b) ≡ true
-or_true true b h = refl
-or_true false b h = h
-
 led_to_first : (there : ℕ) (l : Course) (others : Bool) → l ≡ To there → (is_to there l || others) ≡ true
 led_to_first there l others is = let here : eqb there there ≡ true = eq-eqb there there refl in rw (is, here) refl
 
@@ -43,7 +40,7 @@ covered : (has : ℕ → Bool) (count place : ℕ) (ws : List ℕ) → ((there :
 covered has count place [] all = tt
 covered has count place (w ∷ ws) all = (
   λ there is. all there (led_to_first there (lead count place w) (is_led_to count (place + 1) ws there) is),
-  covered has count (place + 1) ws (λ there is. all there (or_true (is_to there (lead count place w)) (is_led_to count (place + 1) ws there) is)),
+  covered has count (place + 1) ws (λ there is. all there (or_right (is_to there (lead count place w)) (is_led_to count (place + 1) ws there) is)),
 )
 
 -- ---- items

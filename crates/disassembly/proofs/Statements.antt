@@ -4,6 +4,7 @@ use Rattle.std.specs.Prelude.{decimal, ℤ, pos, negsuc}
 use Rattle.std.specs.Fmt.{signed_decimal}
 use Rattle.std.specs.List.{list_all, before_first}
 use Rattle.std.specs.Option.{ok_or}
+use Rattle.std.proofs.lemmas.Bool.{and_parts}
 use Rattle.cloak_model.specs.Effect.{offset}
 use Rattle.cloak_model.specs.Report.{hexadecimal}
 use Rattle.rv_isa.specs.Range.{InRange, FitsSigned}
@@ -39,9 +40,9 @@ use Rattle.rv_asm.specs.declared.operation.CsrImmediateOp.{CsrImmediateOp}
 use Rattle.rv_asm.specs.declared.operation.CsrImmediateOp.TheVariants as csr_immediates
 use Rattle.word_text.specs.Operands.{register, upper, csr_number, memory, base, target, label}
 use Rattle.word_text.specs.Text.{two, three, number_text}
-use Rattle.disassembly.proofs.Bytes.{both, not_zero, lacks, is_solid, cut_at, before_none, leading, leading_skips, all_of}
+use Rattle.disassembly.proofs.Bytes.{not_zero, lacks, is_solid, cut_at, before_none, leading, leading_skips, all_of}
 use Rattle.disassembly.proofs.Operands as operands
-use Rattle.disassembly.proofs.Operands.{are_operand, are_word, joined, words_are_operand}
+use Rattle.disassembly.proofs.Operands.{are_operand, are_word, joined, words_are_operand, register_is_operand}
 
 -- ---- a line by its name and its operands
 
@@ -54,7 +55,7 @@ are_line text = list_all is_line_byte text
 
 in_line : (b : ℕ) → operands.is_operand_byte b ≡ true → is_line_byte b ≡ true
 in_line b h =
-    let parts = both _ _ (both _ _ h).0 in
+    let parts = and_parts _ _ (and_parts _ _ h).0 in
     let low = leb-true 40 b parts.0 in
     rw (le-leb 32 b (omega (arith, low)), parts.1) refl
 
@@ -150,16 +151,13 @@ three_reads name a b c op meant m h g f is = record {
 
 -- ---- each kind of instruction
 
-pub register_operand : (n : ℕ) → n < 32 → are_operand (register n) ≡ true
-register_operand n below = operands.register_is_operand n below
-
 pub register_reads : (name : List ℕ) (op : RegisterOp) (rd rs1 rs2 : ℕ) → IsMnemonic name (ops.Register op) → rd < 32 → rs1 < 32 → rs2 < 32 →
     Reads (three name (register rd) (register rs1) (register rs2)) (Fixed (Instruction (register_instruction op rd rs1 rs2) ∷ []))
 unfolding asm.register_form
 register_reads name op rd rs1 rs2 m a b c =
-    three_reads name (register rd) (register rs1) (register rs2) _ _ m (register_operand rd a) (register_operand rs1 b) (register_operand rs2 c)
+    three_reads name (register rd) (register rs1) (register rs2) _ _ m (register_is_operand rd a) (register_is_operand rs1 b) (register_is_operand rs2 c)
     (rw (
-      three_cut (register rd) (register rs1) (register rs2) (register_operand rd a) (register_operand rs1 b),
+      three_cut (register rd) (register rs1) (register rs2) (register_is_operand rd a) (register_is_operand rs1 b),
       operands.register_operand rd a,
       operands.register_after rs1 b,
       operands.register_after rs2 c,
@@ -171,9 +169,9 @@ pub immediate_reads : (name : List ℕ) (op : ImmediateOp) (rd rs1 : ℕ) (imm :
 unfolding asm.immediate_form
 immediate_reads name op rd rs1 imm m a b c =
     let third = operands.signed_is_operand imm c in
-    three_reads name (register rd) (register rs1) (signed_decimal imm) _ _ m (register_operand rd a) (register_operand rs1 b) third
+    three_reads name (register rd) (register rs1) (signed_decimal imm) _ _ m (register_is_operand rd a) (register_is_operand rs1 b) third
     (rw (
-      three_cut (register rd) (register rs1) (signed_decimal imm) (register_operand rd a) (register_operand rs1 b),
+      three_cut (register rd) (register rs1) (signed_decimal imm) (register_is_operand rd a) (register_is_operand rs1 b),
       operands.register_operand rd a,
       operands.register_after rs1 b,
       operands.immediate_after imm c,
@@ -184,9 +182,9 @@ pub shift_reads : (name : List ℕ) (op : ShiftOp) (rd rs1 shamt : ℕ) → IsMn
 unfolding asm.shift_form
 shift_reads name op rd rs1 shamt m a b c =
     let third = operands.small_is_operand shamt c in
-    three_reads name (register rd) (register rs1) (decimal shamt) _ _ m (register_operand rd a) (register_operand rs1 b) third
+    three_reads name (register rd) (register rs1) (decimal shamt) _ _ m (register_is_operand rd a) (register_is_operand rs1 b) third
     (rw (
-      three_cut (register rd) (register rs1) (decimal shamt) (register_operand rd a) (register_operand rs1 b),
+      three_cut (register rd) (register rs1) (decimal shamt) (register_is_operand rd a) (register_is_operand rs1 b),
       operands.register_operand rd a,
       operands.register_after rs1 b,
       operands.small_after shamt c,
@@ -197,31 +195,31 @@ pub upper_reads : (name : List ℕ) (op : UpperOp) (rd imm : ℕ) → IsMnemonic
 unfolding asm.upper_form
 upper_reads name op rd imm m a b low =
     let whole : imm / 4096 * 4096 ≡ imm = omega (arith, low) in
-    two_reads name (register rd) (upper imm) _ _ m (register_operand rd a) (operands.upper_is_operand imm)
-    (rw (two_cut (register rd) (upper imm) (register_operand rd a), operands.register_operand rd a, operands.upper_after imm b, whole) refl)
+    two_reads name (register rd) (upper imm) _ _ m (register_is_operand rd a) (operands.upper_is_operand imm)
+    (rw (two_cut (register rd) (upper imm) (register_is_operand rd a), operands.register_operand rd a, operands.upper_after imm b, whole) refl)
 
 pub load_reads : (name : List ℕ) (op : LoadOp) (rd rs1 : ℕ) (imm : ℤ) → IsMnemonic name (ops.Load op) → rd < 32 → rs1 < 32 → FitsSigned 12 imm →
     Reads (two name (register rd) (memory imm rs1)) (Fixed (Instruction (load_instruction op rd rs1 imm) ∷ []))
 unfolding asm.load_form
 load_reads name op rd rs1 imm m a b c =
-    two_reads name (register rd) (memory imm rs1) _ _ m (register_operand rd a) (operands.memory_is_operand imm rs1 c b)
-    (rw (two_cut (register rd) (memory imm rs1) (register_operand rd a), operands.register_operand rd a, operands.memory_after imm rs1 c b) refl)
+    two_reads name (register rd) (memory imm rs1) _ _ m (register_is_operand rd a) (operands.memory_is_operand imm rs1 c b)
+    (rw (two_cut (register rd) (memory imm rs1) (register_is_operand rd a), operands.register_operand rd a, operands.memory_after imm rs1 c b) refl)
 
 pub store_reads : (name : List ℕ) (op : StoreOp) (rs1 rs2 : ℕ) (imm : ℤ) → IsMnemonic name (ops.Store op) → rs1 < 32 → rs2 < 32 → FitsSigned 12 imm →
     Reads (two name (register rs2) (memory imm rs1)) (Fixed (Instruction (store_instruction op rs1 rs2 imm) ∷ []))
 unfolding asm.store_form
 store_reads name op rs1 rs2 imm m b a c =
-    two_reads name (register rs2) (memory imm rs1) _ _ m (register_operand rs2 a) (operands.memory_is_operand imm rs1 c b)
-    (rw (two_cut (register rs2) (memory imm rs1) (register_operand rs2 a), operands.register_operand rs2 a, operands.memory_after imm rs1 c b) refl)
+    two_reads name (register rs2) (memory imm rs1) _ _ m (register_is_operand rs2 a) (operands.memory_is_operand imm rs1 c b)
+    (rw (two_cut (register rs2) (memory imm rs1) (register_is_operand rs2 a), operands.register_operand rs2 a, operands.memory_after imm rs1 c b) refl)
 
 pub csr_reads : (name : List ℕ) (op : CsrOp) (rd rs1 csr : ℕ) → IsMnemonic name (ops.Csr op) → rd < 32 → rs1 < 32 → csr < 4096 →
     Reads (three name (register rd) (csr_number csr) (register rs1)) (Fixed (Instruction (csr_instruction op rd rs1 csr) ∷ []))
 unfolding asm.csr_form
 csr_reads name op rd rs1 csr m a b c =
     let second = operands.csr_is_operand csr in
-    three_reads name (register rd) (csr_number csr) (register rs1) _ _ m (register_operand rd a) second (register_operand rs1 b)
+    three_reads name (register rd) (csr_number csr) (register rs1) _ _ m (register_is_operand rd a) second (register_is_operand rs1 b)
     (rw (
-      three_cut (register rd) (csr_number csr) (register rs1) (register_operand rd a) second,
+      three_cut (register rd) (csr_number csr) (register rs1) (register_is_operand rd a) second,
       operands.register_operand rd a,
       operands.csr_after csr c,
       operands.register_after rs1 b,
@@ -233,9 +231,9 @@ unfolding asm.csr_immediate_form
 csr_immediate_reads name op rd uimm csr m a b c =
     let second = operands.csr_is_operand csr in
     let third = operands.small_is_operand uimm b in
-    three_reads name (register rd) (csr_number csr) (decimal uimm) _ _ m (register_operand rd a) second third
+    three_reads name (register rd) (csr_number csr) (decimal uimm) _ _ m (register_is_operand rd a) second third
     (rw (
-      three_cut (register rd) (csr_number csr) (decimal uimm) (register_operand rd a) second,
+      three_cut (register rd) (csr_number csr) (decimal uimm) (register_is_operand rd a) second,
       operands.register_operand rd a,
       operands.csr_after csr c,
       operands.small_after uimm b,
@@ -246,9 +244,9 @@ pub branch_reads : (name : List ℕ) (op : BranchOp) (rs1 rs2 at : ℕ) (imm : �
 unfolding asm.branch_statement
 branch_reads name op rs1 rs2 at imm m a b =
     let third = operands.label_is_operand (offset at imm) in
-    three_reads name (register rs1) (register rs2) (target at imm) _ _ m (register_operand rs1 a) (register_operand rs2 b) third
+    three_reads name (register rs1) (register rs2) (target at imm) _ _ m (register_is_operand rs1 a) (register_is_operand rs2 b) third
     (rw (
-      three_cut (register rs1) (register rs2) (target at imm) (register_operand rs1 a) (register_operand rs2 b),
+      three_cut (register rs1) (register rs2) (target at imm) (register_is_operand rs1 a) (register_is_operand rs2 b),
       operands.register_operand rs1 a,
       operands.register_after rs2 b,
       operands.name_after (offset at imm),
@@ -258,15 +256,15 @@ pub jump_reads : (rd at : ℕ) (imm : ℤ) → IsMnemonic (codes "jal") ops.Jal 
     Reads (two (codes "jal") (register rd) (target at imm)) (Jump rd (target at imm))
 unfolding asm.jal_statement
 jump_reads rd at imm m a =
-    two_reads (codes "jal") (register rd) (target at imm) _ _ m (register_operand rd a) (operands.label_is_operand (offset at imm))
-    (rw (two_cut (register rd) (target at imm) (register_operand rd a), operands.register_operand rd a, operands.name_after (offset at imm)) refl)
+    two_reads (codes "jal") (register rd) (target at imm) _ _ m (register_is_operand rd a) (operands.label_is_operand (offset at imm))
+    (rw (two_cut (register rd) (target at imm) (register_is_operand rd a), operands.register_operand rd a, operands.name_after (offset at imm)) refl)
 
 pub fence_reads : (rs1 rs2 : ℕ) → IsMnemonic (codes "sfence.vma") ops.Fence → rs1 < 32 → rs2 < 32 →
     Reads (two (codes "sfence.vma") (register rs1) (register rs2)) (Fixed (Instruction (instr.SfenceVma rs1 rs2) ∷ []))
 unfolding asm.fence_form
 fence_reads rs1 rs2 m a b =
-    two_reads (codes "sfence.vma") (register rs1) (register rs2) _ _ m (register_operand rs1 a) (register_operand rs2 b)
-    (rw (two_cut (register rs1) (register rs2) (register_operand rs1 a), operands.register_operand rs1 a, operands.register_after rs2 b) refl)
+    two_reads (codes "sfence.vma") (register rs1) (register rs2) _ _ m (register_is_operand rs1 a) (register_is_operand rs2 b)
+    (rw (two_cut (register rs1) (register rs2) (register_is_operand rs1 a), operands.register_operand rs1 a, operands.register_after rs2 b) refl)
 
 -- a word by its number
 pub number_reads : (w : ℕ) → w < 2 ^ 32 → Reads (number_text w) (Fixed (Data w ∷ []))

@@ -1,7 +1,7 @@
 -- What the assembler reads in the line of a word.
 use Rattle.std.proofs.Common.{◌≡◌, ◌⊎◌, inl, inr, ℕ, suc, cond, true≢false, ◌+◌, ◌-◌, ◌*◌, ◌/◌, ◌%◌, ◌^◌, ◌<◌, ◌≤◌, Bool, true, false, ◌&&◌, ◌==◌, List, [], ◌∷◌, ◌++◌, codes, Option, Some, None, IfSome, Result, Ok, Err, refl, sym, ap, ◌∙◌, arith, nat_lt, subst, eqb-true, ltb-true, lt-ltb, le-leb, leb-true, leb}
 use Rattle.std.specs.Prelude.{ℤ, pos, negsuc, option_and_then, neg_ℤ}
-use Rattle.std.proofs.lemmas.Bool.{lt-leb}
+use Rattle.std.proofs.lemmas.Bool.{lt-leb, and_parts}
 use Rattle.cloak_model.specs.Effect.{offset}
 use Rattle.rv_isa.specs.Range.{InRange, FitsSigned}
 use Rattle.rv_isa.specs.Table.{instruction}
@@ -21,7 +21,6 @@ use Rattle.word_text.specs.Text.{instruction_text, number_text, atomic_text, tex
 use Rattle.disassembly.specs.declared.lead.Course.{Course}
 use Rattle.disassembly.specs.declared.lead.Course.TheVariants.{Nowhere, To, Away}
 use Rattle.disassembly.specs.Listing.{reach, led, led_by, lead, text_by_lead, word_line}
-use Rattle.disassembly.proofs.Bytes.{both}
 use Rattle.disassembly.proofs.Statements.{Reads, number_reads}
 use Rattle.disassembly.proofs.Instructions.{IsPlain, IsBranch, IsJump, Understood, understood}
 use Rattle.disassembly.proofs.Atomics.{atomic_reads}
@@ -199,7 +198,7 @@ leads_to base count place there (pos n) fits here is = go _ refl is
     go : (b : Bool) → ((n % 4 == 0) && nat_lt (place + n / 4) count) ≡ b → cond b (To (place + n / 4)) Away ≡ To there →
         LeadsTo base count place (pos n) there
     go true test is =
-        let parts = both _ _ test in
+        let parts = and_parts _ _ test in
         subst (λ (p : ℕ). LeadsTo base count place (pos n) p) (to_is _ _ is)
         (leads_ahead base count place n fits (eqb-true _ _ parts.0) (ltb-true _ _ parts.1))
     go false test is = absurd (away_is_none there is)
@@ -208,7 +207,7 @@ leads_to base count place there (negsuc n) fits here is = go _ refl is
     go : (b : Bool) → ((suc n % 4 == 0) && leb (suc n / 4) place) ≡ b → cond b (To (place - suc n / 4)) Away ≡ To there →
         LeadsTo base count place (negsuc n) there
     go true test is =
-        let parts = both _ _ test in
+        let parts = and_parts _ _ test in
         subst (λ (p : ℕ). LeadsTo base count place (negsuc n) p) (to_is _ _ is)
         (leads_behind base count place n fits here (eqb-true _ _ parts.0) (leb-true _ _ parts.1))
     go false test is = absurd (away_is_none there is)

@@ -1,7 +1,7 @@
 -- The plain step of a hart over a flat memory keeps the size of the disk.
 use Rattle.std.proofs.Common.{◌≡◌, ◌∙◌, ◌<◌, ℕ, ◌+◌, ◌*◌, ◌/◌, ◌%◌, Bool, true, false, cond, ◌&&◌, nat_lt, nat_le, List, ◌++◌, length, take, drop, slice_index_or, [], Option, Some, None, Result, Ok, Err, refl, sym, ap, subst, arith, length-append, length-drop}
 use Rattle.std.specs.Prelude.{◌==◌, not}
-use Rattle.std.proofs.lemmas.Bool.{ltb-true}
+use Rattle.std.proofs.lemmas.Bool.{ltb-true, and_parts}
 use Rattle.std.proofs.lemmas.List.{length-take}
 use Rattle.cloak_base.specs.Constants.{ram_start, frame_of, is_in_frames}
 use Rattle.cloak_base.specs.Registers.{register}
@@ -30,7 +30,6 @@ use Rattle.cloak_model.specs.Walk.{Walk, walk}
 use Rattle.cloak_model.specs.World.{World, Flat}
 use Rattle.cloak_model.proofs.FlatWalk.{ask_walk-flat}
 use Rattle.reservation_law.proofs.Keeping.{AreWhole}
-use Rattle.reservation_law.proofs.Plain.{both_are}
 
 -- A load changes nothing of a flat memory.
 
@@ -101,9 +100,9 @@ write_block_keeps h disk s whole =
     let pa : ℕ = register h.regs 11 in
     let n : ℕ = length s.ram in
     keeps_known (length disk) (is_transfer n disk block pa) _ _ (λ is.
-    let first = both_are (nat_lt block (length disk / 4096)) ((pa % 4096 == 0) && is_in_frames n pa) is in
-    let second = both_are (pa % 4096 == 0) (is_in_frames n pa) first.1 in
-    let third = both_are (nat_le ram_start pa) (nat_lt (frame_of pa) n) second.1 in
+    let first = and_parts (nat_lt block (length disk / 4096)) ((pa % 4096 == 0) && is_in_frames n pa) is in
+    let second = and_parts (pa % 4096 == 0) (is_in_frames n pa) first.1 in
+    let third = and_parts (nat_le ram_start pa) (nat_lt (frame_of pa) n) second.1 in
     with_block-length disk block (slice_index_or s.ram (frame_of pa) []) (ltb-true block (length disk / 4096) first.0)
     (whole.long (frame_of pa) (ltb-true (frame_of pa) n third.1))) refl
 

@@ -3,7 +3,7 @@ use Rattle.std.proofs.Common.{◌≡◌, ◌≢◌, ◌∙◌, ◌+◌, ◌*◌,
 use mathlib.Core.Path.{fun_ext}
 use Rattle.std.specs.Prelude.{nat_eq, ◌&&◌, if◌then◌else◌}
 use Rattle.std.proofs.Math.Nat.{mod-mod}
-use Rattle.std.proofs.lemmas.Bool.{false≢true}
+use Rattle.std.proofs.lemmas.Bool.{false≢true, cond-false}
 use Rattle.cloak_base.specs.declared.names.Kind.{Kind}
 use Rattle.cloak_base.specs.declared.names.Kind.TheVariants.{Load, Store}
 use Rattle.cloak_base.specs.declared.names.PageId.{PageId}
@@ -261,16 +261,12 @@ pub record LeavesOthers (d : ℕ) (w v : World) : Type 0 where
   pub violation : violation_of v ≡ violation_of w
   pub others : (e : ℕ) → e ≢ d → domain_pages e (plain_of v) ≡ domain_pages e (plain_of w)
 
-not_taken : {A : Type 0} (b : Bool) (x y : A) → b ≡ false → cond b x y ≡ y
-not_taken true x y is = absurd cc
-not_taken false x y is = refl
-
 -- a map of pages that is changed where a test passes, which is at no page of a domain
 other_pages : (e : ℕ) (plain new : PageId → List ℕ) (test : PageId → Bool) →
     ((resource page : ℕ) → test (record { domain = e; resource = resource; page = page }) ≡ false) →
     domain_pages e (λ p. if test p then new p else plain p) ≡ domain_pages e plain
 other_pages e plain new test never =
-    fun_ext (λ resource. fun_ext (λ page. not_taken
+    fun_ext (λ resource. fun_ext (λ page. cond-false
     (test (record { domain = e; resource = resource; page = page })) _ _ (never resource page)))
 
 other_and : (e d : ℕ) (b : Bool) → e ≢ d → (nat_eq e d && b) ≡ false

@@ -23,13 +23,15 @@ use Rattle.cloak_model.specs.World.{World, Cloaked, Alone, plain_of, items_of}
 use Rattle.domain_isolation.proofs.Alone.{alone_at, ended, RestsAt, OtherAt, same_number}
 use Rattle.domain_isolation.proofs.Answers.{alone_with, LeavesOthers, change_leaves, change_same}
 use Rattle.domain_isolation.proofs.Ignoring.{taken_append, taken_half, none_taken}
-use Rattle.domain_isolation.proofs.InOrder.{same_some, decided, InOrder, order_ends, get_set_same, get_set_other}
+use Rattle.domain_isolation.proofs.InOrder.{decided, InOrder, order_ends, get_set_same}
 use Rattle.domain_isolation.proofs.InsideSteps.{memory_plain, turn_alone}
 use Rattle.domain_isolation.proofs.JointSteps.{HoldsPart, StepAlone}
 use Rattle.script_fold.proofs.Endings.{keeps_settled_for}
 use Rattle.cloak_model.specs.Script.{Forget}
 use Rattle.cloak_model.specs.Script.{played}
 use Rattle.domain_isolation.proofs.Steady.{is_cloaked, Steady, steady_opens}
+use Rattle.std.proofs.lemmas.Option.{same_Some}
+use Rattle.cloak_base.proofs.Lists.{slice_get-set_other}
 
 -- Its pages.
 
@@ -185,7 +187,7 @@ end_elsewhere d count schedule k hart p inside t e old v apart found step o =
     record {
       part = step.part;
       has = record {
-        domain = get_set_other t.joint.domains e d (ended_domain old) apart ∙ step.has.domain;
+        domain = slice_get-set_other t.joint.domains e d (ended_domain old) apart ∙ step.has.domain;
         plain = ap (domain_pages d) (memory_plain (end_world e m) m leaves.form) ∙ leaves.others d apart ∙ step.has.plain;
       };
       rests = subst (λ (s : DomainAlone). RestsAt (ended s) step.part (is_some (stop_of (end_domain e old v t))))
@@ -218,7 +220,7 @@ end_own d count schedule k hart p inside t old v found step steps stage is takes
     let half : inward_half d more ≡ item.Ended d ∷ [] = end_half d d m
     ∙ ap (λ (b : Bool). cond b (item.Ended d ∷ []) []) (eq-eqb d d refl) in
     let leaves = end_leaves d m in
-    let same : old ≡ step.part.domain = same_some old step.part.domain (sym found ∙ step.has.domain) in
+    let same : old ≡ step.part.domain = same_Some old step.part.domain (sym found ∙ step.has.domain) in
     record {
       part = ended_part d step.part;
       has = record {
@@ -252,7 +254,7 @@ ends_once_taken d count schedule k hart p t e old v false over some found step =
     elim (decided d e) [
       | inl same ↦
           let found' : slice_get t.joint.domains d ≡ Some old = ap (slice_get t.joint.domains) same ∙ found in
-          let it : old ≡ step.part.domain = same_some old step.part.domain (sym found' ∙ step.has.domain) in
+          let it : old ≡ step.part.domain = same_Some old step.part.domain (sym found' ∙ step.has.domain) in
           subst (λ (x : ℕ). StepTaken d count schedule k hart p (end_domain x old v t)) same
           (end_own d count schedule k hart p None t old v found' step o.steps (Other o.hart) o.is
           (other_takes d step.part.domain.control.ended o.hart (alone_at step.part o.steps (Other o.hart))

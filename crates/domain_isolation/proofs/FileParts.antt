@@ -16,8 +16,10 @@ use Rattle.cloak_model.specs.Resources.{Mapped}
 use Rattle.cloak_model.specs.StoredFiles.{PageContent, FileContents}
 use Rattle.kernel_isolation.proofs.FilesAdded.{IsGiven, file_made, with_given_file, files_carry, KeepsMachine, was_there}
 use Rattle.script_fold.proofs.Runs.{runs_in}
-use Rattle.domain_isolation.proofs.InOrder.{same_some, decided, inside_at, is_running, InOrder, get_set_same, get_set_other}
+use Rattle.domain_isolation.proofs.InOrder.{decided, inside_at, is_running, InOrder, get_set_same}
 use Rattle.domain_isolation.proofs.JointSteps.{HoldsPart}
+use Rattle.std.proofs.lemmas.Option.{same_Some}
+use Rattle.cloak_base.proofs.Lists.{slice_get-set_other}
 
 -- The pages.
 
@@ -83,7 +85,7 @@ given_apart : (d : ℕ) (f : FileContents) (x y : Joint) (p : DomainPart) → Is
 given_apart d f x y p given has other =
     subst (λ (j : Joint). HoldsPart d j p) given.is
     (record {
-      domain = get_set_other x.domains f.domain d _ other ∙ has.domain;
+      domain = slice_get-set_other x.domains f.domain d _ other ∙ has.domain;
       plain = other_contents d f.domain given.resource 0 f.pages x.memory other ∙ has.plain;
     })
 
@@ -91,7 +93,7 @@ given_own : (f : FileContents) (x y : Joint) (p : DomainPart) → IsGiven f x y 
     HoldsPart f.domain y (with_file f.domain f p)
 given_own f x y p given has =
     let d = f.domain in
-    let same : given.domain ≡ p.domain = same_some given.domain p.domain (sym given.there ∙ has.domain) in
+    let same : given.domain ≡ p.domain = same_Some given.domain p.domain (sym given.there ∙ has.domain) in
     let made : Mapped ℕ = file_made f p.domain in
     let answer : made.answer ≡ Ok given.resource =
     subst (λ (x : Domain). (file_made f x).answer ≡ Ok given.resource) same given.answer in

@@ -7,10 +7,7 @@ use Rattle.cloak_model.specs.Halves.{is_inward, inward_half}
 use Rattle.cloak_model.specs.DomainAlone.{DomainAlone, domain_takes, take_domain_item, domain_taken, opened_with_part}
 use Rattle.domain_isolation.specs.Isolation.{InwardHalfSuffices}
 use Rattle.kernel_isolation.proofs.Ignoring.{either_same}
-
-not_chosen : {A : Type 0} (b : Bool) (x y : A) → b ≡ false → cond b x y ≡ y
-not_chosen true x y e = absurd cc
-not_chosen false x y e = refl
+use Rattle.std.proofs.lemmas.Bool.{cond-false}
 
 takes_others : (d : ℕ) (schedule : List ℕ) (s : DomainAlone) (i : Item) → is_inward d i ≡ false →
     domain_takes d schedule i s ≡ s
@@ -21,7 +18,7 @@ takes_others d schedule s (item.Leave x) is = refl
 takes_others d schedule s (item.Step number) is = absurd cc
 takes_others d schedule s (item.Close steps) is = absurd cc
 takes_others d schedule s item.End is = refl
-takes_others d schedule s _ is = not_chosen _ _ _ is
+takes_others d schedule s _ is = cond-false _ _ _ is
 
 item_ignored : (d : ℕ) (schedule : List ℕ) (s : DomainAlone) (i : Item) → is_inward d i ≡ false →
     take_domain_item d schedule s i ≡ s

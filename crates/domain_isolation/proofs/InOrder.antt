@@ -1,8 +1,8 @@
 -- What holds of the joint machine between two steps: each program has its place for its number, and a context runs on a
 -- hart only if that hart is inside it.
 use Rattle.std.proofs.Common.{◌≡◌, ◌≢◌, ◌∙◌, ◌⊎◌, inl, inr, ◌+◌, ◌<◌, ◌≤◌, true, false, cond, suc, zero, pred, ℕ, Bool, List, [], ◌∷◌, Option, Some, None, Ok, Err, refl, ap, sym, subst, eq-eqb, eqb-true, ne_eqb, arith, length, length-set, nat_eq}
-use Rattle.std.specs.Prelude.{◌&&◌, ◌==◌, unwrap_or, is_some, replicate, slice_get, slice_set, slice_index_or}
-use Rattle.std.proofs.lemmas.Bool.{false≢true, cases_lt, eqb-false}
+use Rattle.std.specs.Prelude.{◌&&◌, ◌==◌, is_some, replicate, slice_get, slice_set, slice_index_or}
+use Rattle.std.proofs.lemmas.Bool.{false≢true, cases_lt, eqb-false, false_from_ne_true, and_left, and_right, and_from, and_parts}
 use Rattle.std.proofs.lemmas.List.{get_or-set_same, get_or-set_other, get_or_past}
 use Rattle.cloak_base.specs.declared.names.HartId.{HartId}
 use Rattle.cloak_model.specs.declared.context.ResumeFault.TheVariants.{Busy}
@@ -16,9 +16,9 @@ use Rattle.cloak_model.specs.Ending.{ended_domain}
 use Rattle.cloak_model.specs.DomainStep.{answer_in, answer_taken, resume_told, resume_slot}
 use Rattle.cloak_model.specs.DomainAlone.{is_hart, runs_on, slot_on, is_granted}
 use Rattle.script_fold.proofs.Runs.{runs_in, set_same, set_others, MovesSlot}
-
-pub same_some : {A : Type 0} (a b : A) → Some a ≡ Some b → a ≡ b
-same_some a b is = ap (λ (o : Option _). unwrap_or o a) is
+use Rattle.std.proofs.lemmas.Option.{same_Some}
+use Rattle.cloak_model.proofs.ResumeParts.{answer_taken_number}
+use Rattle.cloak_base.proofs.Lists.{slice_get-set_other}
 
 pub decided : (a b : ℕ) → (a ≡ b) ⊎ (a ≢ b)
 decided a b = decided_by (nat_eq a b) refl
@@ -73,15 +73,6 @@ inside_set_kept harts n h kept m = elim (decided m n) [
   | inr other ↦ inside_set_other harts n m h other
 ]
 
--- a hart that runs a context is one of them
-pub running_within : (harts : List Hart) (n ctx : ℕ) → inside_at harts n ≡ Some ctx → n < length harts
-running_within harts n ctx is = elim (cases_lt n (length harts)) [
-  | inl within ↦ within
-  | inr past ↦
-      let clash : None ≡ Some ctx = sym (started_outside 0 0)
-      ∙ ap (λ (x : Hart). x.inside) (sym (get_or_past harts n (started 0 0) past)) ∙ is in absurd cc
-]
-
 -- Domains.
 
 pub get_set_same : {A : Type 0} (xs : List A) (i : ℕ) (old new : A) → slice_get xs i ≡ Some old →
@@ -89,14 +80,6 @@ pub get_set_same : {A : Type 0} (xs : List A) (i : ℕ) (old new : A) → slice_
 get_set_same [] i old new is = absurd cc
 get_set_same (x ∷ xs) zero old new is = refl
 get_set_same (x ∷ xs) (suc i) old new is = get_set_same xs i old new is
-
-pub get_set_other : {A : Type 0} (xs : List A) (i k : ℕ) (new : A) → k ≢ i →
-    slice_get (slice_set xs i new) k ≡ slice_get xs k
-get_set_other [] i k new other = refl
-get_set_other (x ∷ xs) zero zero new other = absurd (other refl)
-get_set_other (x ∷ xs) zero (suc k) new other = refl
-get_set_other (x ∷ xs) (suc i) zero new other = refl
-get_set_other (x ∷ xs) (suc i) (suc k) new other = get_set_other xs i k new (λ same. other (ap suc same))
 
 -- What a step of one hart, in one domain, leaves in order.
 
@@ -119,19 +102,19 @@ with_one count harts harts' domains e old new order is counted number runs other
       harts_count = counted ∙ order.harts_count;
       numbers = λ d domain found. elim (decided d e) [
         | inl same ↦
-            let it : domain ≡ new = same_some domain new (sym found ∙ ap (slice_get (slice_set domains e new)) same
+            let it : domain ≡ new = same_Some domain new (sym found ∙ ap (slice_get (slice_set domains e new)) same
             ∙ get_set_same domains e old new is) in
             ap (λ (x : Domain). x.control.number) it ∙ number ∙ order.numbers e old is ∙ sym same
-        | inr other ↦ order.numbers d domain (sym (get_set_other domains e d new other) ∙ found)
+        | inr other ↦ order.numbers d domain (sym (slice_get-set_other domains e d new other) ∙ found)
       ];
       runs = λ d domain found m slot on. elim (decided d e) [
         | inl same ↦
-            let it : domain ≡ new = same_some domain new (sym found ∙ ap (slice_get (slice_set domains e new)) same
+            let it : domain ≡ new = same_Some domain new (sym found ∙ ap (slice_get (slice_set domains e new)) same
             ∙ get_set_same domains e old new is) in
             ap (λ (k : ℕ). is_running k slot (inside_at harts' m)) same
             ∙ runs m slot (ap (λ (x : Domain). runs_in m x.control.contexts slot) (sym it) ∙ on)
         | inr other ↦
-            others d slot m other (order.runs d domain (sym (get_set_other domains e d new other) ∙ found) m slot on)
+            others d slot m other (order.runs d domain (sym (slice_get-set_other domains e d new other) ∙ found) m slot on)
       ];
     }
 
@@ -166,26 +149,14 @@ order_stays count harts domains n h e slot old new order is kept moves =
 
 -- A hart that leaves its context.
 
-not_both : (a b : Bool) → a ≡ false → (a && b) ≡ false
-not_both true b is = absurd cc
-not_both false b is = refl
-
-not_second : (a b : Bool) → b ≡ false → (a && b) ≡ false
-not_second true b is = is
-not_second false b is = refl
-
 running_other : (ctx e d slot : ℕ) → domain_of ctx ≡ e → d ≢ e → is_running d slot (Some ctx) ≡ false
-running_other ctx e d slot own other = not_both _ _ (ne_eqb (domain_of ctx) d (λ same. other (sym same ∙ own)))
+running_other ctx e d slot own other = and_left _ _ (ne_eqb (domain_of ctx) d (λ same. other (sym same ∙ own)))
 
 running_other_slot : (ctx d slot : ℕ) → slot ≢ slot_of ctx → is_running d slot (Some ctx) ≡ false
-running_other_slot ctx d slot other = not_second _ _ (ne_eqb (slot_of ctx) slot (λ same. other (sym same)))
-
-both : (a b : Bool) → a ≡ true → b ≡ true → (a && b) ≡ true
-both true b is is' = is'
-both false b is is' = absurd cc
+running_other_slot ctx d slot other = and_right _ _ (ne_eqb (slot_of ctx) slot (λ same. other (sym same)))
 
 running_own : (ctx : ℕ) → is_running (domain_of ctx) (slot_of ctx) (Some ctx) ≡ true
-running_own ctx = both _ _ (eq-eqb (domain_of ctx) (domain_of ctx) refl) (eq-eqb (slot_of ctx) (slot_of ctx) refl)
+running_own ctx = and_from _ _ (eq-eqb (domain_of ctx) (domain_of ctx) refl) (eq-eqb (slot_of ctx) (slot_of ctx) refl)
 
 pub order_leaves : (count : ℕ) (harts : List Hart) (domains : List Domain) (n : ℕ) (h : Hart) (ctx : ℕ)
     (old new : Domain) → InOrder count harts domains →
@@ -235,10 +206,6 @@ order_enters count harts domains n h order out =
     order_moves count harts domains n h order
     (λ d domain found slot on. false≢true (ap (is_running d slot) (sym out) ∙ order.runs d domain found n slot on))
 
-first_of : (a b : Bool) → (a && b) ≡ true → a ≡ true
-first_of true b is = refl
-first_of false b is = is
-
 second_of : (a b : Bool) → (a && b) ≡ true → b ≡ true
 second_of true b is = is
 second_of false b is = absurd (false≢true is)
@@ -251,7 +218,7 @@ order_gone count harts domains n h ctx order runs not_here =
     order_moves count harts domains n h order
     (λ d domain found slot on.
     let in_it : is_running d slot (Some ctx) ≡ true = ap (is_running d slot) (sym runs) ∙ order.runs d domain found n slot on in
-    let at : domain_of ctx ≡ d = eqb-true (domain_of ctx) d (first_of _ _ in_it) in
+    let at : domain_of ctx ≡ d = eqb-true (domain_of ctx) d (and_parts _ _ in_it).0 in
     let place : slot_of ctx ≡ slot = eqb-true (slot_of ctx) slot (second_of (domain_of ctx == d) _ in_it) in
     false≢true (sym (not_here domain (ap (slice_get domains) at ∙ found))
     ∙ ap (runs_in n domain.control.contexts) place ∙ on))
@@ -335,12 +302,6 @@ answer_taken_runs slot answer (Some c) d is m s =
     set_same m d.contexts slot (Some (answer_in c.phase answer c))
     (ap (is_hart m) (answer_in_on c.phase answer c) ∙ ap (runs_on m) (sym is)) s
 
-answer_taken_number : (slot answer : ℕ) (o : Option Context) (d : Control) →
-    (answer_taken slot answer o d).number ≡ d.number
-unfolding answer_taken
-answer_taken_number slot answer None d = refl
-answer_taken_number slot answer (Some c) d = refl
-
 set_here : (m : ℕ) (contexts : List (Option Context)) (slot : ℕ) (c : Context) (new : Context) →
     context_at contexts slot ≡ Some c →
     runs_in m (slice_set contexts slot (Some new)) slot ≡ is_hart m new.on
@@ -420,24 +381,19 @@ slot_found hart k (suc slot) (c ∷ contexts) own others =
     ∙ slot_found hart (k + 1) slot contexts own (λ s other. others (suc s) (λ same. other (ap pred same)))
     ∙ ap (λ (n : ℕ). Some n) same
 
--- what is not true is false
-not_true : (b : Bool) → (b ≡ true → ⊥) → b ≡ false
-not_true true never = absurd (never refl)
-not_true false never = refl
-
 -- of a hart outside, or in a context of another program
 pub slot_outside : (count : ℕ) (harts : List Hart) (domains : List Domain) (d : ℕ) (domain : Domain) (hart : ℕ) →
     InOrder count harts domains → slice_get domains d ≡ Some domain →
     inside_at harts hart ≡ None → slot_on hart 0 domain.control.contexts ≡ None
 slot_outside count harts domains d domain hart order is out =
-    slot_none hart 0 domain.control.contexts (λ s. not_true _ (λ on.
+    slot_none hart 0 domain.control.contexts (λ s. false_from_ne_true _ (λ on.
     false≢true (ap (is_running d s) (sym out) ∙ order.runs d domain is hart s on)))
 
 pub slot_other : (count : ℕ) (harts : List Hart) (domains : List Domain) (d : ℕ) (domain : Domain) (hart ctx : ℕ) →
     InOrder count harts domains → slice_get domains d ≡ Some domain →
     inside_at harts hart ≡ Some ctx → d ≢ domain_of ctx → slot_on hart 0 domain.control.contexts ≡ None
 slot_other count harts domains d domain hart ctx order is runs other =
-    slot_none hart 0 domain.control.contexts (λ s. not_true _ (λ on.
+    slot_none hart 0 domain.control.contexts (λ s. false_from_ne_true _ (λ on.
     false≢true (sym (running_other ctx (domain_of ctx) d s refl other) ∙ ap (is_running d s) (sym runs)
     ∙ order.runs d domain is hart s on)))
 
@@ -448,7 +404,7 @@ pub slot_idle : (count : ℕ) (harts : List Hart) (domains : List Domain) (domai
 slot_idle count harts domains domain hart ctx order is runs idle =
     slot_none hart 0 domain.control.contexts (λ s. elim (decided s (slot_of ctx)) [
       | inl same ↦ ap (runs_in hart domain.control.contexts) same ∙ idle
-      | inr other ↦ not_true _ (λ on.
+      | inr other ↦ false_from_ne_true _ (λ on.
           false≢true (sym (running_other_slot ctx (domain_of ctx) s other) ∙ ap (is_running (domain_of ctx) s) (sym runs)
           ∙ order.runs (domain_of ctx) domain is hart s on))
     ])
@@ -462,7 +418,7 @@ slot_own count harts domains domain hart ctx order is runs here =
     let e = domain_of ctx in
     let same : 0 + slot_of ctx ≡ slot_of ctx = omega arith in
     slot_found hart 0 (slot_of ctx) domain.control.contexts here
-    (λ s other. not_true _ (λ on.
+    (λ s other. false_from_ne_true _ (λ on.
     false≢true (sym (running_other_slot ctx e s other) ∙ ap (is_running e s) (sym runs)
     ∙ order.runs e domain is hart s on)))
     ∙ ap (λ (n : ℕ). Some n) same

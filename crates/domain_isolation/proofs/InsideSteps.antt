@@ -38,14 +38,12 @@ use Rattle.domain_isolation.proofs.Steady.{is_cloaked, is_halted}
 use Rattle.domain_isolation.proofs.Answers.{IsServing}
 use Rattle.domain_isolation.proofs.Played.{answers_of, answer_items, played_serving, played_items, played_others, played_ends, played_stopped, played_met}
 use Rattle.domain_isolation.proofs.Alone.{alone_at, ended, RestsAt, part_in, timer_rests, answers_rest, StoppedAt, answers_open}
-use Rattle.domain_isolation.proofs.InOrder.{same_some, decided, inside_at, InOrder, order_stays, order_leaves, get_set_same, get_set_other, slot_other, slot_own, order_gone, slot_idle}
+use Rattle.domain_isolation.proofs.InOrder.{decided, inside_at, InOrder, order_stays, order_leaves, get_set_same, slot_other, slot_own, order_gone, slot_idle}
 use Rattle.domain_isolation.proofs.KernelHarts.{ticked_inside}
 use Rattle.domain_isolation.proofs.JointSteps.{HoldsPart, StepAlone, is_cut, other_alone}
 use Rattle.domain_isolation.proofs.OutsideSteps.{outside_alone}
-
-leave_inside : (h : Hart) (s : Shown) → (leave h s).inside ≡ None
-unfolding leave
-leave_inside h s = refl
+use Rattle.std.proofs.lemmas.Option.{same_Some}
+use Rattle.cloak_base.proofs.Lists.{slice_get-set_other}
 
 -- a step of a context, which changed only its own domain
 running_alone : (d count : ℕ) (schedule : List ℕ) (k n : ℕ) (p : DomainPart) (j : Joint) (ctx : ℕ)
@@ -74,7 +72,7 @@ running_alone d count schedule k n p j ctx old new t order has is runs here doma
           let q : DomainPart = record { domain = old; plain = domain_pages e j.memory.plain } in
           let it : q ≡ p =
           ap₂ (λ (x : Domain) (plain : ℕ → ℕ → List ℕ). let y : DomainPart = record { domain = x; plain = plain } in y)
-          (same_some old p.domain (sym is ∙ has'.domain)) has'.plain in
+          (same_Some old p.domain (sym is ∙ has'.domain)) has'.plain in
           subst (λ (x : ℕ). StepAlone x count schedule k n p (Some ctx) t) (sym same)
           (subst (λ (x : DomainPart). StepAlone e count schedule k n x (Some ctx) t) it
           (record {
@@ -102,7 +100,7 @@ running_alone d count schedule k n p j ctx old new t order has is runs here doma
           other_alone d count schedule k n p (Some ctx) t
           (slot_other count j.harts j.domains d p.domain n ctx order has.domain runs other) (others other).0
           (record {
-            domain = ap (λ (l : List Domain). slice_get l d) domains ∙ get_set_other j.domains e d new other
+            domain = ap (λ (l : List Domain). slice_get l d) domains ∙ slice_get-set_other j.domains e d new other
                 ∙ has.domain;
             plain = (others other).1 ∙ has.plain;
           }) after (λ some. other)
@@ -164,7 +162,7 @@ pub memory_plain : (w : World) (m : CloakedMemory) → is_cloaked w ≡ true →
 memory_plain (Cloaked c) m cloaked = refl
 memory_plain _ m cloaked = absurd (false≢true cloaked)
 
-memory_missed : (w : World) (m : CloakedMemory) → is_cloaked w ≡ true → (memory_of w m).ledger.missed ≡ is_missed w
+pub memory_missed : (w : World) (m : CloakedMemory) → is_cloaked w ≡ true → (memory_of w m).ledger.missed ≡ is_missed w
 memory_missed (Cloaked c) m cloaked = refl
 memory_missed _ m cloaked = absurd (false≢true cloaked)
 
@@ -172,13 +170,19 @@ memory_missed _ m cloaked = absurd (false≢true cloaked)
 abbrev with_step : ℕ → Domain → CloakedMemory → Joint → Joint
 with_step e new m j = record (with_domain e new j) { memory = m }
 
-ended_domains : (j : Joint) (n : ℕ) (h : Hart) (e : ℕ) (w : World) (g : Went) →
+pub ended_domains : (j : Joint) (n : ℕ) (h : Hart) (e : ℕ) (w : World) (g : Went) →
     (domain_ended j n h e w g).joint.domains ≡ j.domains
 unfolding domain_ended
 ended_domains j n h e w went.Stay = refl
 ended_domains j n h e w _ = refl
 
-ended_plain : (j : Joint) (n : ℕ) (h : Hart) (e : ℕ) (w : World) (g : Went) →
+pub interrupt_ended_domains : (j : Joint) (number : ℕ) (h : Hart) (items : List Item) (g : Went) →
+    (interrupt_ended j number h items g).joint.domains ≡ j.domains
+unfolding interrupt_ended
+interrupt_ended_domains j number h items went.Stay = refl
+interrupt_ended_domains j number h items _ = refl
+
+pub ended_plain : (j : Joint) (n : ℕ) (h : Hart) (e : ℕ) (w : World) (g : Went) →
     (domain_ended j n h e w g).joint.memory.plain ≡ j.memory.plain
 unfolding domain_ended
 ended_plain j n h e w went.Stay = refl
@@ -187,7 +191,7 @@ ended_plain j n h e w _ = refl
 pub with_leave : (d : ℕ) (items : List Item) (s : Shown) → inward_half d (items ++ item.Leave s ∷ []) ≡ inward_half d items
 with_leave d items s = filter-append (is_inward d) items (item.Leave s ∷ []) ∙ append-nil (inward_half d items)
 
-ended_items : (d : ℕ) (j : Joint) (n : ℕ) (h : Hart) (e : ℕ) (w : World) (g : Went) →
+pub ended_items : (d : ℕ) (j : Joint) (n : ℕ) (h : Hart) (e : ℕ) (w : World) (g : Went) →
     inward_half d (domain_ended j n h e w g).items ≡ inward_half d (items_of w)
 unfolding domain_ended
 ended_items d j n h e w (went.Leave s) = with_leave d (items_of w) s
@@ -377,7 +381,7 @@ by_running_alone : (here : Bool) (d count : ℕ) (schedule : List ℕ) (k n : �
 unfolding by_running
 by_running_alone false d count schedule k n p j h ctx old order has is runs kept here =
     gone_alone d count schedule k n p j h ctx order has runs
-    (λ domain found. ap (λ (x : Domain). runs_in n x.control.contexts (slot_of ctx)) (same_some domain old (sym found ∙ is))
+    (λ domain found. ap (λ (x : Domain). runs_in n x.control.contexts (slot_of ctx)) (same_Some domain old (sym found ∙ is))
     ∙ here)
 by_running_alone true d count schedule k n p j h ctx old order has is runs kept here =
     by_interrupt_alone (interrupt_due h.mode h.csrs) d count schedule k n p j h ctx old order has is runs kept here

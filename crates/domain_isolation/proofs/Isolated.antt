@@ -23,7 +23,7 @@ use Rattle.cloak_model.specs.DomainAlone.{DomainAlone, Between, domain_step_ende
 use Rattle.domain_isolation.specs.Isolation.{HasDomain, Hosts, DomainIsAlone, DomainEndsAlone}
 use Rattle.kernel_isolation.specs.Isolation.{items_until}
 use Rattle.kernel_isolation.proofs.FilesAdded.{OpensOver, opens_over}
-use Rattle.domain_isolation.proofs.Ignoring.{half_taken, taken_append, taken_half, item_taken}
+use Rattle.domain_isolation.proofs.Ignoring.{half_taken, taken_append, taken_half, item_taken, none_taken}
 use Rattle.domain_isolation.proofs.Alone.{alone_at, ended, RestsAt, from_ended, begins, closes}
 use Rattle.domain_isolation.proofs.InOrder.{InOrder}
 use Rattle.domain_isolation.proofs.JointSteps.{HoldsPart, has_part}
@@ -192,10 +192,6 @@ hosted b d p from r h = runs_of b from h.budget r (opening_from b from) refl h.r
 schedule_of : (b : Bundle) → IsInGrammar b → IsSchedule b.kernel.harts b.kernel.schedule
 schedule_of b g = record { some = g.kernel.some_turns; turns = g.kernel.turns }
 
-nothing_taken : (d : ℕ) (schedule : List ℕ) (s : DomainAlone) → domain_taken d schedule s [] ≡ s
-unfolding domain_taken
-nothing_taken d schedule s = refl
-
 starts_between : (p : DomainPart) → ended (opened_with_part p) ≡ alone_at p 0 Between
 unfolding domain_step_ended
 starts_between p = refl
@@ -210,7 +206,7 @@ run_after b d p from budget o g opened found =
     let start = opened_with_part part in
     let none : domain_taken d b.kernel.schedule start o.items ≡ start =
     taken_half d b.kernel.schedule start o.items [] (opened_half b from o d opened)
-    ∙ nothing_taken d b.kernel.schedule start in
+    ∙ none_taken d b.kernel.schedule start in
     fronts budget d b.kernel.harts b.kernel.schedule (schedule_of b g) 0 o.joint _ part 0
     (opened_order b from o opened) (opened_has b from o d p opened found)
     (ap ended none ∙ starts_between part)
@@ -254,7 +250,7 @@ domain_is_alone b d p from r h n le =
     (sym (half_taken d b.kernel.schedule (opened_with_part part) (items_until n (run_of b h.budget o))))
     (closed_part d b.kernel.schedule part o.items n o.joint (joint_after o.joint (take n turns)) (take n turns) []
     (run_after b d p from h.budget o h.in_grammar runs.is_opened h.program n le')
-    (λ s fits. nothing_taken d b.kernel.schedule s) (λ q has. has))) le
+    (λ s fits. none_taken d b.kernel.schedule s) (λ q has. has))) le
 
 -- what is shown as the run closes, and End
 closing_ignored : (d : ℕ) (schedule : List ℕ) (j : Joint) (s : DomainAlone) → s.unfit ≡ None →

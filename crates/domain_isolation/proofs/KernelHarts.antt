@@ -17,15 +17,17 @@ use Rattle.cloak_base.specs.Constants.{frame_of}
 use Rattle.cloak_model.specs.Effect.{effect, flag}
 use Rattle.cloak_model.specs.Hart.{Hart}
 use Rattle.cloak_model.specs.World.{World}
-use Rattle.cloak_model.specs.Asking.{Asking, then_ask, Told, answered}
-use Rattle.cloak_model.specs.Ask.{ask_load, ask_store_at, ask_count, ask_fill, ask_frame, ask_reserve, ask_store_conditional, ask_combine, ask_unmark}
+use Rattle.cloak_model.specs.Asking.{Asking, then_ask, Told}
+use Rattle.cloak_model.specs.Ask.{ask_load, ask_store_at, ask_count, ask_fill, ask_frame, ask_reserve, ask_store_conditional, ask_combine}
 use Rattle.cloak_model.specs.HartStep.{SteppedHart, with_word, gone_on, stays, raised, csr_written, csr_found, csr_step, returned, idle, system}
 use Rattle.cloak_model.specs.HostCalls.{SteppedKernel, is_transfer, block_at, with_block, ends, host_answers, put_call, timer_call, halt_call, read_block, write_block, read_call, write_call, host_call, resumed, ecall_in, ecall}
-use Rattle.cloak_model.specs.KernelStep.{access, extended, is_ecall, or_trap, carried_out, executed, instruction_step, ticked, kernel_step, atomic_access, atomic_executed, misaligned, ends_reservation, released}
+use Rattle.cloak_model.specs.KernelStep.{access, extended, is_ecall, or_trap, carried_out, executed, instruction_step, ticked, kernel_step, atomic_access, atomic_executed, misaligned}
 use Rattle.rv_atomic.specs.Table.{atomic_instruction}
 use Rattle.rv_atomic.specs.declared.atomic.Atomic.{Atomic}
 use Rattle.rv_atomic.specs.declared.atomic.AtomicOp.{AtomicOp}
 use Rattle.rv_atomic.specs.declared.atomic.AtomicOp.TheVariants.{Lr, Sc, Swap, Add, Xor, And, Or, Min, Max, Minu, Maxu}
+use Rattle.cloak_base.proofs.Choices.{either}
+use Rattle.kernel_isolation.proofs.Resumes.{released_answer}
 
 abbrev pub inside_after : Kernel → Option ℕ → Option ℕ
 inside_after (Resume ctx answer) was = Some ctx
@@ -37,10 +39,6 @@ MadeSo was m = m.hart.inside ≡ inside_after m.ending was
 -- whatever the world is
 abbrev StepsSo : Option ℕ → Asking SteppedKernel → Type 0
 StepsSo was ask = (w : World) → (ask w).answer.hart.inside ≡ inside_after (ask w).answer.ending was
-
-either_so : {A : Type 0} (P : A → Type 0) (test : Bool) (x y : A) → P x → P y → P (cond test x y)
-either_so P true x y first second = first
-either_so P false x y first second = second
 
 steps_either : (was : Option ℕ) (test : Bool) (x y : Asking SteppedKernel) → StepsSo was x → StepsSo was y → (w : World) →
     (cond test (x w) (y w)).answer.hart.inside ≡ inside_after (cond test (x w) (y w)).answer.ending was
@@ -160,7 +158,7 @@ carried_out_so h disk word i (does.Store va width value) w =
     let next : Unit {0} → Asking SteppedKernel = λ done. ends disk (stays (gone_on h)) in
     or_trap_so h.inside h disk va found.answer next refl (λ done v. refl) found.world
 carried_out_so h disk word i does.System w =
-    either_so (λ (ask : Asking SteppedKernel). (ask w).answer.hart.inside ≡ inside_after (ask w).answer.ending h.inside)
+    either (λ (ask : Asking SteppedKernel). (ask w).answer.hart.inside ≡ inside_after (ask w).answer.ending h.inside)
     (is_ecall i) (ecall h disk) (ends disk (system h word i))
     (ecall_so h disk w) (system_so h word i)
 carried_out_so h disk word i (does.Raise cause value) w = raised_so h cause value
@@ -203,7 +201,7 @@ unfolding atomic_executed
 atomic_so h disk word None w = raised_so h 2 word
 atomic_so h disk word (Some a) w =
     let va = register h.regs a.rs1 in
-    either_so (λ (ask : Asking SteppedKernel). (ask w).answer.hart.inside ≡ inside_after (ask w).answer.ending h.inside)
+    either (λ (ask : Asking SteppedKernel). (ask w).answer.hart.inside ≡ inside_after (ask w).answer.ending h.inside)
     (va % 4 == 0) (atomic_access h disk a a.op va (register h.regs a.rs2)) (ends disk (raised h (misaligned a.op) va))
     (atomic_access_so h disk a a.op va (register h.regs a.rs2) w) (raised_so h (misaligned a.op) va)
 
@@ -224,18 +222,8 @@ unfolding ticked
 ticked_inside h =
     let falls : Hart = record h { timer = h.timer - 1 } in
     let due : Hart = record h { timer = 0; csrs = with_pending true h.csrs } in
-    either_so (λ (x : Hart). x.inside ≡ h.inside) (h.timer == 0) h (cond (h.timer == 1) due falls) refl
-    (either_so (λ (x : Hart). x.inside ≡ h.inside) (h.timer == 1) due falls refl refl)
-
--- ending a reservation changes nothing else
-released_by : (test : Bool) (made : SteppedKernel) (w : World) →
-    (cond test (then_ask (ask_unmark made.hart.id) (λ done. answered made) w) (answered made w)).answer ≡ made
-released_by true made w = refl
-released_by false made w = refl
-
-released_answer : (made : SteppedKernel) (w : World) → (released made w).answer ≡ made
-unfolding released
-released_answer made w = released_by (ends_reservation made.ending) made w
+    either (λ (x : Hart). x.inside ≡ h.inside) (h.timer == 0) h (cond (h.timer == 1) due falls) refl
+    (either (λ (x : Hart). x.inside ≡ h.inside) (h.timer == 1) due falls refl refl)
 
 pub kernel_step_inside : (h : Hart) (disk : List ℕ) (w : World) →
     let a = (kernel_step h disk w).answer in a.hart.inside ≡ inside_after a.ending h.inside
@@ -246,7 +234,7 @@ kernel_step_inside h disk w =
     let step : Told SteppedKernel = cond due (ends disk (raised h' 0x80000005 0)) (instruction_step h' disk) w in
     let made = step.answer in
     let so : made.hart.inside ≡ inside_after made.ending h'.inside =
-    either_so (λ (ask : Asking SteppedKernel).
+    either (λ (ask : Asking SteppedKernel).
     (ask w).answer.hart.inside ≡ inside_after (ask w).answer.ending h'.inside) due
     (ends disk (raised h' 0x80000005 0)) (instruction_step h' disk) (raised_so h' 0x80000005 0)
     (instruction_so h' disk w) in

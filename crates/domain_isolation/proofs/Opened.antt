@@ -1,5 +1,5 @@
 -- The joint machine as a run is opened and closed, and the program alone before any step.
-use Rattle.std.proofs.Common.{◌≡◌, ◌≢◌, ◌∙◌, inl, inr, ◌+◌, ◌<◌, ◌≤◌, true, false, cond, suc, zero, ℕ, Bool, List, [], ◌∷◌, ◌++◌, Option, Some, None, refl, ap, sym, subst, eq-eqb, ne_eqb, arith, length, map, filter, replicate, nat_eq, nat_lt, lt-ltb, le-ltb, eqb-true, length-append, if◌then◌else◌}
+use Rattle.std.proofs.Common.{◌≡◌, ◌≢◌, ◌∙◌, inl, inr, ◌+◌, ◌<◌, ◌≤◌, true, false, cond, suc, zero, ℕ, Bool, List, [], ◌∷◌, Option, Some, None, refl, ap, sym, subst, eq-eqb, ne_eqb, arith, length, map, filter, replicate, nat_eq, nat_lt, lt-ltb, le-ltb, eqb-true, if◌then◌else◌}
 use mathlib.Core.Path.{fun_ext}
 use Rattle.std.specs.Prelude.{◌&&◌, ◌||◌, ◌==◌, option_and_then, slice_get, slice_index_or}
 use Rattle.std.proofs.lemmas.Bool.{cases_lt, false≢true}
@@ -10,7 +10,6 @@ use Rattle.cloak_base.specs.declared.names.Start.{Start}
 use Rattle.cloak_model.specs.declared.image.Bundle.{Bundle}
 use Rattle.cloak_model.specs.declared.image.Program.{Program}
 use Rattle.cloak_model.specs.declared.item.Item.TheVariants.{Cipher}
-use Rattle.cloak_model.specs.Hart.{Hart, started}
 use Rattle.cloak_model.specs.Ledger.{Keys, vector_of}
 use Rattle.cloak_model.specs.Halves.{inward_half}
 use Rattle.cloak_model.specs.Beginning.{Beginning, Fresh, Stored}
@@ -20,16 +19,18 @@ use Rattle.cloak_model.specs.World.{MidStep}
 use Rattle.cloak_model.specs.Contexts.{Context, started_contexts, new_context}
 use Rattle.cloak_model.specs.DomainState.{Domain, started_control, started_domain}
 use Rattle.cloak_model.specs.Parts.{Joint, DomainPart, domain_pages}
-use Rattle.cloak_model.specs.Opening.{started_harts, started_kernel, started_memory, started_domains, started_joint, program_page, numbers_below, is_placed, place_pages, place_programs, RunEdge}
+use Rattle.cloak_model.specs.Opening.{started_kernel, started_memory, started_domains, started_joint, program_page, numbers_below, is_placed, place_pages, place_programs, RunEdge}
 use Rattle.cloak_model.specs.Joint.{hart_in, cloak_outside}
 use Rattle.cloak_model.specs.Run.{settled_below, closing}
 use Rattle.cloak_model.specs.DomainAlone.{started_page, started_part, with_files, part_from, is_hart}
 use Rattle.kernel_isolation.proofs.FilesAdded.{OpensOver, files_of, added_keep}
 use Rattle.script_fold.proofs.Runs.{runs_in}
 use Rattle.domain_isolation.proofs.Steady.{settle_plain, ciphers_told}
-use Rattle.domain_isolation.proofs.InOrder.{same_some, decided, inside_at, InOrder, started_outside}
+use Rattle.domain_isolation.proofs.InOrder.{decided, InOrder}
 use Rattle.domain_isolation.proofs.JointSteps.{HoldsPart}
 use Rattle.domain_isolation.proofs.FileParts.{own_page, other_page, files_have, files_order}
+use Rattle.cloak_model.proofs.Opening.{length-started_harts, domain_started}
+use Rattle.std.proofs.lemmas.Option.{same_Some}
 
 -- The pages of one program.
 
@@ -37,7 +38,7 @@ pub placed_with : (q : PageId) (f : ℕ) (bytes : List ℕ) (draw : Option (List
     place_with q f bytes draw m ≡ Some m' → m'.plain ≡ with_page m.plain q bytes
 unfolding place_with
 placed_with q f bytes None m m' is = absurd cc
-placed_with q f bytes (Some draw) m m' is = ap (λ (x : CloakedMemory). x.plain) (sym (same_some _ m' is))
+placed_with q f bytes (Some draw) m m' is = ap (λ (x : CloakedMemory). x.plain) (sym (same_Some _ m' is))
 
 pub placed : (q : PageId) (f : ℕ) (bytes : List ℕ) (m m' : CloakedMemory) → place q f bytes m ≡ Some m' →
     m'.plain ≡ with_page m.plain q bytes
@@ -112,7 +113,7 @@ record Placed (d : ℕ) (p : Program) (n : ℕ) (m m' : CloakedMemory) : Type 0 
 
 pages_placed : (d : ℕ) (p : Program) (n : ℕ) (m m' : CloakedMemory) → place_pages d p n m ≡ Some m' → Placed d p n m m'
 pages_placed d p zero m m' is =
-    let same : m ≡ m' = same_some m m' is in
+    let same : m ≡ m' = same_Some m m' is in
     record {
       own = ap (λ (x : CloakedMemory). domain_pages d x.plain) (sym same) ∙ pages_none p (domain_pages d m.plain);
       others = λ e other. ap (λ (x : CloakedMemory). domain_pages e x.plain) (sym same);
@@ -136,7 +137,7 @@ pages_placed d p (suc n) m m' is =
 
 pages_below : (d e : ℕ) (programs : List Program) (m m' : CloakedMemory) → place_programs d programs m ≡ Some m' →
     e < d → domain_pages e m'.plain ≡ domain_pages e m.plain
-pages_below d e [] m m' is less = ap (λ (x : CloakedMemory). domain_pages e x.plain) (sym (same_some m m' is))
+pages_below d e [] m m' is less = ap (λ (x : CloakedMemory). domain_pages e x.plain) (sym (same_Some m m' is))
 pages_below d e (p ∷ programs) m m' is less =
     let b = before (place_programs (d + 1) programs) (place_pages d p p.start.pages m) m' is in
     pages_below (d + 1) e programs b.value m' b.next (omega (arith, less))
@@ -152,7 +153,7 @@ programs_placed d zero (x ∷ programs) p m m' is found zeros =
     let same : d + 0 ≡ d = omega arith in
     ap (λ (e : ℕ). domain_pages e m'.plain) same ∙ pages_below (d + 1) d programs b.value m' b.next (omega arith)
     ∙ (pages_placed d x x.start.pages m b.value b.was).own ∙ ap (pages_to x x.start.pages) (zeros d (omega arith))
-    ∙ ap started_page (same_some x p found)
+    ∙ ap started_page (same_Some x p found)
 programs_placed d (suc k) (x ∷ programs) p m m' is found zeros =
     let b = before (place_programs (d + 1) programs) (place_pages d x x.start.pages m) m' is in
     let same : d + suc k ≡ (d + 1) + k = omega arith in
@@ -162,17 +163,6 @@ programs_placed d (suc k) (x ∷ programs) p m m' is found zeros =
     ∙ zeros e (omega (arith, more)))
 
 -- The programs.
-
-domains_started : (d k : ℕ) (programs : List Program) (p : Program) → slice_get programs k ≡ Some p →
-    slice_get (started_domains d programs) k ≡ Some (started_domain (d + k) p.start)
-domains_started d k [] p found = absurd cc
-domains_started d zero (x ∷ programs) p found =
-    let same : d ≡ d + 0 = omega arith in
-    ap (λ (q : Program). Some (started_domain d q.start)) (same_some x p found)
-    ∙ ap (λ (e : ℕ). Some (started_domain e p.start)) same
-domains_started d (suc k) (x ∷ programs) p found =
-    let same : (d + 1) + k ≡ d + suc k = omega arith in
-    domains_started (d + 1) k programs p found ∙ ap (λ (e : ℕ). Some (started_domain e p.start)) same
 
 -- a domain that no hart runs
 record IsIdle (d : ℕ) (domain : Domain) : Type 0 where
@@ -201,32 +191,12 @@ domains_idle : (d k : ℕ) (programs : List Program) (domain : Domain) →
 domains_idle d k [] domain found = absurd cc
 domains_idle d zero (x ∷ programs) domain found =
     let same : d ≡ d + 0 = omega arith in
-    subst (λ (e : ℕ). IsIdle e domain) same (subst (IsIdle d) (same_some _ domain found) (started_idle d x.start))
+    subst (λ (e : ℕ). IsIdle e domain) same (subst (IsIdle d) (same_Some _ domain found) (started_idle d x.start))
 domains_idle d (suc k) (x ∷ programs) domain found =
     let same : (d + 1) + k ≡ d + suc k = omega arith in
     subst (λ (e : ℕ). IsIdle e domain) same (domains_idle (d + 1) k programs domain found)
 
 -- The harts.
-
-append_outside : (harts : List Hart) (h : Hart) → ((m : ℕ) → inside_at harts m ≡ None) → h.inside ≡ None → (m : ℕ) →
-    inside_at (harts ++ h ∷ []) m ≡ None
-append_outside [] h each out zero = out
-append_outside [] h each out (suc m) = started_outside 0 0
-append_outside (x ∷ harts) h each out zero = each zero
-append_outside (x ∷ harts) h each out (suc m) = append_outside harts h (λ n. each (suc n)) out m
-
-harts_outside : (entry n m : ℕ) → inside_at (started_harts entry n) m ≡ None
-harts_outside entry zero m = started_outside 0 0
-harts_outside entry (suc n) m =
-    append_outside (started_harts entry n) (started entry n) (harts_outside entry n) (started_outside entry n) m
-
-harts_counted : (entry n : ℕ) → length (started_harts entry n) ≡ n
-harts_counted entry zero = refl
-harts_counted entry (suc n) =
-    let rest = harts_counted entry n in
-    let more : length (started_harts entry n ++ started entry n ∷ []) ≡ length (started_harts entry n) + 1 =
-    length-append (started_harts entry n) (started entry n ∷ []) in
-    omega (arith, rest, more)
 
 -- The opening.
 
@@ -245,7 +215,7 @@ bare_order : (b : Bundle) (m : CloakedMemory) →
     let j = started_joint b m in InOrder b.kernel.harts j.harts j.domains
 unfolding started_joint started_kernel
 bare_order b m = record {
-  harts_count = harts_counted b.kernel.entry b.kernel.harts;
+  harts_count = length-started_harts b.kernel.entry b.kernel.harts;
   numbers = λ d domain found. let same : 0 + d ≡ d = omega arith in
       (domains_idle 0 d b.programs domain found).number ∙ same;
   runs = λ d domain found hart slot on.
@@ -270,7 +240,7 @@ unfolding started_joint
 bare_has b from o d p opened found =
     let same : 0 + d ≡ d = omega arith in
     record {
-      domain = domains_started 0 d b.programs p found ∙ ap (λ (e : ℕ). Some (started_domain e p.start)) same;
+      domain = domain_started 0 d b.programs p found ∙ ap (λ (e : ℕ). Some (started_domain e p.start)) same;
       plain =
           ap (λ (e : ℕ). domain_pages e opened.memory.plain) (sym same)
           ∙ programs_placed 0 d b.programs p _ opened.memory opened.placed found

@@ -1,7 +1,7 @@
 -- A step of a hart outside: it tells no program anything, or the one whose context it resumes.
-use Rattle.std.proofs.Common.{◌≡◌, ◌∙◌, inl, inr, ◌<◌, true, cond, suc, zero, ℕ, Bool, List, [], ◌∷◌, ◌++◌, Option, Some, None, Result, Ok, Err, refl, ap, sym, subst, eq-eqb, ne_eqb, length, append-nil, if◌then◌else◌}
+use Rattle.std.proofs.Common.{◌≡◌, ◌∙◌, inl, inr, ◌<◌, true, cond, suc, ℕ, Bool, List, [], ◌∷◌, ◌++◌, Option, Some, None, Result, Ok, Err, refl, ap, sym, subst, eq-eqb, ne_eqb, length, append-nil, if◌then◌else◌}
 use Rattle.std.specs.Prelude.{◌==◌, slice_get}
-use Rattle.std.specs.List.{AllByRecursion, find}
+use Rattle.std.specs.List.{AllByRecursion}
 use Rattle.std.proofs.lemmas.List.Elements.{filter-append}
 use Rattle.cloak_base.specs.declared.names.SpaceId.{SpaceId}
 use Rattle.cloak_base.specs.declared.causes.Violation.{Violation}
@@ -15,8 +15,8 @@ use Rattle.cloak_model.specs.Csr.{satp_of}
 use Rattle.cloak_model.specs.Hart.{Hart}
 use Rattle.cloak_model.specs.Halves.{is_inward, inward_half}
 use Rattle.cloak_model.specs.Record.{IsOfStep}
-use Rattle.cloak_model.specs.Cloaking.{CloakedMemory, AfterSettling, settle, seen_in}
-use Rattle.cloak_model.specs.Ahead.{is_owed, settle_found, settle_while, settle_touched, made_after, settled_step}
+use Rattle.cloak_model.specs.Cloaking.{CloakedMemory, seen_in}
+use Rattle.cloak_model.specs.Ahead.{settle_touched, made_after, settled_step}
 use Rattle.cloak_model.specs.World.{MidStep, Flat, items_of}
 use Rattle.cloak_model.specs.Contexts.{Admitted, context_at, domain_of, slot_of, admit}
 use Rattle.cloak_model.specs.DomainState.{Domain}
@@ -26,30 +26,20 @@ use Rattle.cloak_model.proofs.ResumeParts.{with_roots, with_domain_control, by_r
 use Rattle.cloak_model.specs.Parts.{Joint, DomainPart, domain_pages}
 use Rattle.cloak_model.specs.Joint.{Turn, quiet, hart_in, with_hart, cloak_outside, memory_of, outside_ended, after_outside, outside_step}
 use Rattle.cloak_model.specs.DomainAlone.{DomainAlone, Other, domain_taken, slot_on, stage_for, is_granted, with_control}
+use Rattle.kernel_isolation.proofs.Ahead.{touched_keeps}
 use Rattle.domain_isolation.proofs.Ignoring.{taken_half}
 use Rattle.domain_isolation.proofs.Steady.{settle_plain, ciphers_told}
 use Rattle.domain_isolation.proofs.Alone.{alone_at, ended, RestsAt, resume_rests}
-use Rattle.domain_isolation.proofs.InOrder.{same_some, decided, inside_at, InOrder, order_kept, order_enters, order_resumes, resume_resumes, get_set_same, get_set_other, slot_outside}
+use Rattle.domain_isolation.proofs.InOrder.{decided, inside_at, InOrder, order_kept, order_enters, order_resumes, resume_resumes, get_set_same, slot_outside}
 use Rattle.domain_isolation.proofs.KernelHarts.{inside_after, kernel_step_inside}
 use Rattle.domain_isolation.proofs.JointSteps.{HoldsPart, StepAlone, is_cut, other_alone}
 use Rattle.std.proofs.lemmas.Bool.{false≢true}
-
-found_plain : (f : Option ℕ) (next : CloakedMemory → AfterSettling) (m : CloakedMemory) →
-    ((m' : CloakedMemory) → (next m').memory.plain ≡ m'.plain) →
-    (settle_found f next m).memory.plain ≡ m.plain
-found_plain None next m rest = refl
-found_plain (Some f) next m rest = rest (settle f m).memory ∙ settle_plain f m
-
-while_plain : (frames : List (List ℕ) → List ℕ) (n : ℕ) (m : CloakedMemory) →
-    (settle_while frames n m).memory.plain ≡ m.plain
-unfolding settle_while
-while_plain frames zero m = refl
-while_plain frames (suc n) m =
-    found_plain (find (is_owed m) (frames m.ram)) (settle_while frames n) m (while_plain frames n)
+use Rattle.std.proofs.lemmas.Option.{same_Some}
+use Rattle.cloak_base.proofs.Lists.{slice_get-set_other}
 
 touched_plain : (h : Hart) (disk : List ℕ) (m : CloakedMemory) → (settle_touched h disk m).memory.plain ≡ m.plain
-unfolding settle_touched
-touched_plain h disk m = while_plain _ _ m
+touched_plain h disk m =
+    touched_keeps (λ x. x.plain ≡ m.plain) (λ f x same. settle_plain f x ∙ same) h disk m refl
 
 settled_step_plain : (h : Hart) (disk : List ℕ) (c : MidStep) (m : CloakedMemory) →
     (memory_of (settled_step h disk c).world m).plain ≡ c.memory.plain
@@ -156,7 +146,7 @@ granted_alone d count schedule k n p j h disk m items ctx reply root old o goes 
       | inl same ↦
           let own : OutsideStep e count n p j h disk m items = subst
           (λ (x : ℕ). OutsideStep x count n p j h disk m items) same o in
-          let it : p.domain ≡ old = same_some p.domain old (sym own.has.domain ∙ is) in
+          let it : p.domain ≡ old = same_Some p.domain old (sym own.has.domain ∙ is) in
           subst (λ (x : ℕ). StepAlone x count schedule k n p None (turn old)) (sym same)
           (subst (λ (x : Domain). is_granted (resume_slot (slot_of ctx) n reply x.control).answer ≡ true →
           StepAlone e count schedule k n p None (turn x)) it
@@ -166,7 +156,7 @@ granted_alone d count schedule k n p j h disk m items ctx reply root old o goes 
           (resumed_half e d ctx reply items o.half ∙ ap (λ (b : Bool). cond b (item.Resume e ctx reply ∷ []) [])
           (ne_eqb e d (λ same. other (sym same))))
           (record {
-            domain = get_set_other j.domains e d
+            domain = slice_get-set_other j.domains e d
                 (record old { control = (resume_slot (slot_of ctx) n reply old.control).control }) other ∙ o.has.domain;
             plain = ap (domain_pages d) o.plain ∙ o.has.plain;
           })

@@ -2,7 +2,6 @@
 -- program was told; and what an answer adds to that.
 use Rattle.std.proofs.Common.{sym, ◌≡◌, ◌∙◌, true, false, cond, zero, suc, ◌+◌, ℕ, Bool, List, [], ◌∷◌, ◌++◌, Option, Some, None, Ok, Err, refl, ap, append-nil, if◌then◌else◌}
 use Rattle.std.specs.Prelude.{is_some, ◌||◌}
-use Rattle.std.specs.Str.{bytes_eq}
 use Rattle.std.proofs.lemmas.List.Elements.{filter-append}
 use Rattle.std.proofs.lemmas.Bool.{false≢true}
 use Rattle.cloak_base.specs.declared.names.Kind.{Kind}
@@ -19,13 +18,13 @@ use Rattle.cloak_model.specs.declared.item.Item.{Item}
 use Rattle.cloak_model.specs.Events.{Event}
 use Rattle.cloak_model.specs.Ledger.{vector_of}
 use Rattle.cloak_model.specs.Halves.{is_inward, inward_half}
-use Rattle.cloak_model.specs.Cloaking.{CloakedMemory, AfterSettling, AfterOffer, settle, settle_if, settle_owed, settle_frame_if, owing_frame, owes, owed_in, compared, unless_missed, offer}
+use Rattle.cloak_model.specs.Cloaking.{CloakedMemory, settle, settle_owed, offer}
 use Rattle.cloak_model.specs.World.{World, Flat, Cloaked, Alone, plain_of, regime_of, items_of, violation_of, is_missed, noted, stored_at, settled, written, cipher_items}
 use Rattle.cloak_model.specs.Asking.{Told, Asking}
 use Rattle.cloak_model.specs.Walk.{Walk, frame_at}
 use Rattle.cloak_model.specs.Ask.{opened}
 use Rattle.cloak_model.specs.AskPages.{answer_item, is_store, inside_access, replies, if_drawn, ask_led_inside, offered_by, ask_offer, reached, reach_by_table, get_at, got, get_by_table, put_at, stored_inside, put_by_table, settled_if_marked, clear_from}
-use Rattle.cloak_model.proofs.Clashes.{either}
+use Rattle.cloak_model.proofs.Offering.{SettlesKept, settle_keeps, OfferKeeps, offer_keeps}
 use Rattle.script_fold.proofs.Questions.{Opens, opens_by, keeps_led_inside, keeps_if_marked}
 
 abbrev pub is_cloaked : World → Bool
@@ -40,42 +39,22 @@ unfolding settle_owed
 settle_owed_plain f q None m = refl
 settle_owed_plain f q (Some draw) m = refl
 
-settle_if_plain : (f : ℕ) (owed : Option PageId) (m : CloakedMemory) → (settle_if f owed m).memory.plain ≡ m.plain
-unfolding settle_if
-settle_if_plain f None m = refl
-settle_if_plain f (Some q) m = settle_owed_plain f q (vector_of m.ledger q) m
+settles_plain : (plain : PageId → List ℕ) → SettlesKept (λ m. m.plain ≡ plain)
+settles_plain plain f q m is same = settle_owed_plain f q (vector_of m.ledger q) m ∙ same
 
 pub settle_plain : (f : ℕ) (m : CloakedMemory) → (settle f m).memory.plain ≡ m.plain
-unfolding settle
-settle_plain f m = settle_if_plain f (owed_in m f) m
+settle_plain f m = settle_keeps (λ x. x.plain ≡ m.plain) (settles_plain m.plain) f m refl
 
-settle_frame_if_plain : (f : Option ℕ) (m : CloakedMemory) → (settle_frame_if f m).memory.plain ≡ m.plain
-settle_frame_if_plain None m = refl
-settle_frame_if_plain (Some f) m = settle_plain f m
-
-compared_plain : (q : PageId) (g : ℕ) (write : Bool) (recorded : Option (List ℕ)) (m : CloakedMemory) →
-    (compared q g write recorded m).memory.plain ≡ m.plain
-unfolding compared
-compared_plain q g write None m = refl
-compared_plain q g write (Some c) m =
-    either (λ (o : AfterOffer). o.memory.plain ≡ m.plain) (bytes_eq _ c) _ _
-    (either (λ (x : CloakedMemory). x.plain ≡ m.plain) write _ _ refl refl) refl
-
-unless_missed_plain : (s : AfterSettling) (next : CloakedMemory → AfterOffer) →
-    ((m : CloakedMemory) → (next m).memory.plain ≡ m.plain) →
-    (unless_missed s next).memory.plain ≡ s.memory.plain
-unfolding unless_missed
-unless_missed_plain s next keeps =
-    either (λ (o : AfterOffer). o.memory.plain ≡ s.memory.plain) s.missed _ _ refl (keeps s.memory)
+offers_plain : (plain : PageId → List ℕ) (q : PageId) → OfferKeeps q (λ m. m.plain ≡ plain) (λ m. m.plain ≡ plain)
+offers_plain plain q = record {
+  settles = settles_plain plain;
+  compares = λ a b m same. same;
+  takes = λ g m clean same. same;
+  stays = λ m same. same;
+}
 
 offer_plain : (q : PageId) (g : ℕ) (write : Bool) (m : CloakedMemory) → (offer q g write m).memory.plain ≡ m.plain
-unfolding offer
-offer_plain q g write m =
-    either (λ (o : AfterOffer). o.memory.plain ≡ m.plain) (owes q (owed_in m g)) _ _ refl
-    (unless_missed_plain (settle g m) _ (λ m'.
-    unless_missed_plain (settle_frame_if (owing_frame m' q) m') _
-    (λ m''. compared_plain q g write (m''.ledger.recorded q) m'')
-    ∙ settle_frame_if_plain (owing_frame m' q) m') ∙ settle_plain g m)
+offer_plain q g write m = offer_keeps (offers_plain m.plain q) g write m refl
 
 -- What is shown to the kernel is told to no program.
 

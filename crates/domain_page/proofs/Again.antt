@@ -11,6 +11,7 @@ use Rattle.domain_page.specs.Parts.{ArePartsOf}
 use Rattle.domain_page.specs.Reading.{program_of, IsRead, IsNoPage}
 use Rattle.domain_page.specs.Writing.{IsOnHart}
 use Rattle.domain_page.specs.declared.reading.Parts.{Parts}
+use Rattle.std.proofs.lemmas.Option.{same_Some}
 
 same_program : (number : ℕ) (d : Control) (contexts : List (Option Context)) (resources : Resources) →
     d.number ≡ number → d.ended ≡ false → contexts ≡ d.contexts → resources ≡ d.resources →
@@ -51,9 +52,6 @@ module _ (bytes : List ℕ) (contexts : List (Option Context)) (resources : Reso
       let f = found number d is in
       fails d (sym f.contexts_are) (sym f.resources_are) is.spelled
 
-same_from_some : {A : Type 0} (x y : A) → Some x ≡ Some y → x ≡ y
-same_from_some x y e = cc
-
 pub found_by : (bytes : List ℕ) (contexts : List (Option Context)) (resources : Resources) (parts : Parts) →
     ((number : ℕ) (d : Control) → IsPageOf number bytes d → ArePartsOf d parts) →
     ((r : Resources) → r.held ≡ parts.held → r.spaces ≡ parts.spaces → IsSound r →
@@ -63,7 +61,7 @@ found_by bytes contexts resources parts first made same number d is =
     let p = first number d is in
     record {
       contexts_are = same ∙ p.slots;
-      resources_are = same_from_some resources d.resources
+      resources_are = same_Some resources d.resources
           (made d.resources (sym p.held) (sym p.spaces) is.program.limits.resources is.program.limits.regions);
     }
 

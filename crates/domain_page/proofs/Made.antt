@@ -16,7 +16,7 @@ use Rattle.cloak_model.specs.Resources.{Resources, Mapped, resource_at, regions_
 use Rattle.frozen_state.specs.Limits.{IsSpace}
 use Rattle.resource_map.specs.Kept.{IsInUse, IsOwner, IsHeld, IsMapped, IsSound, IsSoundRegion}
 use Rattle.resource_map.specs.Owning.{MayOwn}
-use Rattle.resource_map.proofs.Lists.{inside_from_some}
+use Rattle.resource_map.proofs.Lists.{inside_from_some, get_or-replicate_none}
 use Rattle.domain_page.specs.Making.{emptied, CanPut, CanHold, CanMap, CanMapAll}
 
 -- A list that is filled from the front.
@@ -89,11 +89,6 @@ same_place number xs m n few inside there first second other =
     ap (one_if number) (get_or-set_other xs n m None None other) ∙ ap (λ (t : Bool). cond t 1 0) first in
     omega (arith, a, b, c, d)
 
-pub nothing_before : {A : Type 0} (n m : ℕ) → get_or {A = Option A} (replicate n None) m None ≡ None
-nothing_before zero m = refl
-nothing_before (suc n) zero = refl
-nothing_before (suc n) (suc m) = nothing_before n m
-
 no_pages : (n : ℕ) → sum_by pages_of (replicate n None) ≡ 0
 no_pages zero = refl
 no_pages (suc n) = no_pages n
@@ -111,11 +106,8 @@ filled_at xs now n m f =
           ∙ (sym (get_or-drop n now (m - n) None)
           ∙ (ap (λ (l : List (Option Resource)). get_or l (m - n) None) f.back
           ∙ (get_or-drop n (replicate 16 None) (m - n) None
-          ∙ nothing_before 16 (n + (m - n))))))
+          ∙ get_or-replicate_none 16 (n + (m - n))))))
     ]
-
-holds : (number pages : ℕ) → holds_file number (Some (record { owner = File number; pages = pages })) ≡ true
-holds number pages = eq-eqb number number refl
 
 module _ (xs : List (Option Resource)) (n : ℕ) (one : Resource) (r r0 : Resources) (can : CanHold r0 xs)
     (filled : Filled xs (replicate 16 None) n r.held) (spaces : r.spaces ≡ r0.spaces) (there : get_or xs n None ≡ Some one)
@@ -125,7 +117,7 @@ module _ (xs : List (Option Resource)) (n : ℕ) (one : Resource) (r r0 : Resour
     here : holds_file number (get_or xs n None) ≡ true
     here =
         ap (holds_file number) there
-        ∙ (ap (λ (o : Owner). holds_file number (Some (record { owner = o; pages = one.pages }))) is ∙ holds number one.pages)
+        ∙ (ap (λ (o : Owner). holds_file number (Some (record { owner = o; pages = one.pages }))) is ∙ eq-eqb number number refl)
 
     never : (m : ℕ) → position (holds_file number) r.held ≡ Some m → ⊥
     never m found =
@@ -287,10 +279,10 @@ put_more xs now n one inside there few at f =
 pub put_none : (xs now : List (Option Resource)) (n : ℕ) → n < length now → n < length xs → n < 16 →
     get_or xs n None ≡ None → Filled xs (replicate 16 None) n now → Filled xs (replicate 16 None) (n + 1) now
 put_none xs now n inside there few at f =
-    filled_same xs (replicate 16 None) n now None inside there few (nothing_before 16 n ∙ sym at) f
+    filled_same xs (replicate 16 None) n now None inside there few (get_or-replicate_none 16 n ∙ sym at) f
 
 pub put_free : (xs now : List (Option Resource)) (n : ℕ) → Filled xs (replicate 16 None) n now → get_or now n None ≡ None
-put_free xs now n f = filled_next xs (replicate 16 None) n now None f ∙ nothing_before 16 n
+put_free xs now n f = filled_next xs (replicate 16 None) n now None f ∙ get_or-replicate_none 16 n
 
 -- a space that is opened, and one that is not
 emptied_some : (o : Option (List Region)) → is_some o ≡ true → emptied o ≡ Some []
@@ -314,7 +306,7 @@ pub open_none : (spaces now : List (Option (List Region))) (n : ℕ) → length 
     Filled (map emptied spaces) (replicate 8 None) (n + 1) now
 open_none spaces now n count long low free f =
     filled_same (map emptied spaces) (replicate 8 None) n now None (omega (arith, count, low)) (omega (arith, long, low, length-map spaces emptied)) low
-    (nothing_before 8 n ∙ sym (emptied_at spaces n ∙ emptied_none (get_or spaces n None) free)) f
+    (get_or-replicate_none 8 n ∙ sym (emptied_at spaces n ∙ emptied_none (get_or spaces n None) free)) f
 
 pub map_step : (r0 r : Resources) (space : ℕ) (xs : List Region) (i : ℕ) (d : Region) (m : Mapped (Unit {0})) →
     CanMap r0 space xs → i < length xs → IsInUse r0 space → r ≡ with_regions space (take i xs) r0 →

@@ -1,5 +1,5 @@
 -- What was written is read again, one piece after another.
-use Rattle.std.proofs.Common.{◌≡◌, ◌∙◌, ℕ, zero, suc, ◌+◌, ◌*◌, ◌/◌, ◌%◌, ◌^◌, ◌<◌, ◌≤◌, Bool, cond, List, [], ◌∷◌, ◌++◌, length, take, drop, map, get_or, set, Option, Some, None, refl, ap, sym, subst, append_assoc, arith}
+use Rattle.std.proofs.Common.{◌≡◌, ◌∙◌, ℕ, zero, suc, ◌+◌, ◌*◌, ◌/◌, ◌%◌, ◌<◌, ◌≤◌, Bool, cond, List, [], ◌∷◌, ◌++◌, length, take, drop, map, get_or, set, Option, Some, None, refl, ap, sym, append_assoc, arith}
 use Rattle.std.specs.Prelude.{option_map}
 use Rattle.std.specs.List.{flat_map}
 use Rattle.std.proofs.lemmas.Bool.{ne_eqb}
@@ -15,11 +15,11 @@ use Rattle.cloak_model.specs.declared.resource.Resource.{Resource}
 use Rattle.cloak_model.specs.declared.resource.Region.{Region}
 use Rattle.cloak_model.specs.Bits.{word}
 use Rattle.cloak_model.specs.Contexts.{Context}
-use Rattle.cloak_model.specs.DomainState.{hart_byte, phase_bytes, slot_bytes, region_bytes, space_bytes, owner_bytes, resource_bytes}
+use Rattle.cloak_model.specs.DomainState.{hart_byte, phase_bytes, slot_bytes, region_bytes, owner_bytes, resource_bytes}
 use Rattle.cloak_model.specs.Record.{IsWord}
 use Rattle.frozen_state.specs.DomainPage.{mark_bytes, slot_mark_bytes}
 use Rattle.frozen_state.specs.Words.{AreWords}
-use Rattle.domain_page.specs.Reading.{ReadsSpelled, all, phase_in, hart_in, owner_in, HasPhaseWords, AreRegs, regs_bytes, HasMarkWords, IsReadableSlot, unmarked, HasRegionWords, AreRegions, IsReadableSpace, HasOwnerNumber, IsReadableNumber}
+use Rattle.domain_page.specs.Reading.{ReadsSpelled, all, phase_in, hart_in, HasPhaseWords, AreRegs, regs_bytes, HasMarkWords, IsReadableSlot, unmarked, HasRegionWords, IsReadableNumber}
 use Rattle.domain_page.specs.Writing.{HasHart}
 
 abbrev pub ReadsByte : List ℕ → List ℕ → ℕ → Type 0
@@ -143,23 +143,6 @@ same_mark : (p : PageWord) (resource page at : ℕ) → resource ≡ p.resource 
     Some (record { resource = resource; page = page; at = at }) ≡ Some p
 same_mark p resource page at a b c = rw (a, b, c) refl
 
-pub mark_none : (l0 l1 : List ℕ) (tag : ℕ) → ReadsByte l0 l1 tag → tag ≡ 0 → ReadsSpelled mark_bytes HasMarkWords all l0 l1 None
-mark_none l0 l1 tag first nil None rest right e = (refl, (first 0 rest e).1)
-mark_none l0 l1 tag first nil (Some p) rest right e =
-    let r = first 1 ((word p.resource ++ (word p.page ++ word p.at)) ++ rest) e in absurd (omega (arith, r.0, nil))
-
-pub mark_some : (l0 l1 l2 l3 l4 : List ℕ) (tag resource page at : ℕ) → ReadsByte l0 l1 tag → ReadsWord l1 l2 resource →
-    ReadsWord l2 l3 page → ReadsWord l3 l4 at → (tag ≡ 0 → ⊥) →
-    ReadsSpelled mark_bytes HasMarkWords all l0 l4 (Some (record { resource = resource; page = page; at = at }))
-mark_some l0 l1 l2 l3 l4 tag resource page at a b c d used None rest right is = absurd (used (a 0 rest is).0)
-mark_some l0 l1 l2 l3 l4 tag resource page at a b c d used (Some p) rest right is =
-    let r1 = a 1 ((word p.resource ++ (word p.page ++ word p.at)) ++ rest) is in
-    let r2 = b p.resource ((word p.page ++ word p.at) ++ rest) right.resource
-    (r1.1 ∙ append_assoc (word p.resource) (word p.page ++ word p.at) rest) in
-    let r3 = c p.page (word p.at ++ rest) right.page (r2.1 ∙ append_assoc (word p.page) (word p.at) rest) in
-    let r4 = d p.at rest right.at r3.1 in
-    (same_mark p resource page at r2.0 r3.0 r4.0, r4.1)
-
 -- a slot with its reservation
 pub marked_none : (l0 l1 : List ℕ) (mark : Option PageWord) → ReadsSpelled mark_bytes HasMarkWords all l0 l1 mark →
     (x : Option Context) (rest : List ℕ) → IsReadableSlot x → None ≡ unmarked x → l0 ≡ slot_mark_bytes x ++ rest →
@@ -169,18 +152,6 @@ marked_none l0 l1 mark reads (Some c) rest right same e = cc
 
 with_mark : Option PageWord → Option Context → Option Context
 with_mark mark slot = option_map (λ (c : Context). record c { mark = mark }) slot
-
-same_but_mark : (before c : Context) (mark : Option PageWord) → Some before ≡ unmarked (Some c) → mark ≡ c.mark →
-    Some (record before { mark = mark }) ≡ Some c
-unfolding with_mark
-same_but_mark before c mark same is = ap (with_mark mark) same ∙ ap (λ (m : Option PageWord). with_mark m (Some c)) is
-
-pub marked_some : (l0 l1 : List ℕ) (mark : Option PageWord) (before : Context) →
-    ReadsSpelled mark_bytes HasMarkWords all l0 l1 mark → (x : Option Context) (rest : List ℕ) → IsReadableSlot x →
-    Some before ≡ unmarked x → l0 ≡ slot_mark_bytes x ++ rest → (Some (record before { mark = mark }) ≡ x) × (l1 ≡ rest)
-marked_some l0 l1 mark before reads None rest right same e = cc
-marked_some l0 l1 mark before reads (Some c) rest right same e =
-    let r = reads c.mark rest right.mark e in (same_but_mark before c mark same r.0, r.1)
 
 -- Regions.
 
@@ -203,23 +174,6 @@ region_read l0 l1 l2 l3 l4 start pages resource first a b c d g rest right is =
 
 -- Spaces.
 
-pub space_none : (l0 l1 : List ℕ) (tag : ℕ) → ReadsByte l0 l1 tag → tag ≡ 0 →
-    ReadsSpelled space_bytes IsReadableSpace all l0 l1 None
-space_none l0 l1 tag first nil None rest right e = (refl, (first 0 rest e).1)
-space_none l0 l1 tag first nil (Some list) rest right e =
-    let r = first 1 ((word (length list) ++ flat_map region_bytes list) ++ rest) e in absurd (omega (arith, r.0, nil))
-
-pub space_some : (l0 l1 l2 l3 : List ℕ) (tag count : ℕ) (list : List Region) → ReadsByte l0 l1 tag → ReadsWord l1 l2 count →
-    ReadsSpelled (flat_map region_bytes) (AreRegions count) all l2 l3 list → (tag ≡ 0 → ⊥) →
-    ReadsSpelled space_bytes IsReadableSpace all l0 l3 (Some list)
-space_some l0 l1 l2 l3 tag count list a b c used None rest right is = absurd (used (a 0 rest is).0)
-space_some l0 l1 l2 l3 tag count list a b c used (Some xs) rest right is =
-    let r1 = a 1 ((word (length xs) ++ flat_map region_bytes xs) ++ rest) is in
-    let r2 = b (length xs) (flat_map region_bytes xs ++ rest) (omega (arith, right.few))
-    (r1.1 ∙ append_assoc (word (length xs)) (flat_map region_bytes xs) rest) in
-    let r3 = c xs rest (subst (λ (n : ℕ). AreRegions n xs) (sym r2.0) right) r2.1 in
-    (ap Some r3.0, r3.1)
-
 -- Resources.
 
 abbrev kind_of : Owner → ℕ
@@ -238,23 +192,6 @@ kind_used : (o : Owner) → kind_of o ≡ 0 → ⊥
 kind_used (Space number) e = cc
 kind_used (File number) e = cc
 
-owner_fits : (o : Owner) → HasOwnerNumber o → IsWord (number_of o)
-owner_fits (Space number) fits = fits
-owner_fits (File number) fits = fits
-
-owner_read : (o : Owner) → owner_in (kind_of o) (number_of o) ≡ o
-owner_read (Space number) = refl
-owner_read (File number) = refl
-
-one_resource : Owner → ℕ → Option Resource
-one_resource owner pages = Some (record { owner = owner; pages = pages })
-
-same_resource : (held : Resource) (owner : Owner) (pages : ℕ) → owner ≡ held.owner → pages ≡ held.pages →
-    Some (record { owner = owner; pages = pages }) ≡ Some held
-unfolding one_resource
-same_resource held owner pages a b =
-    ap (λ (o : Owner). one_resource o pages) a ∙ ap (one_resource held.owner) b
-
 spelled : (held : Resource) (rest : List ℕ) →
     resource_bytes (Some held) ++ rest ≡ kind_of held.owner ∷ (word (number_of held.owner) ++ (word held.pages ++ rest))
 spelled held rest =
@@ -268,19 +205,6 @@ number_none l0 l1 tag first nil (Some held) rest right e =
     let r = first (kind_of held.owner) (word (number_of held.owner) ++ (word held.pages ++ rest)) (e ∙ spelled held rest) in
     absurd (kind_used held.owner (sym r.0 ∙ nil))
 
-pub number_some : (l0 l1 l2 l3 : List ℕ) (tag number pages : ℕ) → ReadsByte l0 l1 tag → ReadsWord l1 l2 number →
-    ReadsWord l2 l3 pages → (tag ≡ 0 → ⊥) →
-    ReadsSpelled resource_bytes IsReadableNumber all l0 l3 (Some (record { owner = owner_in tag number; pages = pages }))
-number_some l0 l1 l2 l3 tag number pages a b c used None rest right is = absurd (used (a 0 rest is).0)
-number_some l0 l1 l2 l3 tag number pages a b c used (Some held) rest right is =
-    let r1 = a (kind_of held.owner) (word (number_of held.owner) ++ (word held.pages ++ rest)) (is ∙ spelled held rest) in
-    let r2 = b (number_of held.owner) (word held.pages ++ rest) (owner_fits held.owner right.owner) r1.1 in
-    let r3 = c held.pages rest right.pages r2.1 in (
-      same_resource held (owner_in tag number) pages
-          (ap (λ (k : ℕ). owner_in k number) r1.0 ∙ (ap (owner_in (kind_of held.owner)) r2.0 ∙ owner_read held.owner)) r3.0,
-      r3.1,
-    )
-
 -- Registers.
 
 -- a write to another register than 0
@@ -289,23 +213,10 @@ register_set regs i v some =
     let other : i ≡ 0 → ⊥ = λ e. absurd (omega arith) in
     ap (λ (t : Bool). cond t regs (set regs i v)) (ne_eqb i 0 other)
 
--- register 0 is there from the beginning
-pub regs_none : (xs rest left zeros : List ℕ) → AreRegs xs → take 1 zeros ≡ 0 ∷ [] → left ≡ regs_bytes xs ++ rest →
-    HasRead word all xs rest 1 left zeros
-regs_none [] rest left zeros right first e = absurd (omega (arith, right.count))
-regs_none (x ∷ xs) rest left zeros right first e = record {
-  done = first ∙ ap (λ (n : ℕ). n ∷ []) (sym right.zero_register);
-  others = e;
-}
-
 pub words_each : (xs : List ℕ) (i : ℕ) → AreWords xs → i < length xs → IsWord (get_or xs i 0)
 words_each [] i words inside = absurd (omega arith)
 words_each (x ∷ xs) zero words inside = words.0
 words_each (x ∷ xs) (suc i) words inside = words_each xs i words.1 (omega arith)
-
-pub words_from_each : (xs : List ℕ) → ((i : ℕ) → get_or xs i 0 < 2 ^ 32) → AreWords xs
-words_from_each [] each = tt
-words_from_each (x ∷ xs) each = (each 0, words_from_each xs (λ i. each (suc i)))
 
 -- One more of a list that grows.
 pub push_read : {A : Type 0} (spell : A → List ℕ) (xs : List A) (rest : List ℕ) (n : ℕ) (left left' : List ℕ)

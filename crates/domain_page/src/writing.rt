@@ -37,7 +37,7 @@ fn put_words(into: &mut [u8; 4096], at: usize, words: &[u32]) -> usize
 }
 
 /// A hart's number, or 255 for none.
-fn hart_byte(on: Option<HartId>) -> u8
+pub fn hart_byte(on: Option<HartId>) -> u8
     requires { HasHart on }
     ensures { result ≡ spec.hart_byte on }
 {
@@ -48,7 +48,7 @@ fn hart_byte(on: Option<HartId>) -> u8
 }
 
 /// A phase's number, and how much is done of what.
-fn phase_numbers(phase: &Phase) -> (u8, u32, u32)
+pub fn phase_numbers(phase: &Phase) -> (u8, u32, u32)
     ensures { result.0 ∷ (word result.1 ++ word result.2) ≡ spec.phase_bytes phase.now }
 {
     match *phase {

@@ -5,10 +5,9 @@ use Rattle.cloak_model.specs.declared.image.Bundle.{Bundle}
 use Rattle.cloak_model.specs.declared.image.KernelImage.{KernelImage}
 use Rattle.cloak_model.specs.KernelAlone.{opened_kernel}
 use Rattle.alone_views.specs.KernelStanding.{StandsForKernel}
-use Rattle.io_traits.specs.Told.{Grows, GrowsByFront, OtherFiles, Rose, SameFiles, Tells}
+use Rattle.io_traits.specs.Told.{Grows, GrowsByFront, Rose, SameFiles}
 use Rattle.command_parts.specs.Bundles.{IsInFile, ReadsBundle}
-use Rattle.command_parts.specs.Files.{TellsFront}
-use Rattle.command_parts.specs.Outside.{FilesOutside, Outside, Output}
+use Rattle.command_parts.specs.Outside.{Outside, Output}
 use Rattle.command_parts.specs.Refusing.{Refuses}
 use Rattle.command_parts.specs.declared.refusal.Refusal.{Refusal}
 use Rattle.command_parts.specs.declared.refusal.Refusal.TheVariants as refusal
@@ -24,6 +23,7 @@ use Rattle.draw_command.specs.declared.command.Made.{Made}
 use Rattle.draw_command.specs.declared.command.Made.TheVariants as made
 use Rattle.draw_command.specs.declared.command.Once.{Once}
 use Rattle.draw_command.specs.declared.run.Run.{Run}
+use Rattle.command_parts.specs.Files.{WritesFile, WritesFront}
 
 -- ---- reading
 
@@ -52,20 +52,6 @@ MakesPicture k told before now made.NoMemory = now ≡ before
 
 -- ---- writing
 
--- The file of this name has these bytes. Other files keep theirs, and no call that writes failed.
-pub record WritesPicture {S : Type 0} (name bytes : List ℕ) (before after : FilesOutside S) : Type 0 where
-  pub file : Tells (after.held name) bytes
-  pub others : OtherFiles name before.held after.held
-  pub reading : after.reading ≡ before.reading
-  pub writing : after.writing ≡ before.writing
-
--- A call that writes failed: the file has the bytes that it had, or a front of these.
-pub record WritesPart {S : Type 0} (name bytes : List ℕ) (before after : FilesOutside S) : Type 0 where
-  pub file : (after.held name ≡ before.held name) ⊎ TellsFront (after.held name) bytes
-  pub others : OtherFiles name before.held after.held
-  pub reading : after.reading ≡ before.reading
-  pub writing : Rose before.writing after.writing
-
 -- The line for how reading ended was shown with its status; or the output failed, and has a front of it.
 abbrev pub ShowsEnding : {O : Type 0} → Ending → Output O → Output O → Status → Type 0
 ShowsEnding ended before after answer =
@@ -75,8 +61,8 @@ ShowsEnding ended before after answer =
 -- The picture was written, and then it was shown how reading ended; or it was not written whole, and nothing was shown.
 abbrev pub WritesAndShows : {S O : Type 0} → List ℕ → Ending → List ℕ → Outside S O → Outside S O → Status → Type 0
 WritesAndShows bytes ended name before after answer =
-    (WritesPicture name bytes before.files after.files × ShowsEnding ended before.output after.output answer)
-    ⊎ ((answer ≡ status.WriteFault) × WritesPart name bytes before.files after.files × (after.output ≡ before.output))
+    (WritesFile name bytes before.files after.files × ShowsEnding ended before.output after.output answer)
+    ⊎ ((answer ≡ status.WriteFault) × WritesFront name bytes before.files after.files × (after.output ≡ before.output))
 
 -- what was made is written, or it is shown why there is nothing
 abbrev pub Concludes : {S O : Type 0} → Made → List ℕ → Outside S O → Outside S O → Status → Type 0

@@ -1,3 +1,4 @@
 pub mod Hearing
 pub mod Replaying
+pub mod Reading
 pub mod Drawing

@@ -7,9 +7,22 @@ ghost use Rattle.io_traits.specs.Told.{SameFiles};
 ghost use Rattle.draw_command.specs.Replaying.{ReadsRun};
 
 use crate::run::Run;
+use alone_views::Unfit;
+use cloak_model::Item;
 use io_traits::Shelf;
-use read_back::Ending;
-use record_reader::{KeptItems, NextFault, Reader};
+use read_back::{Ending, TakeItems, for_each_item};
+
+impl TakeItems for Run {
+    ghost use Rattle.draw_command.specs.Reading.{TookInRun};
+
+    type Stop = Unfit;
+
+    ghost took = { TookInRun };
+
+    fn take_item(&mut self, item: &Item) -> Result<(), Unfit> {
+        self.take(item)
+    }
+}
 
 /// Gives the items of a record to a run, up to the first that does not fit or the first fault. Returns how reading ended.
 pub fn read_run<S: Shelf>(run: &mut Run, name: &str, shelf: &mut S) -> Ending
@@ -20,18 +33,8 @@ pub fn read_run<S: Shelf>(run: &mut Run, name: &str, shelf: &mut S) -> Ending
     ensures writing { S.writing_faults shelf.new ≡ S.writing_faults shelf.old }
     ensures settled { S.is_settled shelf.new }
 {
-    let mut reader = Reader::open(name);
-    let mut kept = KeptItems::new();
-    loop {
-        match reader.next(shelf, &mut kept) {
-            Ok(Some(tag)) => {
-                if let Err(unfit) = run.take(kept.item(tag)) {
-                    return Ending::Unfit(unfit.step);
-                }
-            }
-            Ok(None) => return Ending::Whole,
-            Err(NextFault::Read) => return Ending::Unread,
-            Err(NextFault::Record(fault)) => return Ending::Fault(fault),
-        }
+    match for_each_item(name, shelf, run) {
+        Ok(ending) => ending,
+        Err(unfit) => Ending::Unfit(unfit.step),
     }
 }

@@ -4,7 +4,7 @@ use Rattle.std.proofs.Common.{option_map}
 use Rattle.std.specs.List.{All}
 use Rattle.std.proofs.Math.ListN.{set}
 use Rattle.std.proofs.Math.Seq.{map-set_same, get_or-append_seam}
-use Rattle.std.proofs.lemmas.List.{length-append, length-map, length-replicate, length-set, get_or-set_same, get_or-set_other, get_or_append_left}
+use Rattle.std.proofs.lemmas.List.{length-append, length-replicate, length-set, get_or-set_same, get_or-set_other, get_or_append_left}
 use Rattle.std.proofs.lemmas.List.Elements.{All-get_or, All-set}
 use Rattle.std.proofs.lemmas.Option.{slice_get-map, slice_get_read, slice_get_within, slice_get-get_or, get_or_from_slice_get}
 use Rattle.cloak_base.specs.Pages.{zero_page}
@@ -189,12 +189,6 @@ shown_at kept slots all room f s page h same is there =
     ap (λ l. slice_get l f) (sym same) ∙ slice_get-map (λ t. get_or kept t zero_page) slots f
     ∙ ap (λ o. option_map (λ t. get_or kept t zero_page) o) is
     ∙ ap (λ x. Some x) found
-
--- a frame has a slot
-pub has_slot : (kept : List (List ℕ)) (slots : List ℕ) (all : List (List ℕ)) (f : ℕ) → in_slots kept slots ≡ all →
-    f < length all → f < length slots
-has_slot kept slots all f same h =
-    omega (arith, ap length same, length-map slots (λ s. get_or kept s zero_page))
 
 none_stored : (n : ℕ) → AreApart (replicate n 0)
 unfolding AreApart

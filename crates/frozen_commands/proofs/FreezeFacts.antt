@@ -21,7 +21,6 @@ use Rattle.command_parts.specs.declared.refusal.Refusal.{Refusal}
 use Rattle.command_parts.specs.declared.refusal.Refusal.TheVariants as refusal
 use Rattle.command_parts.specs.declared.status.Status.{Status}
 use Rattle.command_parts.specs.declared.status.Status.TheVariants as status
-use Rattle.command_parts.specs.Files.{TellsFront}
 use Rattle.command_parts.specs.Freezing.{FreezeSources}
 use Rattle.command_parts.specs.NoRun.{IsRefused, NoRun}
 use Rattle.command_parts.specs.Outside.{FilesOutside, NothingRose, OnlyRead, Output, Outside}
@@ -44,6 +43,7 @@ use Rattle.frozen_commands.specs.Saving.{Leaves, LeavesState, SavesState, ShowsL
 use Rattle.frozen_commands.specs.Writing.{BeginsNoRecord, HasWritten}
 use Rattle.frozen_commands.proofs.StateFacts.{Reaches, all_made, is_state, state_left}
 use Rattle.frozen_commands.proofs.WrittenFacts.{begins_no_record, has_written, is_cut_off}
+use Rattle.command_parts.specs.Files.{TellsFront}
 
 -- A line that refuses.
 

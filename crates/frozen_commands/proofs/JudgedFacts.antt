@@ -1,5 +1,5 @@
 -- The front of the file of a state.
-use Rattle.std.proofs.Common.{◌≡◌, ◌<◌, ◌≤◌, ◌+◌, ◌∙◌, ℕ, min, true, false, List, length, take, refl, sym, ap, subst, arith, inl, inr, Option, Some, None, IfSome}
+use Rattle.std.proofs.Common.{◌≡◌, ◌<◌, ◌≤◌, ◌+◌, ◌∙◌, ℕ, min, true, List, length, take, refl, sym, ap, subst, arith, inl, inr, Option, Some, None, IfSome}
 use Rattle.std.proofs.lemmas.Bool.{cases_lt}
 use Rattle.std.proofs.lemmas.Bool.Decides.{nat_tests}
 use Rattle.std.proofs.lemmas.List.{length-take, take_all}
@@ -8,7 +8,6 @@ use Rattle.cloak_model.specs.declared.image.Bundle.{Bundle}
 use Rattle.frozen_state.specs.declared.fault.FrozenFault.{FrozenFault}
 use Rattle.frozen_state.specs.declared.fault.FrozenFault.TheVariants.{Form}
 use Rattle.frozen_state.specs.declared.frozen.Frozen.{Frozen}
-use Rattle.frozen_state.specs.FrozenFault.{frozen_fault}
 use Rattle.command_parts.specs.Thawing.{SpellsState, largest_state, state_fault}
 use Rattle.frozen_commands.specs.Thawing.{IsStateFront}
 
@@ -17,12 +16,6 @@ pub too_long : (b : Bundle) (digest file : List ℕ) → largest_state < length 
     state_fault b digest file ≡ Some (Form largest_state)
 too_long b digest file large =
     let yes : nat_lt largest_state (length file) ≡ true = grind (arith, nat_tests) in rw yes refl
-
--- one that is not
-pub not_long : (b : Bundle) (digest file : List ℕ) → length file ≤ largest_state →
-    state_fault b digest file ≡ frozen_fault digest b.kernel (length b.programs) file
-not_long b digest file few =
-    let no : nat_lt largest_state (length file) ≡ false = grind (arith, nat_tests) in rw no refl
 
 front_length : (front file : List ℕ) → front ≡ take (largest_state + 1) file →
     length front ≡ min (largest_state + 1) (length file)

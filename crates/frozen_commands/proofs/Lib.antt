@@ -6,3 +6,4 @@ pub mod RestFacts
 pub mod ThawFacts
 mod JudgedFacts
 mod Refused
+pub mod SameWords

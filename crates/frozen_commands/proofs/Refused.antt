@@ -23,12 +23,7 @@ use Rattle.command_parts.specs.Thawing.{AsksThawed, SpellsState, ThawSources}
 use Rattle.run_command.proofs.PrepareFacts.{stream_before}
 use Rattle.frozen_commands.specs.Thawing.{IsStateFront, JudgesState, refused_by}
 use Rattle.frozen_commands.proofs.JudgedFacts.{front_fault, front_spells}
-
--- there was no memory
-pub no_memory : {S : Type 0} (asked : spec.Asked) (before after : FilesOutside S) → after.reading ≡ before.reading →
-    SameFiles before.held after.held → after.writing ≡ before.writing → NoRun asked refusal.NoMemory before after
-no_memory {S} asked before after reading held writing =
-    record { cause = record { reading = reading }; held = held; writing = writing }
+use Rattle.command_parts.proofs.Refused.{no_memory}
 
 -- A run that is frozen.
 

@@ -14,12 +14,13 @@ use Rattle.cloak_model.specs.Report.{report}
 use Rattle.cloak_model.specs.Run.{any_refused, cause_of, closing, joint_after, last_stop, turns_from, turns_pieces}
 use Rattle.frozen_state.specs.Continuing.{due_after, next_moment, pieces_after, run_on, without_past}
 use Rattle.command_parts.specs.declared.status.Status.{Status}
-use Rattle.run_command.specs.Running.{EndsRun, RunsSteps, last_pieces, moment_behind, status_of}
+use Rattle.run_command.specs.Running.{EndsRun, RunsSteps, last_pieces, status_of}
 use Rattle.cloak_model.specs.Run.{NoClash, NoClashYet}
 use Rattle.run_command.proofs.RunFacts.{emits_as}
-use Rattle.cloaked_side.proofs.Emitting.{emits_then}
+use Rattle.cloak_model.proofs.Emitting.{emits_then}
 use Rattle.joint_machine.proofs.Clashed.{closing_unclashed}
 use Rattle.frozen_commands.specs.Thawing.{WritesRest}
+use Rattle.record_law.specs.Steps.{moment_after}
 
 -- none clashed in its steps, if none did up to its closing
 pub rest_unclashed : (b : Bundle) (n : ℕ) (j : Joint) (steps : ℕ) → NoClash (run_on b n j steps) →
@@ -71,7 +72,7 @@ rest_whole {E} {gave} {mid_failed} {failed} {e} {f} {g} {machine} {stopped} {cau
     unwrapped ends =
     let turns = turns_from steps (next_moment b n j) in
     let all = runs.made well in
-    let end = ends (moment_behind (next_moment b n j) turns) all.stands in
+    let end = ends (moment_after (next_moment b n j) turns) all.stands in
     let closed = closing (joint_after (without_past j) turns) in
     let same : cause_of closed.joint (Some cause) ≡ cause_of closed.joint (last_stop None turns) =
     ap (λ (s : Stop). cause_of closed.joint (Some s))

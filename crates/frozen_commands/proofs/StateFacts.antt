@@ -30,13 +30,13 @@ use Rattle.io_traits.specs.declared.shelf.Shelf as shelves
 use Rattle.command_parts.specs.declared.status.Status.{Status}
 use Rattle.command_parts.specs.Freezing.{FreezeSources}
 use Rattle.command_parts.specs.Outside.{Outside}
-use Rattle.run_command.specs.Running.{moment_behind}
 use Rattle.cloak_model.specs.Run.{NoClashYet}
 use Rattle.thaw_law.proofs.TwoParts.{runs_go_on}
 use Rattle.frozen_commands.specs.declared.freezing.ForSaving.{ForSaving}
 use Rattle.frozen_commands.specs.FreezeAnswering.{IsState}
 use Rattle.frozen_commands.specs.Freezing.{IsForSaving, is_stopped, last_joint}
 use Rattle.frozen_commands.specs.Saving.{LeavesState}
+use Rattle.record_law.specs.Steps.{moment_after}
 
 pub none_left : (stopped : Option Stop) → is_some stopped ≡ false → stopped ≡ None
 none_left None is = refl
@@ -113,11 +113,11 @@ room_after {s} {steps} {r} {room} at for =
 -- what the machine left is the state that the vectors give
 pub state_left : {S O : Type 0} {s : FreezeSources} {steps : ℕ} {r : Run} {machine : Machine} {left : ForSaving}
     {name : List ℕ} {before after : Outside S O} {given : Status} → Reaches s steps r → IsForSaving s left →
-    StandsForMoment machine (moment_behind (first_moment s.bundle r.opened.joint) r.turns) →
+    StandsForMoment machine (moment_after (first_moment s.bundle r.opened.joint) r.turns) →
     (leaves : LeavesState machine left name before after given) →
     leaves.state ≡ frozen_of (last_joint r) steps s.vectors
 state_left {S} {O} {s} {steps} {r} {machine} {left} {name} {before} {after} {given} at is_left stands leaves =
-    let m = moment_behind (first_moment s.bundle r.opened.joint) r.turns in
+    let m = moment_after (first_moment s.bundle r.opened.joint) r.turns in
     let number : 0 + length r.turns ≡ steps = (let n = at.count in omega (arith, n)) in
     leaves.is m stands (not_missed at) (room_after at is_left.room)
     ∙ (λ i. frozen_of (last_joint r) (number i) (is_left.vectors i))

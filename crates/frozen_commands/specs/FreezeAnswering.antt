@@ -14,7 +14,6 @@ use Rattle.frozen_state.specs.Ranges.{IsInRange}
 use Rattle.frozen_state.specs.Thawing.{CanGoOn}
 use Rattle.command_parts.specs.declared.status.Status.{Status}
 use Rattle.command_parts.specs.declared.status.Status.TheVariants as status
-use Rattle.command_parts.specs.Files.{TellsFront}
 use Rattle.command_parts.specs.Freezing.{AsksFrozen, FreezeSources}
 use Rattle.command_parts.specs.NoRun.{IsRefused, LineFailed}
 use Rattle.command_parts.specs.Outside.{FilesOutside, NothingRose, Outside, Raised}
@@ -26,6 +25,7 @@ use Rattle.frozen_commands.specs.declared.freezing.PreparedFreeze.{PreparedFreez
 use Rattle.frozen_commands.specs.Freezing.{PreparesFrozen, due_frozen, is_stopped, last_joint}
 use Rattle.frozen_commands.specs.Saving.{lacking_line}
 use Rattle.frozen_commands.specs.Writing.{BeginsNoRecord, HasWritten, IsCutOff}
+use Rattle.command_parts.specs.Files.{TellsFront}
 
 -- What becomes of a run.
 

@@ -19,11 +19,12 @@ use Rattle.command_parts.specs.Freezing.{AsksFrozen, FreezeSources}
 use Rattle.command_parts.specs.NoRun.{NoRun}
 use Rattle.command_parts.specs.Outside.{FilesOutside, OnlyRead, Outside}
 use Rattle.run_command.specs.Outlet.{Writes}
-use Rattle.run_command.specs.Running.{IsStatusOfStop, moment_behind, run_status}
+use Rattle.run_command.specs.Running.{IsStatusOfStop, run_status}
 use Rattle.frozen_commands.specs.declared.first.First.{First}
 use Rattle.frozen_commands.specs.declared.first.First.TheVariants as first
 use Rattle.frozen_commands.specs.declared.freezing.ForSaving.{ForSaving}
 use Rattle.frozen_commands.specs.declared.freezing.PreparedFreeze.{PreparedFreeze}
+use Rattle.record_law.specs.Steps.{moment_after}
 
 -- What is due.
 
@@ -88,7 +89,7 @@ EndsAsSome other = Unit {0}
 -- how the steps of a run ended: the machine stands after them, or this is the run's status
 abbrev pub IsFirstOf : Bundle → Run → First → Type 0
 IsFirstOf b r (first.Reached machine) =
-    (is_stopped r ≡ false) × StandsForMoment machine (moment_behind (first_moment b r.opened.joint) r.turns)
+    (is_stopped r ≡ false) × StandsForMoment machine (moment_after (first_moment b r.opened.joint) r.turns)
 IsFirstOf b r (first.Ended given) = (is_stopped r ≡ true) × (given ≡ run_status r)
 IsFirstOf b r first.Failed = Unit {0}
 

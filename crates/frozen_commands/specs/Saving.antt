@@ -10,9 +10,9 @@ use Rattle.joint_machine.specs.Freezing.{HasRoom}
 use Rattle.io_traits.specs.Told.{Grows, GrowsByFront, OtherFiles, Rose, Tells}
 use Rattle.command_parts.specs.declared.status.Status.{Status}
 use Rattle.command_parts.specs.declared.status.Status.TheVariants as status
-use Rattle.command_parts.specs.Files.{TellsFront}
 use Rattle.command_parts.specs.Outside.{Outside, Output}
 use Rattle.frozen_commands.specs.declared.freezing.ForSaving.{ForSaving}
+use Rattle.command_parts.specs.Files.{TellsFront}
 
 -- the rest of the console's line, and the line that says why
 abbrev pub lacking_line : List ℕ

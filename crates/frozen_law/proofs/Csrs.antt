@@ -9,7 +9,7 @@ use Rattle.cloak_model.specs.Csr.{Csrs, csr_numbers, zero_csrs, csr_word, with_c
 use Rattle.cloak_model.specs.CsrNumbers as csr
 use Rattle.cloak_model.specs.declared.sstatus.Sstatus.{Sstatus}
 use Rattle.rv_traps.specs.StatusFields.{sstatus_of-sstatus_word, has_bit-bit}
-use Rattle.kernel_isolation.proofs.Shown.{either}
+use Rattle.cloak_base.proofs.Choices.{either}
 
 -- What a register with a number holds of a word. Of a word that it holds this is the word.
 

@@ -22,10 +22,10 @@ use Rattle.kernel_isolation.proofs.FilesAdded.{added_keep, files_of, opens_over}
 use Rattle.kernel_isolation.proofs.Isolated.{of_opened}
 use Rattle.kernel_isolation.proofs.Opened.{is_opened}
 use Rattle.kernel_isolation.proofs.Turns.{IsSteady, turn_is_alone}
+use Rattle.limit_law.proofs.Memories.{Carries, step_carries}
 use Rattle.limit_law.proofs.Moments.{following}
 use Rattle.frozen_law.specs.Draws.{DrawsAreFew, DrawsAreBelow}
 use Rattle.frozen_law.proofs.Draws.{owing, AreFew, few_wide, settle_few, step_few, end_few}
-use Rattle.frozen_law.proofs.Memories.{Carries, step_carries}
 
 -- What each step takes from one number to the next.
 

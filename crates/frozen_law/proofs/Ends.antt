@@ -1,27 +1,22 @@
--- What questions, droppings and the copies of a fork do, a hypercall does; and what questions and droppings do, the end
--- of a domain does.
+-- What questions, droppings and the copies of a fork do, a hypercall does.
 use Rattle.std.proofs.Common.{◌≡◌, ℕ}
 use Rattle.cloak_base.specs.declared.names.PageId.{PageId}
 use Rattle.cloak_model.specs.declared.answer.Answer.TheVariants as told
 use Rattle.cloak_model.specs.AskPages.{ask_forget}
 use Rattle.cloak_model.specs.Contexts.{Context}
 use Rattle.cloak_model.specs.DomainState.{Control}
-use Rattle.cloak_model.specs.Ending.{ask_end}
 use Rattle.cloak_model.specs.Fork.{marked, private_numbers, copies, copy_each}
 use Rattle.cloak_model.specs.Hypercalls.{Hypercall, hypercall}
 use Rattle.cloak_model.specs.Script.{played}
 use Rattle.cloak_model.specs.World.{World}
 use Rattle.hypercall_kinds.specs.Kinds.{cleared, CallKind, Stops, Forks, EndsSpace, after}
 use Rattle.hypercall_kinds.proofs.ByKinds.{by_kinds}
-use Rattle.script_fold.proofs.Endings.{keeps_forgets, keeps_end}
-use Rattle.frozen_law.proofs.Questions.{Kept, none_opens, clear_keeps}
+use Rattle.script_fold.proofs.Endings.{keeps_forgets}
+use Rattle.frozen_law.proofs.Questions.{Kept, clear_keeps}
 
 module _ (P : PageId → Type 0) (R : ℕ → World → World → Type 0) (k : Kept P R)
     (forget : (d n : ℕ) (w : World) → R 0 w (ask_forget d n w).world)
   where
-    pub end_keeps : (d : ℕ) (w : World) → R 0 w (ask_end d w).world
-    end_keeps d w = keeps_end (R 0) (none_opens P R k).settles forget d w
-
     module _ (d : Control)
         (copy : (c : Context) (w : World) → (cleared c d w).answer ≡ told.Ok →
         R 0 w (played (copy_each d.number (copies c.space d.resources)) (cleared c d w).world).world)

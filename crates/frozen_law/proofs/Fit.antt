@@ -11,9 +11,10 @@ use Rattle.kernel_isolation.specs.Isolation.{joint_until}
 use Rattle.frozen_law.specs.Fit.{RunsFitPages}
 use Rattle.frozen_law.specs.Records.{IsUnowed}
 use Rattle.frozen_law.proofs.MissedRuns.{nothing_is_missed}
-use Rattle.frozen_law.proofs.Pages.{begins, pages_are_whole}
+use Rattle.frozen_law.proofs.Pages.{pages_are_whole}
 use Rattle.frozen_law.proofs.RecordRuns.{records_tell_pages}
-use Rattle.latest_store.proofs.Begun.{fails_all}
+use Rattle.cloak_base.proofs.Lists.{fails_all}
+use Rattle.range_law.proofs.Beginnings.{is_beginning}
 
 -- a page that no frame is owed
 unowed : (m : CloakedMemory) (q : PageId) → owing_frame m q ≡ None → IsUnowed q m
@@ -35,6 +36,6 @@ runs_fit_pages b from budget r grammar bytes all is n on =
       bytes = λ q. pages_are_whole b from budget r grammar bytes all is n q;
       vectors = λ q. zeros.0 q;
       recorded = λ q c iv there vector none.
-          records_tell_pages b from budget r (begins b from all) is n drawn q c iv (unowed m q none) there vector;
+          records_tell_pages b from budget r (is_beginning b from all) is n drawn q c iv (unowed m q none) there vector;
       fresh = λ q none unshown. zeros.1 drawn q (none, unowed m q unshown);
     }

@@ -63,6 +63,7 @@ use Rattle.frozen_law.proofs.MissedRuns.{nothing_is_missed}
 use Rattle.frozen_law.proofs.Sizes.{runs_keep_sizes}
 use Rattle.frozen_law.proofs.Streams.{runs_keep_streams}
 use Rattle.frozen_law.proofs.Violations.{ends_are_in_range}
+use Rattle.std.proofs.lemmas.Option.{slice_get_within}
 
 -- Harts.
 
@@ -106,11 +107,6 @@ violation_if frames d (Some v) is = violation_of frames d v is
 
 -- Pages.
 
-below_length : {A : Type 0} (xs : List A) (i : ℕ) (a : A) → slice_get xs i ≡ Some a → i < length xs
-below_length [] i a is = absurd cc
-below_length (x ∷ xs) zero a is = omega arith
-below_length (x ∷ xs) (suc i) a is = let rest = below_length xs i a is in omega (arith, rest)
-
 none_some : {A : Type 0} (a : A) → None ≡ Some a → ⊥
 none_some a is = absurd cc
 
@@ -140,7 +136,7 @@ page_in : (programs : ℕ) (domains : List Domain) (q : PageId) (o : Option Doma
     IsSomeAnd o (λ d. IsHeldBy d.control.resources q) → IsPage programs q
 page_in programs domains q None e count limits is = absurd is
 page_in programs domains q (Some program) e count limits is =
-    let low = below_length domains q.domain program e in
+    let low = slice_get_within domains q.domain program e in
     let sound = (limits q.domain program e).resources in
     let r : Resources = program.control.resources in
     page_of_held programs r q (resource_at r q.resource) refl sound.numbers

@@ -11,7 +11,8 @@ use Rattle.cloak_model.specs.Opening.{numbers_below}
 use Rattle.frozen_state.specs.declared.frozen.FrozenPage.{FrozenPage}
 use Rattle.frozen_state.specs.FrozenState.{page_named, pages_of_resource, pages_of_resources, pages_of_domains, page_with, recorded_of}
 use Rattle.frozen_state.specs.Ranges.{IsPage, precedes, Rises}
-use Rattle.range_law.proofs.Bounds.{all_append, by_place}
+use Rattle.range_law.proofs.Bounds.{by_place}
+use Rattle.cloak_base.proofs.Lists.{each_weaker, each_append}
 
 -- Each before each later one.
 
@@ -23,22 +24,17 @@ pairs : {A : Type 0} (R : A → A → Type 0) (xs : List A) → AreBefore R xs �
 pairs R [] all = λ i j d low inside. absurd (omega (arith, inside))
 pairs R (x ∷ xs) all = AllPairs-cons R x xs (by_place (R x) xs all.0) (pairs R xs all.1)
 
-all_weaker : {A : Type 0} (P Q : A → Type 0) (xs : List A) → ((a : A) → P a → Q a) → AllByRecursion P xs →
-    AllByRecursion Q xs
-all_weaker P Q [] gives all = tt
-all_weaker P Q (x ∷ xs) gives all = (gives x all.0, all_weaker P Q xs gives all.1)
-
 before_weaker : {A : Type 0} (R T : A → A → Type 0) (xs : List A) → ((a b : A) → R a b → T a b) → AreBefore R xs →
     AreBefore T xs
 before_weaker R T [] gives all = tt
 before_weaker R T (x ∷ xs) gives all =
-    (all_weaker (R x) (T x) xs (gives x) all.0, before_weaker R T xs gives all.1)
+    (each_weaker (R x) (T x) xs (gives x) all.0, before_weaker R T xs gives all.1)
 
 before_append : {A : Type 0} (R : A → A → Type 0) (xs ys : List A) → AreBefore R xs → AreBefore R ys →
     AllByRecursion (λ x. AllByRecursion (R x) ys) xs → AreBefore R (xs ++ ys)
 before_append R [] ys first second apart = second
 before_append R (x ∷ xs) ys first second apart =
-    (all_append (R x) xs ys first.0 apart.0, before_append R xs ys first.1 second apart.1)
+    (each_append (R x) xs ys first.0 apart.0, before_append R xs ys first.1 second apart.1)
 
 before_map : {A B : Type 0} (R : B → B → Type 0) (g : A → B) (xs : List A) → AreBefore (λ a b. R (g a) (g b)) xs →
     AreBefore R (map g xs)
@@ -54,7 +50,7 @@ before_map {A = A} R g (x ∷ xs) all = (mapped x xs all.0, before_map R g xs al
 all_below : (Q : ℕ → Type 0) (n : ℕ) → ((k : ℕ) → k < n → Q k) → AllByRecursion Q (numbers_below n)
 all_below Q zero holds = tt
 all_below Q (suc n) holds =
-    all_append Q (numbers_below n) (n ∷ []) (all_below Q n (λ k low. holds k (omega (arith, low))))
+    each_append Q (numbers_below n) (n ∷ []) (all_below Q n (λ k low. holds k (omega (arith, low))))
     (holds n (omega arith), tt)
 
 numbers_rise : (n : ℕ) → AreBefore (λ a b. a < b) (numbers_below n)
@@ -68,7 +64,7 @@ numbers_rise (suc n) =
 all_flat : {A B : Type 0} (P : B → Type 0) (f : A → List B) (xs : List A) →
     AllByRecursion (λ a. AllByRecursion P (f a)) xs → AllByRecursion P (flat_map f xs)
 all_flat P f [] all = tt
-all_flat P f (x ∷ xs) all = all_append P (f x) (flat_map f xs) all.0 (all_flat P f xs all.1)
+all_flat P f (x ∷ xs) all = each_append P (f x) (flat_map f xs) all.0 (all_flat P f xs all.1)
 
 before_flat : {A B : Type 0} (R : B → B → Type 0) (f : A → List B) (xs : List A) →
     AllByRecursion (λ a. AreBefore R (f a)) xs →
@@ -86,7 +82,7 @@ before_flat {A = A} {B = B} R f (x ∷ xs) each apart =
         AllByRecursion (λ y. AllByRecursion (R y) (f b ++ flat_map f more)) ys
     joined [] b more first second = tt
     joined (y ∷ ys) b more first second =
-        (all_append (R y) (f b) (flat_map f more) first.0 second.0, joined ys b more first.1 second.1)
+        (each_append (R y) (f b) (flat_map f more) first.0 second.0, joined ys b more first.1 second.1)
 
     crossed : (ys : List B) (more : List A) →
         AllByRecursion (λ b. AllByRecursion (λ y. AllByRecursion (R y) (f b)) ys) more →
@@ -99,7 +95,7 @@ crossing : {A : Type 0} (P Q : A → Type 0) (R : A → A → Type 0) (xs ys : L
     AllByRecursion (λ x. AllByRecursion (R x) ys) xs
 crossing P Q R [] ys gives first second = tt
 crossing P Q R (x ∷ xs) ys gives first second =
-    (all_weaker Q (R x) ys (λ b there. gives x b first.0 there) second, crossing P Q R xs ys gives first.1 second)
+    (each_weaker Q (R x) ys (λ b there. gives x b first.0 there) second, crossing P Q R xs ys gives first.1 second)
 
 -- The order of pages.
 

@@ -37,7 +37,7 @@ use Rattle.cloak_model.proofs.ResumeParts.{by_root, by_context, by_domain}
 use Rattle.cloak_model.specs.Run.{Run, run_from}
 use Rattle.cloak_model.specs.StoredFiles.{FileContents}
 use Rattle.cloak_model.specs.World.{World, Flat}
-use Rattle.range_law.proofs.Bounds.{all_set, all_or, all_append}
+use Rattle.range_law.proofs.Bounds.{all_set, all_or}
 use Rattle.kernel_isolation.specs.Isolation.{joint_until}
 use Rattle.kernel_isolation.proofs.FilesAdded.{IsGiven, given_keeps}
 use Rattle.limit_law.specs.Words.{HasHartWords}
@@ -48,6 +48,7 @@ use Rattle.limit_law.proofs.Words.{runs_have_words}
 use Rattle.frozen_law.specs.Harts.{HaveOnly, IsInRange, HartsAreInRange}
 use Rattle.frozen_law.proofs.Csrs.{clean_by, clean, AreClean}
 use Rattle.frozen_law.proofs.Harts.{Fits, started_fits, ticked_fits, leave_fits, step_fits}
+use Rattle.cloak_base.proofs.Lists.{each_append}
 
 abbrev AllFit : List Hart → Type 0
 AllFit harts = AllByRecursion Fits harts
@@ -164,7 +165,7 @@ joint_fits m all =
 harts_fit : (entry n : ℕ) → entry % 4 ≡ 0 → AllFit (started_harts entry n)
 harts_fit entry zero is = tt
 harts_fit entry (suc n) is =
-    all_append Fits (started_harts entry n) _ (harts_fit entry n is) (started_fits entry n is, tt)
+    each_append Fits (started_harts entry n) _ (harts_fit entry n is) (started_fits entry n is, tt)
 
 started_joint_fits : (b : Bundle) (m : CloakedMemory) → IsInGrammar b → JointFits (started_joint b m)
 unfolding started_joint started_kernel

@@ -1,6 +1,6 @@
 -- Pages that are owed or recorded are held: after each step of a program.
 use Rattle.std.proofs.Common.{◌≡◌, ◌≢◌, ◌∙◌, inl, inr, ℕ, ◌<◌, Bool, true, false, cond, List, [], ◌∷◌, map, slice_index_or, Option, Some, None, IfSome, refl, sym, subst, zero-add}
-use Rattle.std.specs.Prelude.{All, IsSome, IsSomeAnd, is_some, nat_eq}
+use Rattle.std.specs.Prelude.{All, IsSomeAnd, is_some, nat_eq}
 use Rattle.std.specs.List.{list_any}
 use Rattle.std.proofs.lemmas.Bool.{false≢true, or_cases, eqb-true}
 use Rattle.std.proofs.lemmas.List.{length-set}
@@ -16,7 +16,6 @@ use Rattle.cloak_model.specs.declared.inside.Copied.{Copied}
 use Rattle.cloak_model.specs.declared.inside.Copied.TheVariants as copied
 use Rattle.cloak_model.specs.declared.inside.Ran.{Ran}
 use Rattle.cloak_model.specs.declared.inside.Ran.TheVariants as ran
-use Rattle.cloak_model.specs.declared.item.Item.{Item}
 use Rattle.cloak_model.specs.declared.resource.Owner.TheVariants.{Space}
 use Rattle.cloak_model.specs.declared.resource.Resource.{Resource}
 use Rattle.cloak_model.specs.Asking.{Told}
@@ -26,7 +25,6 @@ use Rattle.cloak_model.specs.Cloaking.{CloakedMemory}
 use Rattle.cloak_model.specs.Contexts.{Context, context_at}
 use Rattle.cloak_model.specs.DomainState.{Control, Domain}
 use Rattle.cloak_model.specs.DomainStep.{domain_script, DomainStepped, instruction_ended, copy_ended, after_write, phase_step, step_if, domain_step}
-use Rattle.cloak_model.specs.Events.{Event}
 use Rattle.cloak_model.specs.Files.{file_resource}
 use Rattle.cloak_model.specs.Fork.{marked, private_numbers, copies, copy_each, forget_each, forked, forked_resources}
 use Rattle.cloak_model.specs.Hypercalls.{Stepped, Hypercall, hypercall, hypercall_of}
@@ -34,31 +32,32 @@ use Rattle.cloak_model.specs.InsideStep.{instruction_inside}
 use Rattle.cloak_model.specs.Ledger.{Ledger}
 use Rattle.cloak_model.specs.PageMoves.{drop_pages}
 use Rattle.cloak_model.specs.Resources.{Resources, resource_at, new_resource, map_region, unmap_region, is_private_to, without_space, drop_space}
-use Rattle.cloak_model.specs.World.{World, Flat, Cloaked, Alone, noted, stored_at, settled, written}
+use Rattle.cloak_model.specs.World.{World, Cloaked}
 use Rattle.cloak_model.specs.Script.{played}
 use Rattle.cloak_model.proofs.Playing.{by_plain, by_copy_in, by_copy_out, by_ecall}
 use Rattle.hypercall_kinds.specs.Kinds.{cleared, CallKind, MakesNew, MakesFile, Maps, Unmaps, Stops, Forks, EndsSpace, after}
 use Rattle.hypercall_kinds.proofs.ByKinds.{by_kinds}
 use Rattle.kernel_isolation.proofs.Settlings.{HasPlaces}
 use Rattle.resource_map.specs.Kept.{IsSound}
-use Rattle.resource_map.proofs.Copies.{marked_all}
+use Rattle.resource_map.proofs.Copies.{marked_all, some_from_private}
 use Rattle.resource_map.proofs.Lists.{get_or-map_all, inside_from_some}
 use Rattle.resource_map.proofs.Places.{any-places}
 use Rattle.chain_law.proofs.Zeros.{keeps_places, settle_fresh, offer_offered}
-use Rattle.chain_law.proofs.ZeroWorlds.{InWorld, clear_clears, NoneOwedIn}
+use Rattle.limit_law.proofs.Worlds.{InWorld, in_wide}
+use Rattle.chain_law.proofs.ZeroWorlds.{clear_clears, NoneOwedIn}
 use Rattle.frozen_law.specs.Held.{IsHeldBy}
 use Rattle.frozen_law.proofs.HeldCopies.{closed_all, fork_stay}
 use Rattle.frozen_law.proofs.HeldPages.{IsKind, pages_held, HeldStay, new_stay, file_stay, map_stay, unmap_stay}
 use Rattle.frozen_law.proofs.Owned.{PagesAreOf, of_wide, settle_of, offer_of, copy_of_kind, Without, drop_of}
 use Rattle.frozen_law.proofs.Questions.{Kept, reach_keeps, clear_keeps}
 use Rattle.frozen_law.proofs.Walks.{Stores, instruction_keeps, copy_in_keeps, copy_out_keeps}
+use Rattle.frozen_law.proofs.Worlds.{EachAdds, Adds, adding}
 
 abbrev pub OfIn : (PageId → Type 0) → World → Type 0
 OfIn P w = InWorld (PagesAreOf P) w
 
 wide_in : (P Q : PageId → Type 0) (w : World) → ((q : PageId) → P q → Q q) → OfIn P w → OfIn Q w
-wide_in P Q (Cloaked c) wide of = of_wide P Q c.memory wide of
-wide_in P Q _ wide of = tt
+wide_in P Q w wide of = in_wide (PagesAreOf P) (PagesAreOf Q) (λ m. of_wide P Q m wide) w of
 
 -- Each change of a world, and so each question, for pages of a kind.
 
@@ -66,18 +65,8 @@ module _ (P : PageId → Type 0) where
   abbrev pub KnowsOf : CloakedMemory → Type 0
   KnowsOf m = HasPlaces m × PagesAreOf P m
 
-  pub record Learns (n : ℕ) (w v : World) : Type 0 where
-    pub by : InWorld KnowsOf w → InWorld KnowsOf v
-
-  learns_none : (w : World) → Learns 0 w w
-  learns_none w = record { by = λ knows. knows }
-
-  learns_settled : (f : ℕ) (w : World) → Learns 0 w (settled f w)
-  learns_settled f (Flat seen) = learns_none (Flat seen)
-  learns_settled f (Cloaked c) = record {
-    by = λ knows. (keeps_places c.memory _ (settle_fresh f c.memory) knows.0, settle_of P f c.memory knows.1);
-  }
-  learns_settled f (Alone h) = learns_none (Alone h)
+  abbrev pub Learns : ℕ → World → World → Type 0
+  Learns = Adds (λ n. KnowsOf)
 
   pub same_of : (m n : CloakedMemory) → n.ledger ≡ m.ledger → PagesAreOf P m → PagesAreOf P n
   same_of m n same of = record {
@@ -85,39 +74,18 @@ module _ (P : PageId → Type 0) where
     recorded = λ q some. of.recorded q (subst (λ (l : Ledger). is_some (l.recorded q) ≡ true) same some);
   }
 
-  learns_stored : (pa width value : ℕ) (w : World) → Learns 0 w (stored_at pa width value w)
-  learns_stored pa width value (Flat seen) = record { by = λ knows. tt }
-  learns_stored pa width value (Cloaked c) = record {
-    by = λ knows. (knows.0 ∙ sym (length-set c.memory.ram (frame_of pa) _), same_of c.memory _ refl knows.1);
+  knows_adds : EachAdds P (λ n. KnowsOf)
+  knows_adds = record {
+    wider = λ a b m low knows. knows;
+    settles = λ n f m knows. (keeps_places m _ (settle_fresh f m) knows.0, settle_of P f m knows.1);
+    stores = λ n pa width value m knows.
+        (knows.0 ∙ sym (length-set m.ram (frame_of pa) _), same_of m _ refl knows.1);
+    offers = λ n q own g write m knows.
+        (keeps_places m _ (offer_offered q g write m).stay knows.0, offer_of P q own g write m knows.1);
   }
-  learns_stored pa width value (Alone h) = learns_none (Alone h)
-
-  learns_noted : (events : List Event) (w : World) → Learns 0 w (noted events w)
-  learns_noted events (Flat seen) = learns_none (Flat seen)
-  learns_noted events (Cloaked c) = record { by = λ knows. knows }
-  learns_noted events (Alone h) = learns_none (Alone h)
-
-  learns_written : (i : Item) (w : World) → Learns 0 w (written i w)
-  learns_written i (Flat seen) = learns_none (Flat seen)
-  learns_written i (Cloaked c) = record { by = λ knows. knows }
-  learns_written i (Alone h) = learns_none (Alone h)
 
   pub changes : Kept P Learns
-  changes = record {
-    same = learns_none;
-    chained = λ a b u v w first second. record { by = λ knows. second.by (first.by knows) };
-    wider = λ a b w v low learns. record { by = learns.by };
-    settled = learns_settled;
-    stored_at = learns_stored;
-    noted = learns_noted;
-    written = learns_written;
-    offered = λ q own g write c. record {
-      by = λ knows. (keeps_places c.memory _ (offer_offered q g write c.memory).stay knows.0, offer_of P q own g write c.memory knows.1);
-    };
-    mismatched = λ q g c. record { by = λ knows. knows };
-    told = λ h rest. record { by = λ knows. tt };
-    unfit = λ h. record { by = λ knows. tt };
-  }
+  changes = adding P (λ n. KnowsOf) knows_adds
 
   write_knows : (q : PageId) (at width value : ℕ) (w : World) → InWorld KnowsOf w →
       InWorld KnowsOf (ask_write q at width value w).world
@@ -127,16 +95,14 @@ module _ (P : PageId → Type 0) where
 
   pub stores : Stores P Learns
   stores q own va kind at width value w is ok = record {
-    by = λ knows. write_knows q at width value _ ((reach_keeps P Learns changes q own va kind w).by knows);
+    by = λ n knows. write_knows q at width value _ ((reach_keeps P Learns changes q own va kind w).by n knows);
   }
 
   pub of_knows : (w : World) → InWorld KnowsOf w → OfIn P w
-  of_knows (Cloaked c) knows = knows.1
-  of_knows _ knows = tt
+  of_knows = in_wide KnowsOf (PagesAreOf P) (λ m knows. knows.1)
 
   pub places_know : (w : World) → InWorld KnowsOf w → InWorld HasPlaces w
-  places_know (Cloaked c) knows = knows.0
-  places_know _ knows = tt
+  places_know = in_wide KnowsOf HasPlaces (λ m knows. knows.0)
 
   -- Copies.
 
@@ -199,15 +165,11 @@ apart_any n (x ∷ xs) any apart = elim (or_cases (nat_eq x n) (list_any (λ m. 
   | inr there ↦ apart_any n xs there (All-tail (λ (k : ℕ). n ≢ k) x xs apart)
 ]
 
-some_private : (space : ℕ) (o : Option Resource) → is_private_to space o ≡ true → IsSome o
-some_private space None private = absurd (false≢true private)
-some_private space (Some x) private = refl
-
 not_private : (space : ℕ) (r : Resources) (n : ℕ) → All (λ k. n ≢ k) (private_numbers space r) → (t : Bool) →
     is_private_to space (resource_at r n) ≡ t → t ≡ false
 not_private space r n apart false is = refl
 not_private space r n apart true is =
-    let inside = inside_from_some r.held n (some_private space (resource_at r n) is) in
+    let inside = inside_from_some r.held n (some_from_private space (resource_at r n) is) in
     absurd (apart_any n (private_numbers space r)
     (subst (λ (k : ℕ). list_any (λ m. nat_eq m k) (private_numbers space r) ≡ true) (zero-add n)
     (any-places (is_private_to space) None 0 n r.held inside is)) apart)
@@ -252,7 +214,7 @@ module _ (Other : PageId → Type 0) (d : Control) (sound : IsSound d.resources)
     of_cleared : OfIn Was (cleared c d w).world
     of_cleared =
         of_knows Was (cleared c d w).world
-        ((clear_keeps Was (Learns Was) (changes Was) d.number (marked c.space d.resources) w).by knows)
+        ((clear_keeps Was (Learns Was) (changes Was) d.number (marked c.space d.resources) w).by 0 knows)
 
     kind_holds : (k : CallKind h slot c d w) → Holds (after h slot c d w k)
     unfolding forked
@@ -333,7 +295,7 @@ module _ (Other : PageId → Type 0) (d : Domain) (sound : IsSound d.control.res
   phase_holds Plain slot c w knows =
       let t = played (instruction_inside d.control.number d.control.resources c) w in
       let there = (instruction_keeps Now (Learns Now) (changes Now) (stores Now) d.control.number d.control.resources c w
-      (pages_held d.control.number d.control.resources Other sound c.space)).by knows in
+      (pages_held d.control.number d.control.resources Other sound c.space)).by 0 knows in
       let s = played (instruction_ended slot d t.answer.context t.answer.ending) t.world in
       by_plain StepHolds slot c d w
       (wrote_holds t.answer.wrote s.answer s.world (ended_holds slot t.answer.context t.answer.ending t.world there))
@@ -343,7 +305,7 @@ module _ (Other : PageId → Type 0) (d : Domain) (sound : IsSound d.control.res
       (same_holds _ t.world (copied_same slot t.answer.context t.answer.ending)
       (of_knows Now t.world
       ((copy_in_keeps Now (Learns Now) (changes Now) (stores Now) d.control.number d.control.resources c done w
-      (pages_held d.control.number d.control.resources Other sound c.space)).by knows)))
+      (pages_held d.control.number d.control.resources Other sound c.space)).by 0 knows)))
   phase_holds Waiting slot c w knows = of_knows Now w knows
   phase_holds (CopyOut done total) slot c w knows =
       let t = played (copy_out_step d.control.number d.control.resources c done total) w in
@@ -352,7 +314,7 @@ module _ (Other : PageId → Type 0) (d : Domain) (sound : IsSound d.control.res
       (same_holds _ t.world (copied_same slot t.answer.context t.answer.ending)
       (of_knows Now t.world
       ((copy_out_keeps Now (Learns Now) (changes Now) (stores Now) d.control.number d.control.resources c done total w
-      (pages_held d.control.number d.control.resources Other sound c.space)).by knows))))
+      (pages_held d.control.number d.control.resources Other sound c.space)).by 0 knows))))
 
   step_if_holds : (o : Option Context) (slot : ℕ) (w : World) → InWorld (KnowsOf Now) w →
       StepHolds (played (step_if o slot d) w)

@@ -2,7 +2,7 @@
 use Rattle.std.proofs.Common.{◌≡◌, ◌≢◌, ◌∙◌, inl, inr, ℕ, zero, suc, ◌+◌, ◌-◌, ◌<◌, true, false, [], ◌∷◌, ◌++◌, length, slice_index_or, Option, Some, None, refl, sym, ap, subst, arith}
 use Rattle.std.specs.Prelude.{All, IsSome, IsSomeAnd}
 use Rattle.std.proofs.lemmas.Bool.{cases_lt}
-use Rattle.std.proofs.lemmas.List.{get_or-replicate, get_or_append_left, get_or-append_right, length-append}
+use Rattle.std.proofs.lemmas.List.{get_or_append_left, get_or-append_right, length-append}
 use Rattle.cloak_base.specs.declared.names.PageId.{PageId}
 use Rattle.cloak_model.specs.declared.resource.Resource.{Resource}
 use Rattle.cloak_model.specs.AskPages.{settled_if_marked}
@@ -19,6 +19,7 @@ use Rattle.script_fold.proofs.Endings.{keeps_settled_for}
 use Rattle.script_fold.proofs.Questions.{settles_of}
 use Rattle.frozen_law.proofs.HeldCalls.{OfIn, IsApart, forgets_in}
 use Rattle.frozen_law.proofs.Owned.{PagesAreOf, settle_of}
+use Rattle.cloak_model.proofs.Marks.{is_marked_all}
 
 -- The numbers below 16.
 
@@ -69,9 +70,6 @@ settled_for_below d f (suc n) w clear =
     let same : f + 1 + n ≡ f + suc n = omega arith in
     subst (λ (k : ℕ). ClearBelow k d all_marked (settled_for d (f + 1) n v)) same
     (settled_for_below d (f + 1) n v (marked_below d all_marked f w clear))
-
-is_marked_all : (n : ℕ) → n < 16 → slice_index_or all_marked n false ≡ true
-is_marked_all n low = get_or-replicate 16 n true false low
 
 -- what the end leaves of pages of a kind: those of other domains, or of numbers that there are not
 pub end_of : (P : PageId → Type 0) (d : ℕ) (m : CloakedMemory) → HasPlaces m → PagesAreOf P m →

@@ -31,8 +31,10 @@ use Rattle.limit_law.proofs.Moments.{at_every_moment}
 use Rattle.limit_law.proofs.Runs.{opened_keep, next_is_low}
 use Rattle.frozen_law.specs.Held.{IsHeldBy, IsHeldIn, RunsHoldPages}
 use Rattle.frozen_law.proofs.HeldPages.{HeldStay, file_stay}
-use Rattle.frozen_law.proofs.HeldRuns.{set_at, set_apart, HeldIf, JointHolds, Fits, step_fits}
+use Rattle.frozen_law.proofs.HeldRuns.{HeldIf, JointHolds, Fits, step_fits}
 use Rattle.frozen_law.proofs.Owned.{PagesAreOf, of_wide, recorded_by}
+use Rattle.latest_store.proofs.Begun.{get_other, get_same}
+use Rattle.cloak_model.proofs.Opening.{domain_started}
 
 -- A page gets a record.
 
@@ -95,17 +97,6 @@ programs_kind P d (p ∷ programs) m own of =
     (λ page low.
     subst (λ (n : ℕ). P (record { domain = n; resource = 0; page = page })) first (own 0 p refl page low)) of)
 
-program_there : (d k : ℕ) (programs : List Program) (p : Program) → slice_get programs k ≡ Some p →
-    slice_get (started_domains d programs) k ≡ Some (started_domain (d + k) p.start)
-program_there d k [] p is = absurd cc
-program_there d zero (x ∷ programs) p is =
-    let same : x ≡ p = cc in
-    let first : d ≡ d + 0 = omega arith in
-    ap (λ (n : ℕ). Some (started_domain n x.start)) first ∙ ap (λ (q : Program). Some (started_domain (d + 0) q.start)) same
-program_there d (suc k) (x ∷ programs) p is =
-    let same : d + 1 + k ≡ d + suc k = omega arith in
-    program_there (d + 1) k programs p is ∙ ap (λ (n : ℕ). Some (started_domain n p.start)) same
-
 own_page : (d : ℕ) (p : Program) (page : ℕ) → page < p.start.pages →
     IsHeldBy (started_domain d p.start).control.resources (record { domain = d; resource = 0; page = page })
 unfolding started_domain started_control started_resources
@@ -116,7 +107,7 @@ programs_held programs k p is page low =
     subst (λ (o : Option Domain).
     IsSomeAnd o (λ d. IsHeldBy d.control.resources (record { domain = 0 + k; resource = 0; page = page })))
     (sym (ap (slice_get (started_domains 0 programs)) (let same : 0 + k ≡ k = omega arith in same)
-    ∙ program_there 0 k programs p is)) (own_page (0 + k) p page low)
+    ∙ domain_started 0 k programs p is)) (own_page (0 + k) p page low)
 
 none_some : {A : Type 0} (P : A → Type 0) (n f : ℕ) → IfSome (slice_index_or (replicate n None) f None) P
 none_some P n f = subst (λ (o : Option _). IfSome o P) (sym (get_or-replicate_none n f)) tt
@@ -202,9 +193,9 @@ more_held domains d was new there stay q held = elim (decided q.domain d) [
   | inl same ↦
       let before : slice_get domains q.domain ≡ Some was = ap (slice_get domains) same ∙ there in
       let after : slice_get (slice_set domains d new) q.domain ≡ Some new =
-      ap (slice_get (slice_set domains d new)) same ∙ set_at domains d was new there in
+      ap (slice_get (slice_set domains d new)) same ∙ get_same domains d was new there in
       subst (HeldIf q) (sym after) (stay q (subst (HeldIf q) before held))
-  | inr apart ↦ subst (HeldIf q) (sym (set_apart domains d q.domain new apart)) held
+  | inr apart ↦ subst (HeldIf q) (sym (get_other domains d q.domain new apart)) held
 ]
 
 given_holds : (f : FileContents) (x y : Joint) → IsGiven f x y → JointHolds x → JointHolds y
@@ -213,7 +204,7 @@ given_holds f x y given of =
     let n = given.resource in
     let new : Domain = with_resources made.resources given.domain in
     let after : List Domain = slice_set x.domains f.domain new in
-    let there = set_at x.domains f.domain given.domain new given.there in
+    let there = get_same x.domains f.domain given.domain new given.there in
     let size = file_size f.number (length f.pages) given.domain.control.resources n given.answer in
     subst JointHolds given.is
     (contents_kind (IsHeldIn after) f.domain n 0 f.pages x.memory

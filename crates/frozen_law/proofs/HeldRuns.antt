@@ -1,5 +1,5 @@
 -- Pages that are owed or recorded are held: over each step of the joint machine.
-use Rattle.std.proofs.Common.{◌≡◌, ◌≢◌, ◌∙◌, inl, inr, ℕ, zero, suc, ◌<◌, Bool, true, false, List, [], ◌∷◌, find, length, slice_get, slice_set, Option, Some, None, IfSome, Result, Ok, Err, refl, sym, ap, subst}
+use Rattle.std.proofs.Common.{◌≡◌, ◌∙◌, inl, inr, ℕ, ◌<◌, Bool, true, false, List, length, slice_get, slice_set, Option, Some, None, IfSome, Result, Ok, Err, refl, sym, ap, subst}
 use Rattle.std.specs.Prelude.{IsSomeAnd, is_some, slice_index_or}
 use Rattle.std.proofs.lemmas.Bool.{false≢true}
 use Rattle.cloak_base.specs.declared.causes.Violation.{Violation}
@@ -10,9 +10,9 @@ use Rattle.cloak_model.specs.declared.inside.Went.TheVariants as went
 use Rattle.cloak_model.specs.declared.item.Item.{Item}
 use Rattle.cloak_model.specs.declared.outcome.Kernel.{Kernel}
 use Rattle.cloak_model.specs.declared.outcome.Kernel.TheVariants.{Resume}
-use Rattle.cloak_model.specs.Ahead.{settle_while, settle_found, settle_touched, settled_step, made_after, is_owed}
+use Rattle.cloak_model.specs.Ahead.{settle_touched, settled_step, made_after}
 use Rattle.cloak_model.specs.Asking.{Told}
-use Rattle.cloak_model.specs.Cloaking.{CloakedMemory, AfterSettling, seen_in, with_seen, settle}
+use Rattle.cloak_model.specs.Cloaking.{CloakedMemory, AfterSettling, seen_in, with_seen}
 use Rattle.cloak_model.specs.Contexts.{Admitted, context_at, domain_of, slot_of}
 use Rattle.cloak_model.specs.DomainState.{Control, Domain}
 use Rattle.cloak_model.specs.DomainStep.{DomainStepped, domain_step, interrupt}
@@ -25,7 +25,7 @@ use Rattle.cloak_model.specs.Opening.{numbers_below}
 use Rattle.cloak_model.specs.Parts.{Joint}
 use Rattle.cloak_model.specs.Resources.{Resources}
 use Rattle.cloak_model.specs.Resuming.{resume}
-use Rattle.cloak_model.proofs.ResumeParts.{with_roots, by_root, by_context, by_domain}
+use Rattle.cloak_model.proofs.ResumeParts.{with_roots, by_root, by_context, by_domain, resume_slot_resources, interrupt_if_resources}
 use Rattle.cloak_model.specs.World.{World, MidStep, Flat, Cloaked, seen_of}
 use Rattle.domain_isolation.proofs.InOrder.{decided}
 use Rattle.kernel_isolation.proofs.Accounts.{is_joint, IsJointWorld, ram_seen}
@@ -35,10 +35,10 @@ use Rattle.kernel_isolation.proofs.Settlings.{HasPlaces, touched_shown}
 use Rattle.kernel_isolation.proofs.StepAccounts.{accounts_domain_step}
 use Rattle.kernel_isolation.proofs.Turns.{IsSteady, turn_is_alone}
 use Rattle.settling_ahead.proofs.Touching.{writes_touched_alone}
+use Rattle.kernel_isolation.proofs.Ahead.{touched_keeps}
 use Rattle.limit_law.proofs.Endings.{answers_give}
 use Rattle.frozen_state.specs.Limits.{KeepsLimits}
 use Rattle.limit_law.proofs.Programs.{set_all, all_at}
-use Rattle.limit_law.proofs.RootRuns.{slot_same, interrupt_same}
 use Rattle.limit_law.proofs.Steps.{step_kept, interrupt_kept, resume_kept}
 use Rattle.limit_law.proofs.Turns.{Keeps, AllKeep, step_keep}
 use Rattle.frozen_law.specs.Held.{IsHeldBy, IsHeldIn}
@@ -46,22 +46,9 @@ use Rattle.frozen_law.proofs.HeldCalls.{OfIn, IsApart, step_holds}
 use Rattle.frozen_law.proofs.HeldEnds.{end_of, none_apart}
 use Rattle.frozen_law.proofs.HeldPages.{IsKind}
 use Rattle.frozen_law.proofs.Owned.{PagesAreOf, of_wide, settle_of}
+use Rattle.latest_store.proofs.Begun.{get_other, get_same}
 
 -- One program of a list, and the others.
-
-pub set_at : (domains : List Domain) (d : ℕ) (was new : Domain) → slice_get domains d ≡ Some was →
-    slice_get (slice_set domains d new) d ≡ Some new
-set_at [] d was new there = absurd cc
-set_at (x ∷ domains) zero was new there = refl
-set_at (x ∷ domains) (suc d) was new there = set_at domains d was new there
-
-pub set_apart : (domains : List Domain) (d k : ℕ) (new : Domain) → k ≢ d →
-    slice_get (slice_set domains d new) k ≡ slice_get domains k
-set_apart [] d k new apart = refl
-set_apart (x ∷ domains) zero zero new apart = absurd (apart refl)
-set_apart (x ∷ domains) zero (suc k) new apart = refl
-set_apart (x ∷ domains) (suc d) zero new apart = refl
-set_apart (x ∷ domains) (suc d) (suc k) new apart = set_apart domains d k new (λ same. apart (ap suc same))
 
 abbrev pub HeldIf : PageId → Option Domain → Type 0
 HeldIf q o = IsSomeAnd o (λ d. IsHeldBy d.control.resources q)
@@ -80,10 +67,10 @@ from_kind : (domains : List Domain) (d n : ℕ) (was new : Domain) → slice_get
 from_kind domains d n was new there number q kind = elim (decided q.domain d) [
   | inl same ↦
       let at : slice_get (slice_set domains d new) q.domain ≡ Some new =
-      ap (slice_get (slice_set domains d new)) same ∙ set_at domains d was new there in
+      ap (slice_get (slice_set domains d new)) same ∙ get_same domains d was new there in
       subst (HeldIf q) (sym at) (kind.own (same ∙ sym number))
   | inr apart ↦
-      subst (HeldIf q) (sym (set_apart domains d q.domain new apart)) (kind.other (λ same. apart (same ∙ number)))
+      subst (HeldIf q) (sym (get_other domains d q.domain new apart)) (kind.other (λ same. apart (same ∙ number)))
 ]
 
 -- the same resources
@@ -159,7 +146,7 @@ module _ (j : Joint) (from : AreFrom 0 j.domains) where
   unfolding by_domain
   domain_good hart satp ctx reply None low there keeps here = here
   domain_good hart satp ctx reply (Some was) low there keeps here =
-      context_good satp ctx reply was _ _ there (slot_same (slot_of ctx) hart reply was.control)
+      context_good satp ctx reply was _ _ there (resume_slot_resources (slot_of ctx) hart reply was.control)
       (resume_kept (slot_of ctx) hart reply was.control low keeps) here
 
   resume_good : (hart satp ctx reply : ℕ) → hart < 4 → JointGood j → JointGood (resume j hart satp ctx reply).joint
@@ -175,26 +162,12 @@ module _ (j : Joint) (from : AreFrom 0 j.domains) where
 
 -- A hart outside.
 
-found_of : (P : PageId → Type 0) (o : Option ℕ) (next : CloakedMemory → AfterSettling) (m : CloakedMemory) →
-    PagesAreOf P m → ((x : CloakedMemory) → PagesAreOf P x → PagesAreOf P (next x).memory) →
-    PagesAreOf P (settle_found o next m).memory
-found_of P None next m of later = of
-found_of P (Some f) next m of later = later (settle f m).memory (settle_of P f m of)
-
-while_of : (P : PageId → Type 0) (frames : List (List ℕ) → List ℕ) (n : ℕ) (m : CloakedMemory) → PagesAreOf P m →
-    PagesAreOf P (settle_while frames n m).memory
-unfolding settle_while
-while_of P frames zero m of = of
-while_of P frames (suc n) m of =
-    found_of P (find (is_owed m) (frames m.ram)) (settle_while frames n) m of (λ x here. while_of P frames n x here)
-
 touched_good : (domains : List Domain) (h : Hart) (disk : List ℕ) (m : CloakedMemory) → Good domains m →
     Good domains (settle_touched h disk m).memory
-unfolding settle_touched
 touched_good domains h disk m here = record {
   places = (touched_shown h disk m here.places).places;
   keep = here.keep;
-  of = while_of (IsHeldIn domains) _ _ m here.of;
+  of = touched_keeps (PagesAreOf (IsHeldIn domains)) (settle_of (IsHeldIn domains)) h disk m here.of;
 }
 
 outside_by : (j : Joint) (number : ℕ) (h : Hart) (s : AfterSettling) → number < 4 → AreFrom 0 j.domains →
@@ -262,7 +235,7 @@ due_good : (due : Bool) (j : Joint) (number : ℕ) (h : Hart) (d slot : ℕ) (wa
     JointGood (by_interrupt due j number h d slot was).joint
 unfolding by_interrupt interrupt
 due_good true j number h d slot was there own keeps here =
-    left_good j number h d was _ there own (interrupt_same _ slot was.control) (interrupt_kept slot was.control keeps) here
+    left_good j number h d was _ there own (interrupt_if_resources _ slot was.control) (interrupt_kept slot was.control keeps) here
 due_good false j number h d slot was there own keeps here =
     let c : MidStep = cloak_of j.memory h d (pages_for was (context_at was.control.contexts slot)) in
     let w : World = Cloaked c in
@@ -309,7 +282,7 @@ ended_held domains d was there keeps q here = elim (decided q.domain d) [
   | inl same ↦
       let at : slice_get domains q.domain ≡ Some was = ap (slice_get domains) same ∙ there in
       absurd (none_apart was.control.resources q keeps.resources.numbers (subst (HeldIf q) at here.0) (here.1 same))
-  | inr apart ↦ subst (HeldIf q) (sym (set_apart domains d q.domain (ended_domain was) apart)) here.0
+  | inr apart ↦ subst (HeldIf q) (sym (get_other domains d q.domain (ended_domain was) apart)) here.0
 ]
 
 memory_holds : (P Q : PageId → Type 0) (w : World) (m : CloakedMemory) → is_joint w ≡ true →

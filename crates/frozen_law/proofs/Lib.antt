@@ -4,10 +4,9 @@ pub mod HartRuns
 pub mod Questions
 pub mod Walks
 pub mod Ends
-pub mod Memories
+pub mod Worlds
 pub mod Counts
 pub mod MarkCounts
-pub mod Placing
 pub mod Marks
 pub mod Draws
 pub mod DrawRuns

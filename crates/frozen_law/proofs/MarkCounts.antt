@@ -1,6 +1,5 @@
 -- There are as many places for reservations at every moment of a run.
-use Rattle.std.proofs.Common.{◌≡◌, ◌∙◌, ℕ, Bool, true, false, List, [], length, slice_index_or, Option, Some, None, IfSome, Ok, ap}
-use Rattle.std.specs.Str.{bytes_eq}
+use Rattle.std.proofs.Common.{◌≡◌, ◌∙◌, ℕ, List, length, Option, Some, None, IfSome, Ok, ap}
 use Rattle.std.proofs.lemmas.List.{length-map, length-replicate, length-set}
 use Rattle.cloak_base.specs.Pages.{zero_page}
 use Rattle.cloak_base.specs.Random.{Random}
@@ -8,34 +7,29 @@ use Rattle.cloak_base.specs.declared.names.PageId.{PageId}
 use Rattle.cloak_model.specs.declared.image.Bundle.{Bundle}
 use Rattle.cloak_model.specs.declared.item.Item.{Item}
 use Rattle.cloak_model.specs.AskPages.{ask_copy, ask_forget}
-use Rattle.cloak_model.specs.Beginning.{Beginning, opening_from}
-use Rattle.cloak_model.specs.Cloaking.{CloakedMemory, AfterSettling, AfterOffer, seen_in, owed_in, ciphertext_of, settle_owed, settle_if, settle, settle_frame_if, owing_frame, owes, with_owed, with_comparison, taken, compared, unless_missed, offer}
+use Rattle.cloak_model.specs.Beginning.{Beginning}
+use Rattle.cloak_model.specs.Cloaking.{CloakedMemory, seen_in, ciphertext_of, settle_owed, settle}
 use Rattle.cloak_model.specs.DomainStep.{domain_step}
 use Rattle.cloak_model.specs.Ending.{ask_end, cloak_for}
 use Rattle.cloak_model.specs.Events.{Event}
-use Rattle.cloak_model.specs.Joint.{Moment, joint_step, memory_of}
+use Rattle.cloak_model.specs.Joint.{memory_of}
 use Rattle.cloak_model.specs.KernelStep.{kernel_step}
 use Rattle.cloak_model.specs.Ledger.{Keys, vector_of}
 use Rattle.cloak_model.specs.Memory.{Seen, stored, filled, with_mark}
-use Rattle.cloak_model.specs.Opening.{RunEdge, started_joint, started_kernel, started_memory}
+use Rattle.cloak_model.specs.Opening.{started_kernel, started_memory}
 use Rattle.cloak_model.specs.PageMoves.{copy_pages, drop_pages, place_with}
-use Rattle.cloak_model.specs.Parts.{Joint}
 use Rattle.cloak_model.specs.Run.{Run, run_from}
-use Rattle.cloak_model.specs.StoredFiles.{FileContents}
 use Rattle.cloak_model.specs.World.{World, Flat, Cloaked, Alone, seen_of, marks_of, with_marks, noted, stored_at, filled_frame, settled, written, with_plain}
 use Rattle.kernel_isolation.specs.Isolation.{joint_until}
-use Rattle.kernel_isolation.proofs.FilesAdded.{IsGiven, given_keeps}
-use Rattle.kernel_isolation.proofs.Opened.{is_opened}
-use Rattle.kernel_isolation.proofs.Turns.{IsSteady, turn_is_alone}
+use Rattle.kernel_isolation.proofs.FilesAdded.{given_keeps}
 use Rattle.script_fold.proofs.Folding.{step_keeps}
 use Rattle.script_fold.proofs.Questions.{Kept, settles_of, opens_of}
 use Rattle.script_fold.proofs.ByQuestions.{kept_by}
 use Rattle.script_fold.proofs.Endings.{keeps_end}
-use Rattle.kernel_isolation.proofs.Shown.{either}
-use Rattle.limit_law.proofs.Moments.{at_every_moment}
-use Rattle.limit_law.proofs.Openings.{begins_by_memory}
+use Rattle.limit_law.proofs.Memories.{Moves, moved_at}
+use Rattle.limit_law.proofs.Openings.{begins_in_memory}
 use Rattle.script_fold.proofs.KernelWalks.{Reaches, kernel_keeps}
-use Rattle.frozen_law.proofs.Memories.{Moves, step_moves}
+use Rattle.cloak_model.proofs.Offering.{SettlesKept, settle_keeps, OfferKeeps, offer_keeps}
 
 abbrev HasMarks : ℕ → CloakedMemory → Type 0
 HasMarks n m = length m.marks ≡ n
@@ -53,49 +47,19 @@ owed_count n f q None m here = filled_count n f zero_page (seen_in m) here
 owed_count n f q (Some draw) m here =
     filled_count n f (ciphertext_of m.ledger q draw.0 (m.plain q)) (seen_in m) here
 
-if_count : (n f : ℕ) (o : Option PageId) (m : CloakedMemory) → HasMarks n m → HasMarks n (settle_if f o m).memory
-unfolding settle_if
-if_count n f None m here = here
-if_count n f (Some q) m here = owed_count n f q (vector_of m.ledger q) m here
+settles_count : (n : ℕ) → SettlesKept (HasMarks n)
+settles_count n f q m is here = owed_count n f q (vector_of m.ledger q) m here
 
 settle_count : (n f : ℕ) (m : CloakedMemory) → HasMarks n m → HasMarks n (settle f m).memory
-unfolding settle
-settle_count n f m here = if_count n f _ m here
+settle_count n f m here = settle_keeps (HasMarks n) (settles_count n) f m here
 
-frame_count : (n : ℕ) (o : Option ℕ) (m : CloakedMemory) → HasMarks n m → HasMarks n (settle_frame_if o m).memory
-frame_count n None m here = here
-frame_count n (Some f) m here = settle_count n f m here
-
-abbrev OfferCount : ℕ → AfterOffer → Type 0
-OfferCount n o = HasMarks n o.memory
-
-compared_count : (n : ℕ) (q : PageId) (g : ℕ) (write : Bool) (o : Option (List ℕ)) (m : CloakedMemory) → HasMarks n m →
-    OfferCount n (compared q g write o m)
-unfolding compared
-compared_count n q g write None m here = here
-compared_count n q g write (Some c) m here =
-    let there = slice_index_or m.ram g [] in
-    let m' : CloakedMemory = with_comparison there c m in
-    either (OfferCount n) (bytes_eq there c) (record { memory = taken q g write m'; ciphers = []; granted = true })
-    (record { memory = m'; ciphers = []; granted = false })
-    (either (HasMarks n) write (with_owed g (Some q) m') m' here here) here
-
-unless_count : (n : ℕ) (s : AfterSettling) (next : CloakedMemory → AfterOffer) → HasMarks n s.memory →
-    OfferCount n (next s.memory) → OfferCount n (unless_missed s next)
-unfolding unless_missed
-unless_count n s next here later = either (OfferCount n) s.missed _ _ here later
-
-offer_count : (n : ℕ) (q : PageId) (g : ℕ) (write : Bool) (m : CloakedMemory) → HasMarks n m →
-    HasMarks n (offer q g write m).memory
-unfolding offer
-offer_count n q g write m here =
-    let m' = (settle g m).memory in
-    let here' : HasMarks n m' = settle_count n g m here in
-    let s = settle_frame_if (owing_frame m' q) m' in
-    let here'' : HasMarks n s.memory = frame_count n (owing_frame m' q) m' here' in
-    either (OfferCount n) (owes q (owed_in m g)) _ _ here
-    (unless_count n (settle g m) _ here'
-    (unless_count n s _ here'' (compared_count n q g write (s.memory.ledger.recorded q) s.memory here'')))
+offers_count : (n : ℕ) (q : PageId) → OfferKeeps q (HasMarks n) (HasMarks n)
+offers_count n q = record {
+  settles = settles_count n;
+  compares = λ a b m here. here;
+  takes = λ g m clean here. here;
+  stays = λ m here. here;
+}
 
 -- What each question keeps, a step keeps.
 
@@ -162,7 +126,7 @@ changes = record {
   noted = noted_world;
   written = written_world;
   with_plain = plain_world;
-  offered = λ q g write c. record { by = λ n here. offer_count n q g write c.memory here };
+  offered = λ q g write c. record { by = λ n here. offer_keeps (offers_count n q) g write c.memory here };
   mismatched = λ q g c. record { by = λ n here. here };
   told = λ h rest. record { by = λ n here. here };
   unfit = λ h. record { by = λ n here. here };
@@ -201,16 +165,6 @@ moves_count n = record {
 
 -- The run.
 
-record HasPlacesOf (n : ℕ) (j : Joint) : Type 0 where
-  steady : IsSteady j
-  count : HasMarks n j.memory
-
-step_places : (n : ℕ) (m : Moment) → HasPlacesOf n m.joint → HasPlacesOf n (joint_step m).joint
-step_places n m here = record {
-  steady = (turn_is_alone m here.steady).steady;
-  count = step_moves (HasMarks n) (HasMarks n) (moves_count n) m here.steady.places here.count;
-}
-
 place_count : (n : ℕ) (q : PageId) (f : ℕ) (bytes : List ℕ) (draw : Option (List ℕ × Random)) (m : CloakedMemory) →
     HasMarks n m → IfSome (place_with q f bytes draw m) (HasMarks n)
 unfolding place_with
@@ -221,28 +175,10 @@ started_count : (b : Bundle) (keys : Keys) (rest : Random) → HasMarks b.kernel
 unfolding started_memory started_kernel
 started_count b keys rest = length-replicate b.kernel.harts None
 
-abbrev JointCount : ℕ → Joint → Type 0
-JointCount n j = HasMarks n j.memory
-
-joint_count : (n : ℕ) (b : Bundle) (m : CloakedMemory) → HasMarks n m → JointCount n (started_joint b m)
-unfolding started_joint
-joint_count n b m here = here
-
-given_count : (n : ℕ) (f : FileContents) (x y : Joint) → IsGiven f x y → JointCount n x → JointCount n y
-given_count n f x y given here = ap length (given_keeps f x y given).memory.marks ∙ here
-
-opened_places : (b : Bundle) (from : Beginning) (o : RunEdge) → opening_from b from ≡ Ok o →
-    HasPlacesOf b.kernel.harts o.joint
-opened_places b from o opens =
-    let n = b.kernel.harts in
-    record {
-      steady = (is_opened b from o opens).steady;
-      count = begins_by_memory (HasMarks n) (JointCount n) b from (place_count n) (started_count b) (joint_count n b)
-          (given_count n) o opens;
-    }
-
 pub marks_are_counted : (b : Bundle) (from : Beginning) (budget : ℕ) (r : Run) → run_from b from budget ≡ Ok r →
     (n : ℕ) → length (joint_until n r).memory.marks ≡ b.kernel.harts
 marks_are_counted b from budget r is n =
-    (at_every_moment (HasPlacesOf b.kernel.harts) b from budget r (opened_places b from)
-    (λ m same there. step_places b.kernel.harts m there) is n).count
+    let k = b.kernel.harts in
+    (moved_at (HasMarks k) (moves_count k) b from budget r
+    (begins_in_memory (HasMarks k) b from (place_count k) (started_count b)
+    (λ f x y given here. ap length (given_keeps f x y given).memory.marks ∙ here)) is n).memory

@@ -1,16 +1,15 @@
 -- Pages that are owed or recorded are of a kind: what each change of a memory leaves of that.
 use Rattle.std.proofs.Common.{◌≡◌, ◌≢◌, ◌∙◌, ℕ, zero, suc, Bool, true, false, cond, List, [], ◌∷◌, slice_index_or, slice_set, Option, Some, None, IfSome, refl, sym, subst}
 use Rattle.std.specs.Prelude.{is_some}
-use Rattle.std.specs.Str.{bytes_eq}
 use Rattle.std.proofs.lemmas.Bool.{false≢true}
 use Rattle.cloak_base.specs.Pages.{same_page, is_of, page_in}
 use Rattle.cloak_base.specs.Random.{Random}
 use Rattle.cloak_base.specs.declared.names.PageId.{PageId}
 use Rattle.cloak_base.proofs.Pages.{is_of-here}
-use Rattle.cloak_model.specs.Cloaking.{CloakedMemory, AfterSettling, AfterOffer, owed_in, settle_owed, settle_if, settle, settle_frame_if, owing_frame, owes, with_owed, with_comparison, taken, compared, unless_missed, offer}
+use Rattle.cloak_model.specs.Cloaking.{CloakedMemory, settle_owed, settle, offer}
 use Rattle.cloak_model.specs.Ledger.{vector_of}
+use Rattle.cloak_model.proofs.Offering.{SettlesKept, settle_keeps, OfferKeeps, offer_keeps}
 use Rattle.cloak_model.specs.PageMoves.{copy_pages, drop_pages}
-use Rattle.kernel_isolation.proofs.Shown.{either}
 use Rattle.chain_law.proofs.ZeroWorlds.{NoneOwedOf}
 use Rattle.frozen_law.proofs.Records.{page_tells}
 
@@ -52,54 +51,25 @@ module _ (P : PageId → Type 0) where
     recorded = λ p some. recorded_by (same_page p q) p q _ (m.ledger.recorded p) refl own (of.recorded p) some;
   }
 
-  if_of : (f : ℕ) (o : Option PageId) (m : CloakedMemory) → IfSome o P → PagesAreOf P m →
-      PagesAreOf P (settle_if f o m).memory
-  unfolding settle_if
-  if_of f None m own of = of
-  if_of f (Some q) m own of = owed_of f q (vector_of m.ledger q) m own of
+  settles_kind : SettlesKept (PagesAreOf P)
+  settles_kind f q m is of =
+      owed_of f q (vector_of m.ledger q) m (subst (λ (o : Option PageId). IfSome o P) is (of.owed f)) of
 
   pub settle_of : (f : ℕ) (m : CloakedMemory) → PagesAreOf P m → PagesAreOf P (settle f m).memory
-  unfolding settle
-  settle_of f m of = if_of f _ m (of.owed f) of
+  settle_of f m of = settle_keeps (PagesAreOf P) settles_kind f m of
 
-  frame_of_kind : (o : Option ℕ) (m : CloakedMemory) → PagesAreOf P m → PagesAreOf P (settle_frame_if o m).memory
-  frame_of_kind None m of = of
-  frame_of_kind (Some f) m of = settle_of f m of
-
-  abbrev OfferOf : AfterOffer → Type 0
-  OfferOf o = PagesAreOf P o.memory
-
-  taken_of : (g : ℕ) (q : PageId) (m : CloakedMemory) → P q → PagesAreOf P m → PagesAreOf P (with_owed g (Some q) m)
-  taken_of g q m own of = record { owed = each_set P m.ledger.owed g (Some q) own of.owed; recorded = of.recorded }
-
-  compared_of : (q : PageId) (g : ℕ) (write : Bool) (o : Option (List ℕ)) (m : CloakedMemory) → P q → PagesAreOf P m →
-      OfferOf (compared q g write o m)
-  unfolding compared
-  compared_of q g write None m own of = taken_of g q m own of
-  compared_of q g write (Some c) m own of =
-      let there = slice_index_or m.ram g [] in
-      let m' : CloakedMemory = with_comparison there c m in
-      let of' : PagesAreOf P m' = record { owed = of.owed; recorded = of.recorded } in
-      either OfferOf (bytes_eq there c) (record { memory = taken q g write m'; ciphers = []; granted = true })
-      (record { memory = m'; ciphers = []; granted = false })
-      (either (PagesAreOf P) write (with_owed g (Some q) m') m' (taken_of g q m' own of') of') of'
-
-  unless_of : (s : AfterSettling) (next : CloakedMemory → AfterOffer) → PagesAreOf P s.memory → OfferOf (next s.memory) →
-      OfferOf (unless_missed s next)
-  unfolding unless_missed
-  unless_of s next of later = either OfferOf s.missed _ _ of later
+  offers_kind : (q : PageId) → P q → OfferKeeps q (PagesAreOf P) (PagesAreOf P)
+  offers_kind q own = record {
+    settles = settles_kind;
+    compares = λ a b m of. record { owed = of.owed; recorded = of.recorded };
+    takes = λ g m clean of.
+        record { owed = each_set P m.ledger.owed g (Some q) own of.owed; recorded = of.recorded };
+    stays = λ m of. of;
+  }
 
   pub offer_of : (q : PageId) → P q → (g : ℕ) (write : Bool) (m : CloakedMemory) → PagesAreOf P m →
       PagesAreOf P (offer q g write m).memory
-  unfolding offer
-  offer_of q own g write m of =
-      let m' = (settle g m).memory in
-      let of' : PagesAreOf P m' = settle_of g m of in
-      let s = settle_frame_if (owing_frame m' q) m' in
-      let of'' : PagesAreOf P s.memory = frame_of_kind (owing_frame m' q) m' of' in
-      either OfferOf (owes q (owed_in m g)) _ _ of
-      (unless_of (settle g m) _ of' (unless_of s _ of''
-      (compared_of q g write (s.memory.ledger.recorded q) s.memory own of'')))
+  offer_of q own g write m of = offer_keeps (offers_kind q own) g write m of
 
   -- Copies for pages of the kind.
 

@@ -3,7 +3,7 @@ use Rattle.std.proofs.Common.{◌≡◌, ℕ, ◌<◌, ◌≤◌, length, Ok, sy
 use Rattle.std.proofs.lemmas.Bool.{cases_lt}
 use Rattle.cloak_base.specs.declared.names.PageId.{PageId}
 use Rattle.cloak_model.specs.declared.image.Bundle.{Bundle}
-use Rattle.cloak_model.specs.Beginning.{Beginning, Fresh, Stored, IsBeginning}
+use Rattle.cloak_model.specs.Beginning.{Beginning}
 use Rattle.cloak_model.specs.Bundle.{IsInGrammar}
 use Rattle.cloak_model.specs.Parts.{Joint}
 use Rattle.cloak_model.specs.Run.{Run, run_from}
@@ -16,11 +16,7 @@ use Rattle.limit_law.proofs.Moments.{at_every_moment}
 use Rattle.limit_law.proofs.Words.{opened_words}
 use Rattle.frozen_law.specs.Pages.{PagesAreWhole}
 use Rattle.frozen_law.proofs.Marks.{same_after}
-
--- a beginning of bytes is one
-pub begins : (b : Bundle) (from : Beginning) → IsBeginningOfBytes b from → IsBeginning b from
-begins b (Fresh stream) all = tt
-begins b (Stored keys stream files) all = all.contents
+use Rattle.range_law.proofs.Beginnings.{is_beginning}
 
 module _ (b : Bundle) (from : Beginning) (budget : ℕ) (r : Run) (grammar : IsInGrammar b) (bytes : IsOfBytes b)
     (all : IsBeginningOfBytes b from) (is : run_from b from budget ≡ Ok r) where
@@ -30,7 +26,7 @@ module _ (b : Bundle) (from : Beginning) (budget : ℕ) (r : Run) (grammar : IsI
       (λ m same fits. (turn_fits m fits).joint) is n).memory.plain q
 
   among_steps : (n : ℕ) → n ≤ length r.turns → (q : PageId) → length ((joint_until n r).memory.plain q) ≡ 4096
-  among_steps n low q = ((runs_give_latest b from budget r grammar (begins b from all) is).pages n low q).whole
+  among_steps n low q = ((runs_give_latest b from budget r grammar (is_beginning b from all) is).pages n low q).whole
 
   are_whole : (n : ℕ) (q : PageId) → length ((joint_until n r).memory.plain q) ≡ 4096
   are_whole n q = elim (cases_lt n (length r.turns)) [

@@ -9,7 +9,6 @@ use Rattle.cloak_model.specs.declared.image.Bundle.{Bundle}
 use Rattle.cloak_model.specs.Beginning.{Beginning, Fresh, Stored, IsBeginning, opening_from, with_content, with_contents}
 use Rattle.cloak_model.specs.Chain.{cbc}
 use Rattle.cloak_model.specs.Cloaking.{CloakedMemory}
-use Rattle.cloak_model.specs.Joint.{Moment, joint_step}
 use Rattle.cloak_model.specs.Ledger.{Keys, domain_key, key_of, vector_of}
 use Rattle.cloak_model.specs.Opening.{RunEdge, started_joint, started_ledger, started_memory}
 use Rattle.cloak_model.specs.PageMoves.{place, place_with}
@@ -17,12 +16,9 @@ use Rattle.cloak_model.specs.Parts.{Joint}
 use Rattle.cloak_model.specs.StoredFiles.{PageContent, FileContents, IsSealedIfShown, HasSealedPages}
 use Rattle.cloak_model.specs.World.{Cloaked}
 use Rattle.kernel_isolation.proofs.FilesAdded.{HasKeys, IsGiven, files_carry, files_of, opens_over}
-use Rattle.kernel_isolation.proofs.Opened.{is_opened}
-use Rattle.kernel_isolation.proofs.Turns.{IsSteady, turn_is_alone}
-use Rattle.limit_law.proofs.Moments.{at_every_moment}
+use Rattle.limit_law.proofs.Memories.{Carries, carried_at}
 use Rattle.frozen_law.specs.Records.{RecordsTell, RecordsTellPages}
-use Rattle.frozen_law.proofs.Memories.{Carries, step_carries}
-use Rattle.frozen_law.proofs.Placing.{programs_placed}
+use Rattle.limit_law.proofs.Openings.{programs_placed}
 use Rattle.frozen_law.proofs.Records.{told_by, made_so, page_tells, settle_tell}
 use Rattle.frozen_law.proofs.RecordSteps.{step_tells, end_tells}
 
@@ -36,16 +32,6 @@ tell_carries = record {
   seen = λ s m tell. tell;
   rooted = λ root m tell. tell;
   ended = λ d m tell. end_tells d _ tell;
-}
-
-record Fits (j : Joint) : Type 0 where
-  steady : IsSteady j
-  tell : RecordsTell j.memory
-
-step_fits : (m : Moment) → Fits m.joint → Fits (joint_step m).joint
-step_fits m here = record {
-  steady = (turn_is_alone m here.steady).steady;
-  tell = step_carries RecordsTell RecordsTell tell_carries m here.steady.places here.tell;
 }
 
 -- The opening: the pages of programs, and those of files.
@@ -155,11 +141,6 @@ opened_tell b from o is opens =
       tell = joint_tell keys b over.memory placed;
     })).tell.1
 
-opened_fits : (b : Bundle) (from : Beginning) → IsBeginning b from → (o : RunEdge) → opening_from b from ≡ Ok o →
-    Fits o.joint
-opened_fits b from is o opens =
-    record { steady = (is_opened b from o opens).steady; tell = opened_tell b from o is opens }
-
 pub records_tell_pages : RecordsTellPages
 records_tell_pages b from budget r beginning is n =
-    (at_every_moment Fits b from budget r (opened_fits b from beginning) (λ m same here. step_fits m here) is n).tell
+    (carried_at RecordsTell tell_carries b from budget r (λ o opens. opened_tell b from o beginning opens) is n).memory

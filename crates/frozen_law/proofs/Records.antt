@@ -9,15 +9,17 @@ use Rattle.cloak_base.specs.Random.{Random}
 use Rattle.cloak_base.specs.declared.names.PageId.{PageId}
 use Rattle.cloak_base.proofs.Pages.{same_page_tells, is_of_tells}
 use Rattle.cloak_model.specs.Chain.{cbc}
-use Rattle.cloak_model.specs.Cloaking.{CloakedMemory, AfterSettling, AfterOffer, owed_in, settle_owed, settle_if, settle, settle_frame_if, owing_frame, owes, with_owed, with_comparison, taken, compared, unless_missed, offer}
+use Rattle.cloak_model.specs.Cloaking.{CloakedMemory, AfterSettling, AfterOffer, owed_in, settle_owed, settle, settle_frame_if, owing_frame, owes, with_owed, with_comparison, taken, compared, unless_missed, offer}
 use Rattle.cloak_model.specs.Ledger.{key_of, vector_of}
 use Rattle.cloak_model.specs.PageMoves.{with_newest, copy_pages, drop_pages}
 use Rattle.domain_isolation.proofs.InOrder.{decided}
-use Rattle.kernel_isolation.proofs.Shown.{either}
-use Rattle.chain_law.proofs.Zeros.{settle_cleans, frame_clean}
 use Rattle.chain_law.proofs.ZeroWorlds.{NoneOwedOf}
 use Rattle.frozen_law.specs.Records.{IsUnowed, RecordsTell}
 use Rattle.frozen_law.proofs.Counts.{HasCount, settle_count, frame_count}
+use Rattle.cloak_base.proofs.Choices.{either}
+use Rattle.cloak_model.proofs.Offering.{SettlesKept, settle_keeps, OfferKeeps, offer_keeps}
+use Rattle.cloak_model.proofs.Owing.{owes_page}
+use Rattle.std.proofs.lemmas.Option.{same_Some}
 
 -- What is recorded by a test.
 pub told_by : (t : Bool) (key : List ℕ) (there here : Option (List ℕ)) (iv old : Option (List ℕ)) (now c v : List ℕ) →
@@ -47,9 +49,6 @@ other_page p q is = elim (same_page_tells p q) [
   | inr differs ↦ differs.1
 ]
 
-some_same : (p q : PageId) → Some p ≡ Some q → p ≡ q
-some_same p q is = cc
-
 none_some : (q : PageId) → None ≡ Some q → ⊥
 none_some q is = cc
 
@@ -59,7 +58,7 @@ none_some q is = cc
 was_unowed : (f : ℕ) (p q : PageId) (m : CloakedMemory) → owed_in m f ≡ Some p → q ≢ p →
     ((g : ℕ) → slice_index_or (slice_set m.ledger.owed f None) g None ≢ Some q) → IsUnowed q m
 was_unowed f p q m owed other unowed g is = elim (decided g f) [
-  | inl same ↦ other (some_same q p (sym is ∙ (ap (owed_in m) same ∙ owed)))
+  | inl same ↦ other (same_Some q p (sym is ∙ (ap (owed_in m) same ∙ owed)))
   | inr apart ↦ unowed g (get_or-set_other m.ledger.owed f g None None apart ∙ is)
 ]
 
@@ -78,24 +77,13 @@ owed_tell f p (Some draw) m owed tell =
     tell drawn q c iv (was_unowed f p q m owed (other_page q p is) unowed) before under)
     recorded vector
 
-if_tell : (f : ℕ) (o : Option PageId) (m : CloakedMemory) → owed_in m f ≡ o → RecordsTell m →
-    RecordsTell (settle_if f o m).memory
-unfolding settle_if
-if_tell f None m owed tell = tell
-if_tell f (Some p) m owed tell = owed_tell f p (vector_of m.ledger p) m owed tell
+settles_tell : SettlesKept RecordsTell
+settles_tell f p m owed tell = owed_tell f p (vector_of m.ledger p) m owed tell
 
 pub settle_tell : (f : ℕ) (m : CloakedMemory) → RecordsTell m → RecordsTell (settle f m).memory
-unfolding settle
-settle_tell f m tell = if_tell f (owed_in m f) m refl tell
-
-frame_tell : (o : Option ℕ) (m : CloakedMemory) → RecordsTell m → RecordsTell (settle_frame_if o m).memory
-frame_tell None m tell = tell
-frame_tell (Some f) m tell = settle_tell f m tell
+settle_tell f m tell = settle_keeps RecordsTell settles_tell f m tell
 
 -- Offering.
-
-abbrev OfferTells : AfterOffer → Type 0
-OfferTells o = RecordsTell o.memory
 
 -- a frame that is owed nothing gets a page
 put_tell : (g : ℕ) (p : PageId) (m : CloakedMemory) → owed_in m g ≡ None → RecordsTell m →
@@ -106,36 +94,17 @@ put_tell g p m clean tell drawn q c iv unowed recorded vector =
     unowed f (get_or-set_other m.ledger.owed g f (Some p) None
     (λ same. none_some q (sym clean ∙ (ap (owed_in m) (sym same) ∙ is))) ∙ is)) recorded vector
 
-compared_tell : (q : PageId) (g : ℕ) (write : Bool) (o : Option (List ℕ)) (m : CloakedMemory) → owed_in m g ≡ None →
-    RecordsTell m → OfferTells (compared q g write o m)
-unfolding compared
-compared_tell q g write None m clean tell = put_tell g q m clean tell
-compared_tell q g write (Some c) m clean tell =
-    let there = slice_index_or m.ram g [] in
-    let m' : CloakedMemory = with_comparison there c m in
-    let tell' : RecordsTell m' = tell in
-    either OfferTells (bytes_eq there c) (record { memory = taken q g write m'; ciphers = []; granted = true })
-    (record { memory = m'; ciphers = []; granted = false })
-    (either RecordsTell write (with_owed g (Some q) m') m' (put_tell g q m' clean tell') tell') tell'
-
-unless_tell : (s : AfterSettling) (next : CloakedMemory → AfterOffer) → RecordsTell s.memory →
-    OfferTells (next s.memory) → OfferTells (unless_missed s next)
-unfolding unless_missed
-unless_tell s next tell later = either OfferTells s.missed _ _ tell later
+offers_tell : (q : PageId) → OfferKeeps q RecordsTell RecordsTell
+offers_tell q = record {
+  settles = settles_tell;
+  compares = λ a b m tell. tell;
+  takes = λ g m clean tell. put_tell g q m clean tell;
+  stays = λ m tell. tell;
+}
 
 pub offer_tell : (q : PageId) (g : ℕ) (write : Bool) (m : CloakedMemory) → RecordsTell m →
     RecordsTell (offer q g write m).memory
-unfolding offer
-offer_tell q g write m tell =
-    let m' : CloakedMemory = (settle g m).memory in
-    let s = settle_frame_if (owing_frame m' q) m' in
-    let tell' : RecordsTell m' = settle_tell g m tell in
-    let tell'' : RecordsTell s.memory = frame_tell (owing_frame m' q) m' tell' in
-    either OfferTells (owes q (owed_in m g)) _ _ tell
-    (unless_tell (settle g m) _ tell'
-    (unless_tell s _ tell''
-    (compared_tell q g write (s.memory.ledger.recorded q) s.memory
-    (frame_clean (owing_frame m' q) m' g (settle_cleans g m).here) tell'')))
+offer_tell q g write m tell = offer_keeps (offers_tell q) g write m tell
 
 -- A page that was granted for a store is owed to a frame.
 
@@ -144,10 +113,6 @@ IsOwed q m = (f : ℕ) × (owed_in m f ≡ Some q)
 
 abbrev OwesIfGranted : PageId → AfterOffer → Type 0
 OwesIfGranted q o = o.granted ≡ true → IsOwed q o.memory
-
-owes_page : (q : PageId) (o : Option PageId) → owes q o ≡ true → o ≡ Some q
-owes_page q None is = absurd (false≢true is)
-owes_page q (Some p) is = ap Some (sym (page_tells p q is))
 
 put_owes : (g : ℕ) (q : PageId) (m : CloakedMemory) → g < length m.ledger.owed → IsOwed q (with_owed g (Some q) m)
 put_owes g q m low = (g, get_or-set_same m.ledger.owed g (Some q) None low)

@@ -1,16 +1,15 @@
 -- There are as many of all at every moment of a run, each under its number.
-use Rattle.std.proofs.Common.{◌≡◌, ◌∙◌, ℕ, zero, suc, ◌+◌, ◌<◌, List, [], ◌∷◌, length, slice_get, slice_index_or, Option, Some, None, IfSome, Ok, refl, sym, ap, arith}
-use Rattle.std.proofs.lemmas.List.{length-append, length-map, length-set}
+use Rattle.std.proofs.Common.{◌≡◌, ◌∙◌, ℕ, zero, suc, ◌<◌, List, [], ◌∷◌, length, slice_get, slice_index_or, Option, Some, None, IfSome, Ok, refl, sym, ap, arith}
+use Rattle.std.proofs.lemmas.List.{length-map, length-set}
 use Rattle.cloak_base.specs.declared.causes.Violation.{Violation}
 use Rattle.cloak_model.specs.declared.image.Bundle.{Bundle}
-use Rattle.cloak_model.specs.declared.image.Program.{Program}
 use Rattle.cloak_model.specs.Beginning.{Beginning, opening_from}
 use Rattle.cloak_model.specs.Cloaking.{CloakedMemory}
 use Rattle.cloak_model.specs.DomainState.{Domain}
 use Rattle.cloak_model.specs.Ending.{ended_domain}
 use Rattle.cloak_model.specs.Hart.{Hart, started}
 use Rattle.cloak_model.specs.Joint.{Moment, Turn, end_domain, step_before_end, joint_step}
-use Rattle.cloak_model.specs.Opening.{RunEdge, started_harts, started_kernel, started_domains, started_joint}
+use Rattle.cloak_model.specs.Opening.{RunEdge, started_kernel, started_joint}
 use Rattle.cloak_model.specs.Parts.{Joint}
 use Rattle.disk_law.proofs.Turns.{step_keeps}
 use Rattle.range_law.proofs.Bounds.{all_get}
@@ -28,6 +27,7 @@ use Rattle.frozen_law.proofs.Counts.{are_counted}
 use Rattle.frozen_law.proofs.HartRuns.{JointFits, fits_at}
 use Rattle.frozen_law.proofs.Harts.{Fits}
 use Rattle.frozen_law.proofs.MarkCounts.{marks_are_counted}
+use Rattle.cloak_model.proofs.Opening.{length-started_harts, length-started_domains}
 
 -- Programs.
 
@@ -42,17 +42,6 @@ step_count n m here =
     answers_keep (λ (j : Joint). length j.domains ≡ n) (λ t there. there) (end_count n) _ _ (step_before_end m)
     (sym (length-map (step_before_end m).joint.domains (λ (d : Domain). d.control.ended))
     ∙ (ap length (step_leaves m).flags ∙ (length-map m.joint.domains (λ (d : Domain). d.control.ended) ∙ here)))
-
-domains_count : (d : ℕ) (programs : List Program) → length (started_domains d programs) ≡ length programs
-domains_count d [] = refl
-domains_count d (p ∷ programs) = ap suc (domains_count (d + 1) programs)
-
-harts_count : (entry n : ℕ) → length (started_harts entry n) ≡ n
-harts_count entry zero = refl
-harts_count entry (suc n) =
-    let before = harts_count entry n in
-    let more = length-append (started_harts entry n) (started entry n ∷ []) in
-    omega (arith, before, more)
 
 -- At each moment.
 
@@ -74,7 +63,7 @@ started_counts : (b : Bundle) (m : CloakedMemory) → let j = started_joint b m 
     (length j.harts ≡ b.kernel.harts) × (length j.disk ≡ length b.kernel.disk)
     × (length j.domains ≡ length b.programs)
 unfolding started_joint started_kernel
-started_counts b m = (harts_count b.kernel.entry b.kernel.harts, refl, domains_count 0 b.programs)
+started_counts b m = (length-started_harts b.kernel.entry b.kernel.harts, refl, length-started_domains 0 b.programs)
 
 opened_counted : (b : Bundle) (from : Beginning) (o : RunEdge) → opening_from b from ≡ Ok o → Counted b o.joint
 opened_counted b from o opens =

@@ -1,41 +1,30 @@
 -- A run's stream is what is left after its draws: over each step, and in a run.
-use Rattle.std.proofs.Common.{◌≡◌, ◌∙◌, inl, inr, ℕ, zero, suc, ◌+◌, ◌-◌, ◌^◌, ◌<◌, min, Bool, true, false, List, [], slice_index_or, Option, Some, None, IfSome, Ok, refl, sym, ap, subst, arith}
+use Rattle.std.proofs.Common.{◌≡◌, ◌∙◌, inl, inr, ℕ, zero, suc, ◌+◌, ◌-◌, ◌^◌, ◌<◌, min, List, Option, Some, None, IfSome, Ok, refl, sym, ap, subst, arith}
 use Rattle.std.specs.Prelude.{IsSomeAnd, option_and_then}
-use Rattle.std.specs.Str.{bytes_eq}
 use Rattle.std.proofs.Math.Nat.{min-eq_left, min-eq_right}
 use Rattle.std.proofs.lemmas.Bool.{cases_lt}
 use Rattle.io_traits.specs.Skipping.{skipped}
 use Rattle.cloak_base.specs.Random.{Random, next_draw}
 use Rattle.cloak_base.specs.declared.names.PageId.{PageId}
 use Rattle.cloak_model.specs.declared.image.Bundle.{Bundle}
-use Rattle.cloak_model.specs.declared.item.Item.{Item}
-use Rattle.cloak_model.specs.AskPages.{ask_copy, ask_forget}
 use Rattle.cloak_model.specs.Beginning.{Beginning, Fresh, Stored, stored_keys, opening_from}
-use Rattle.cloak_model.specs.Cloaking.{CloakedMemory, AfterSettling, AfterOffer, owed_in, settle_owed, settle_if, settle, settle_frame_if, owing_frame, owes, with_owed, with_comparison, taken, compared, unless_missed, offer}
-use Rattle.cloak_model.specs.DomainState.{Domain}
-use Rattle.cloak_model.specs.DomainStep.{domain_step}
-use Rattle.cloak_model.specs.Events.{Event}
+use Rattle.cloak_model.specs.Cloaking.{CloakedMemory, settle_owed}
 use Rattle.cloak_model.specs.Joint.{Moment, joint_step}
 use Rattle.cloak_model.specs.Ledger.{Keys, vector_of}
 use Rattle.cloak_model.specs.Opening.{RunEdge, drawn_keys, key_count, keys_for, started_joint, started_ledger, started_memory}
 use Rattle.cloak_model.specs.PageMoves.{copy_pages, drop_pages, place, place_with}
 use Rattle.cloak_model.specs.Parts.{Joint}
-use Rattle.cloak_model.specs.World.{World, Flat, Cloaked, Alone, noted, stored_at, settled, written, with_plain}
 use Rattle.kernel_isolation.specs.Isolation.{joint_until}
 use Rattle.kernel_isolation.proofs.FilesAdded.{HasKeys, added_keep, files_of, opens_over}
 use Rattle.kernel_isolation.proofs.Opened.{is_opened}
 use Rattle.kernel_isolation.proofs.Turns.{IsSteady, turn_is_alone}
-use Rattle.script_fold.proofs.Folding.{step_keeps}
-use Rattle.script_fold.proofs.Questions.{Kept, settles_of}
-use Rattle.script_fold.proofs.ByQuestions.{kept_by}
-use Rattle.script_fold.proofs.Endings.{keeps_end}
-use Rattle.kernel_isolation.proofs.Shown.{either}
+use Rattle.cloak_model.proofs.Offering.{SettlesKept, settle_keeps, OfferKeeps, offer_keeps}
+use Rattle.limit_law.proofs.Memories.{each_carries, step_carries}
 use Rattle.limit_law.proofs.Moments.{at_every_moment}
+use Rattle.limit_law.proofs.Worlds.{EachKeeps}
 use Rattle.frozen_law.specs.Streams.{HasDrawn, HasDrawnFrom, RunsKeepStreams}
 use Rattle.frozen_law.proofs.DrawRuns.{draws_are_below}
-use Rattle.chain_law.proofs.ZeroWorlds.{InWorld}
-use Rattle.frozen_law.proofs.Memories.{Carries, step_carries}
-use Rattle.frozen_law.proofs.Placing.{programs_placed}
+use Rattle.limit_law.proofs.Openings.{programs_placed}
 
 -- One more draw.
 
@@ -91,57 +80,8 @@ module _ (keys : Keys) (rest : Random) where
     stream = drawn_follows rest m.ledger.draws m.ledger.stream draw here.stream is;
   }
 
-  if_follows : (f : ℕ) (o : Option PageId) (m : CloakedMemory) → Fits m → Fits (settle_if f o m).memory
-  unfolding settle_if
-  if_follows f None m here = here
-  if_follows f (Some q) m here = owed_follows f q (vector_of m.ledger q) m refl here
-
-  settle_follows : (f : ℕ) (m : CloakedMemory) → Fits m → Fits (settle f m).memory
-  unfolding settle
-  settle_follows f m here = if_follows f _ m here
-
-  frame_follows : (o : Option ℕ) (m : CloakedMemory) → Fits m → Fits (settle_frame_if o m).memory
-  frame_follows None m here = here
-  frame_follows (Some f) m here = settle_follows f m here
-
-  abbrev OfferFits : AfterOffer → Type 0
-  OfferFits o = Fits o.memory
-
-  compared_follows : (q : PageId) (g : ℕ) (write : Bool) (o : Option (List ℕ)) (m : CloakedMemory) → Fits m →
-      OfferFits (compared q g write o m)
-  unfolding compared
-  compared_follows q g write None m here = record { held = here.held; stream = here.stream }
-  compared_follows q g write (Some c) m here =
-      let there = slice_index_or m.ram g [] in
-      let m' : CloakedMemory = with_comparison there c m in
-      let here' : Fits m' = record { held = here.held; stream = here.stream } in
-      either OfferFits (bytes_eq there c) (record { memory = taken q g write m'; ciphers = []; granted = true })
-      (record { memory = m'; ciphers = []; granted = false })
-      (either Fits write (with_owed g (Some q) m') m' (record { held = here.held; stream = here.stream }) here') here'
-
-  unless_follows : (s : AfterSettling) (next : CloakedMemory → AfterOffer) → Fits s.memory → OfferFits (next s.memory) →
-      OfferFits (unless_missed s next)
-  unfolding unless_missed
-  unless_follows s next here later = either OfferFits s.missed _ _ here later
-
-  offer_follows : (q : PageId) (g : ℕ) (write : Bool) (m : CloakedMemory) → Fits m → Fits (offer q g write m).memory
-  unfolding offer
-  offer_follows q g write m here =
-      let m' = (settle g m).memory in
-      let here' : Fits m' = settle_follows g m here in
-      let s = settle_frame_if (owing_frame m' q) m' in
-      let here'' : Fits s.memory = frame_follows (owing_frame m' q) m' here' in
-      either OfferFits (owes q (owed_in m g)) _ _ here
-      (unless_follows (settle g m) _ here'
-      (unless_follows s _ here'' (compared_follows q g write (s.memory.ledger.recorded q) s.memory here'')))
-
-  -- What each question keeps, a step keeps.
-
-  record Stays (w v : World) : Type 0 where
-    pub by : InWorld Fits w → InWorld Fits v
-
-  same : (w : World) → Stays w w
-  same w = record { by = λ here. here }
+  settles_follow : SettlesKept Fits
+  settles_follow f q m is here = owed_follows f q (vector_of m.ledger q) m refl here
 
   as_before : (m n : CloakedMemory) → n.ledger.keys ≡ m.ledger.keys → n.ledger.draws ≡ m.ledger.draws →
       n.ledger.stream ≡ m.ledger.stream → Fits m → Fits n
@@ -152,73 +92,30 @@ module _ (keys : Keys) (rest : Random) where
         ∙ (here.stream (subst (λ (k : ℕ). k < 2 ^ 64 - 1) draws low) ∙ ap Some (sym stream));
   }
 
-  settled_world : (f : ℕ) (w : World) → Stays w (settled f w)
-  settled_world f (Flat seen) = same (Flat seen)
-  settled_world f (Cloaked c) = record { by = λ here. settle_follows f c.memory here }
-  settled_world f (Alone h) = same (Alone h)
-
-  stored_world : (pa width value : ℕ) (w : World) → Stays w (stored_at pa width value w)
-  stored_world pa width value (Flat seen) = record { by = λ here. tt }
-  stored_world pa width value (Cloaked c) = record { by = as_before c.memory _ refl refl refl }
-  stored_world pa width value (Alone h) = same (Alone h)
-
-  noted_world : (events : List Event) (w : World) → Stays w (noted events w)
-  noted_world events (Flat seen) = same (Flat seen)
-  noted_world events (Cloaked c) = record { by = λ here. here }
-  noted_world events (Alone h) = same (Alone h)
-
-  written_world : (i : Item) (w : World) → Stays w (written i w)
-  written_world i (Flat seen) = same (Flat seen)
-  written_world i (Cloaked c) = record { by = λ here. here }
-  written_world i (Alone h) = same (Alone h)
-
-  plain_world : (domain : ℕ) (plain : PageId → List ℕ) (w : World) → Stays w (with_plain domain plain w)
-  plain_world domain plain (Flat seen) = same (Flat seen)
-  plain_world domain plain (Cloaked c) = record { by = as_before c.memory _ refl refl refl }
-  plain_world domain plain (Alone h) = record { by = λ here. tt }
-
-  copy_world : (d from to : ℕ) (w : World) → Stays w (ask_copy d from to w).world
-  unfolding ask_copy copy_pages
-  copy_world d from to (Flat seen) = same (Flat seen)
-  copy_world d from to (Cloaked c) = record { by = as_before c.memory _ refl refl refl }
-  copy_world d from to (Alone h) = record { by = λ here. tt }
-
-  forget_world : (d n : ℕ) (w : World) → Stays w (ask_forget d n w).world
-  unfolding ask_forget drop_pages
-  forget_world d n (Flat seen) = same (Flat seen)
-  forget_world d n (Cloaked c) = record { by = as_before c.memory _ refl refl refl }
-  forget_world d n (Alone h) = record { by = λ here. tt }
-
-  changes : Kept Stays
-  changes = record {
-    same = same;
-    chained = λ u v w p q. record { by = λ here. q.by (p.by here) };
-    settled = settled_world;
-    stored_at = stored_world;
-    noted = noted_world;
-    written = written_world;
-    with_plain = plain_world;
-    offered = λ q g write c. record { by = λ here. offer_follows q g write c.memory here };
-    mismatched = λ q g c. record { by = λ here. here };
-    told = λ h more. record { by = λ here. tt };
-    unfit = λ h. record { by = λ here. tt };
+  offers_follow : (q : PageId) → OfferKeeps q Fits Fits
+  offers_follow q = record {
+    settles = settles_follow;
+    compares = λ a b m here. as_before m _ refl refl refl here;
+    takes = λ g m clean here. as_before m _ refl refl refl here;
+    stays = λ m here. here;
   }
 
-  program_step : (slot : ℕ) (d : Domain) (w : World) → Stays w (domain_step slot d w).world
-  program_step slot d w = step_keeps Stays slot d (kept_by Stays changes copy_world forget_world d.control.number) w
-
-  carries : Carries Fits Fits
-  carries = record {
-    settled = settle_follows;
-    later = λ m here. here;
-    stepped = λ slot was c places here. (program_step slot was (Cloaked c)).by here;
-    seen = λ s m here. as_before m _ refl refl refl here;
-    rooted = λ root m here. as_before m _ refl refl refl here;
-    ended = λ d m here. (keeps_end Stays (settles_of Stays changes) forget_world d _).by here;
+  changes : EachKeeps Fits
+  unfolding copy_pages drop_pages
+  changes = record {
+    settles = λ f m here. settle_keeps Fits settles_follow f m here;
+    offers = λ q g write m here. offer_keeps (offers_follow q) g write m here;
+    stores = λ pa width value m here. as_before m _ refl refl refl here;
+    writes = λ plain m here. as_before m _ refl refl refl here;
+    copies = λ d from to m here. as_before m _ refl refl refl here;
+    drops = λ d resource m here. as_before m _ refl refl refl here;
   }
 
   step_follows : (m : Moment) → IsSteady m.joint → Fits m.joint.memory → Fits (joint_step m).joint.memory
-  step_follows m steady here = step_carries Fits Fits carries m steady.places here
+  step_follows m steady here =
+      step_carries Fits Fits
+      (each_carries Fits changes (λ s m' there. as_before m' _ refl refl refl there)
+      (λ root m' there. as_before m' _ refl refl refl there)) m steady.places here
 
   -- The opening.
 

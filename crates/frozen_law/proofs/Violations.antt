@@ -10,22 +10,22 @@ use Rattle.cloak_base.specs.declared.causes.Violation.TheVariants as violation
 use Rattle.cloak_base.specs.declared.names.Kind.{Kind}
 use Rattle.cloak_base.specs.declared.names.Kind.TheVariants.{Fetch}
 use Rattle.cloak_base.specs.declared.names.PageId.{PageId}
+use Rattle.cloak_model.specs.Cloaking.{CloakedMemory}
+use Rattle.cloak_model.specs.PageMoves.{copy_pages, drop_pages}
 use Rattle.cloak_model.specs.declared.answer.Answer.{Answer}
 use Rattle.cloak_model.specs.declared.image.Bundle.{Bundle}
-use Rattle.cloak_model.specs.declared.item.Item.{Item}
 use Rattle.cloak_model.specs.Asking.{Told}
 use Rattle.cloak_model.specs.Beginning.{Beginning, opening_from}
 use Rattle.cloak_model.specs.Bundle.{IsInGrammar}
 use Rattle.cloak_model.specs.Calls.{area, byte_address}
 use Rattle.cloak_model.specs.Contexts.{Context, domain_of}
 use Rattle.cloak_model.specs.DomainState.{Domain}
-use Rattle.cloak_model.specs.Events.{Event}
 use Rattle.cloak_model.specs.Joint.{Moment, Turn, joint_step, after_turn, stop_of}
 use Rattle.cloak_model.specs.Memory.{is_in_ram}
 use Rattle.cloak_model.specs.Opening.{RunEdge, Lack}
 use Rattle.cloak_model.specs.Run.{Run, run_from, run_of, unless_stopped, turns_from, joint_after, first_moment, closing}
 use Rattle.cloak_model.specs.Walk.{Walk}
-use Rattle.cloak_model.specs.World.{World, Flat, Cloaked, Alone, ram_of, noted, stored_at, settled, written, with_plain}
+use Rattle.cloak_model.specs.World.{World, Cloaked, ram_of}
 use Rattle.cause_law.specs.Causes.{EndIsPresented, moment_at}
 use Rattle.cause_law.specs.Presented.{AsksAt, Fetches, LoadsAt, StoresAt, AtomicAt, CopiesFrom, CopiesTo, PresentsPage, world_inside}
 use Rattle.cause_law.proofs.Runs.{end_has_cause}
@@ -38,7 +38,7 @@ use Rattle.limit_law.proofs.Runs.{runs_keep_limits}
 use Rattle.chain_law.proofs.Zeros.{settle_fresh, offer_offered}
 use Rattle.frozen_law.specs.Violations.{NamesPageOf, IsViolationOf, EndsAreInRange}
 use Rattle.frozen_law.proofs.Counts.{are_counted}
-use Rattle.chain_law.proofs.ZeroWorlds.{InWorld}
+use Rattle.limit_law.proofs.Worlds.{InWorld, KeepsIn, kept_in}
 
 -- The first steps of a run are a run.
 
@@ -105,54 +105,25 @@ ends_so b from budget r is =
 
 -- Questions leave as many frames.
 
+abbrev CountsFrames : ℕ → CloakedMemory → Type 0
+CountsFrames n m = length m.ram ≡ n
+
 abbrev HasFrames : ℕ → World → Type 0
-HasFrames n w = InWorld (λ m. length m.ram ≡ n) w
+HasFrames n w = InWorld (CountsFrames n) w
 
-record Frames (w v : World) : Type 0 where
-  pub by : (n : ℕ) → HasFrames n w → HasFrames n v
+abbrev Frames : ℕ → World → World → Type 0
+Frames n = KeepsIn (CountsFrames n)
 
-same : (w : World) → Frames w w
-same w = record { by = λ n here. here }
-
-settled_world : (f : ℕ) (w : World) → Frames w (settled f w)
-settled_world f (Flat seen) = same (Flat seen)
-settled_world f (Cloaked c) = record { by = λ n here. (settle_fresh f c.memory).frames ∙ here }
-settled_world f (Alone h) = same (Alone h)
-
-stored_world : (pa width value : ℕ) (w : World) → Frames w (stored_at pa width value w)
-stored_world pa width value (Flat seen) = record { by = λ n here. tt }
-stored_world pa width value (Cloaked c) = record { by = λ n here. length-set c.memory.ram (frame_of pa) _ ∙ here }
-stored_world pa width value (Alone h) = same (Alone h)
-
-noted_world : (events : List Event) (w : World) → Frames w (noted events w)
-noted_world events (Flat seen) = same (Flat seen)
-noted_world events (Cloaked c) = record { by = λ n here. here }
-noted_world events (Alone h) = same (Alone h)
-
-written_world : (i : Item) (w : World) → Frames w (written i w)
-written_world i (Flat seen) = same (Flat seen)
-written_world i (Cloaked c) = record { by = λ n here. here }
-written_world i (Alone h) = same (Alone h)
-
-plain_world : (domain : ℕ) (plain : PageId → List ℕ) (w : World) → Frames w (with_plain domain plain w)
-plain_world domain plain (Flat seen) = same (Flat seen)
-plain_world domain plain (Cloaked c) = record { by = λ n here. here }
-plain_world domain plain (Alone h) = record { by = λ n here. tt }
-
-changes : Kept Frames
-changes = record {
-  same = same;
-  chained = λ u v w p q. record { by = λ n here. q.by n (p.by n here) };
-  settled = settled_world;
-  stored_at = stored_world;
-  noted = noted_world;
-  written = written_world;
-  with_plain = plain_world;
-  offered = λ q g write c. record { by = λ n here. (offer_offered q g write c.memory).stay.frames ∙ here };
-  mismatched = λ q g c. record { by = λ n here. here };
-  told = λ h rest. record { by = λ n here. tt };
-  unfit = λ h. record { by = λ n here. tt };
-}
+changes : (n : ℕ) → Kept (Frames n)
+unfolding copy_pages drop_pages
+changes n = kept_in (CountsFrames n) (record {
+  settles = λ f m here. (settle_fresh f m).frames ∙ here;
+  offers = λ q g write m here. (offer_offered q g write m).stay.frames ∙ here;
+  stores = λ pa width value m here. length-set m.ram (frame_of pa) _ ∙ here;
+  writes = λ plain m here. here;
+  copies = λ d from to m here. here;
+  drops = λ d resource m here. here;
+})
 
 -- the memory in which a step asks for a page
 asks_frames : (n : ℕ) (d : Domain) (c : Context) (begun : World) (va : ℕ) (kind : Kind) (w : World) →
@@ -160,18 +131,18 @@ asks_frames : (n : ℕ) (d : Domain) (c : Context) (begun : World) (va : ℕ) (k
 asks_frames n d c begun va kind w (Fetches plain at is same) here = subst (HasFrames n) (sym same) here
 asks_frames n d c begun va kind w (LoadsAt word i ex decodes rd width signed does is) here =
     subst (λ (t : Told Answer). HasFrames n t.world) ex.granted
-    ((keeps_reach Frames changes ex.page c.pc Fetch begun).by n here)
+    ((keeps_reach (Frames n) (changes n) ex.page c.pc Fetch begun).by here)
 asks_frames n d c begun va kind w (StoresAt word i ex decodes width value does is) here =
     subst (λ (t : Told Answer). HasFrames n t.world) ex.granted
-    ((keeps_reach Frames changes ex.page c.pc Fetch begun).by n here)
+    ((keeps_reach (Frames n) (changes n) ex.page c.pc Fetch begun).by here)
 asks_frames n d c begun va kind w (AtomicAt word a ex decodes at aligned is) here =
     subst (λ (t : Told Answer). HasFrames n t.world) ex.granted
-    ((keeps_reach Frames changes ex.page c.pc Fetch begun).by n here)
+    ((keeps_reach (Frames n) (changes n) ex.page c.pc Fetch begun).by here)
 asks_frames n d c begun va kind w (CopiesFrom done phase more at plain is same) here =
     subst (HasFrames n) (sym same) here
 asks_frames n d c begun va kind w (CopiesTo done total byte phase more at plain got is) here =
     subst (λ (t : Told Answer). HasFrames n t.world) got
-    ((keeps_get Frames (replies_of Frames changes) (byte_address (area c) done) 1 begun).by n here)
+    ((keeps_get (Frames n) (replies_of (Frames n) (changes n)) (byte_address (area c) done) 1 begun).by here)
 
 -- The law.
 
@@ -195,7 +166,7 @@ module _ (b : Bundle) (from : Beginning) (budget : ℕ) (r : Run) (grammar : IsI
         counted.frames in
         let pa : ℕ = p.finds.walked.pa in
         let found = subst (λ (t : Told Walk). HasFrames n t.world) p.finds.leads
-        ((keeps_led_inside Frames (opens_of Frames changes) p.va p.kind (Cloaked p.at)).by n at) in
+        ((keeps_led_inside (Frames n) (opens_of (Frames n) (changes n)) p.va p.kind (Cloaked p.at)).by at) in
         let led = ((leads_inside p.va p.kind (Cloaked p.at)).inside p.finds.walked
         (ap (λ (t : Told Walk). t.answer) p.finds.leads)).0 in
         let inside : is_in_ram p.finds.found.memory.ram pa ≡ true =

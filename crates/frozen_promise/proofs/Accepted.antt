@@ -26,7 +26,8 @@ use Rattle.cloak_model.specs.Run.{NoClashYet}
 use Rattle.frozen_promise.specs.Accepted.{FailedToRead, FailedToWrite, GoesOnUnlessFailed, HasGoneOn, IsFromOutside, LackedMemory, SavedStatesAreAccepted}
 use Rattle.frozen_promise.specs.OneRun.{ShareFiles, TwoCommands}
 use Rattle.frozen_promise.proofs.Refused.{Named, refused_outside, thaw_of}
-use Rattle.frozen_promise.proofs.Sources.{as_freeze, one_image, steps_in}
+use Rattle.frozen_promise.proofs.Sources.{one_image, steps_in}
+use Rattle.frozen_commands.proofs.SameWords.{as_freeze}
 
 -- What was saved is what is named.
 

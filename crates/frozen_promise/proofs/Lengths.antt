@@ -25,6 +25,7 @@ use Rattle.frozen_state.specs.declared.frozen.FrozenPage.{FrozenPage}
 use Rattle.frozen_state.specs.FrozenState.{body_bytes, domain_bytes, frame_bytes, frozen_bytes, frozen_magic, hart_bytes, maybe_word, meta_bytes, owed_bytes, recorded_bytes, violation_bytes}
 use Rattle.frozen_state.specs.Ranges.{IsInRange}
 use Rattle.command_parts.specs.Thawing.{largest_state}
+use Rattle.cloak_model.proofs.Lengths.{length-words}
 
 -- Lists.
 
@@ -48,13 +49,6 @@ pieces_of {X} P bytes most of xs each = pieces bytes most xs (few xs each)
     few : (ys : List X) → AllByRecursion P ys → AllByRecursion (λ y. length (bytes y) ≤ most) ys
     few [] each = each
     few (y ∷ ys) each = (of y each.0, few ys each.1)
-
-words : (ws : List ℕ) → length (flat_map word ws) ≡ 4 * length ws
-words [] = refl
-words (w ∷ ws) =
-    let both = length-append (word w) (flat_map word ws) in
-    let one : length (word w) ≡ 4 = refl in
-    let rest = words ws in omega (arith, both, one, rest)
 
 -- Parts.
 
@@ -103,10 +97,10 @@ hart h shape =
     let second = length-append regs (csrs ++ mark) in
     let third = length-append csrs mark in
     let inside = word_or_none h.inside in
-    let all_regs = words (drop 1 h.regs) in
+    let all_regs = length-words (drop 1 h.regs) in
     let left = length-drop 1 h.regs in
     let registers = shape.registers in
-    let all_csrs = words h.csrs in
+    let all_csrs = length-words h.csrs in
     let nine = shape.nine in
     let marked = word_or_none h.mark in
     omega (arith, first, second, third, inside, all_regs, left, registers, all_csrs, nine, marked)

@@ -27,13 +27,14 @@ use Rattle.run_command.specs.Running.{status_of}
 use Rattle.cloak_model.specs.Run.{NoClash, NoClashYet}
 use Rattle.run_command.proofs.ClashFacts.{run_unclashed, turns_unclashed}
 use Rattle.thaw_law.proofs.FreezeThaw.{runs_are_first_and_rest}
-use Rattle.thaw_law.proofs.Pieces.{shown-last}
+use Rattle.cloak_model.proofs.Pieces.{shown-last}
 use Rattle.record_law.proofs.Pieces.{joint_after-append}
 use Rattle.thaw_law.proofs.TwoParts.{runs_go_on, stopped_runs_stay}
-use Rattle.thaw_law.specs.TwoParts.{moment_after}
 use Rattle.frozen_promise.specs.OneRun.{IsOneRun, PartsAreOneRun}
-use Rattle.frozen_promise.proofs.Sources.{as_freeze, as_thaw, one_image, steps_in}
+use Rattle.frozen_promise.proofs.Sources.{one_image, steps_in}
 use Rattle.frozen_commands.proofs.StateFacts.{none_left}
+use Rattle.frozen_commands.proofs.SameWords.{as_freeze, as_thaw}
+use Rattle.record_law.specs.Steps.{moment_after}
 
 -- Both runs open alike.
 

@@ -1,6 +1,6 @@
 -- If the words of `thaw` name a state that was saved, its image and its stream, they are refused for no other reason
 -- than that a file cannot be read, or that there is not enough memory.
-use Rattle.std.proofs.Common.{◌≡◌, ◌<◌, ◌≤◌, ◌∙◌, ◌+◌, ◌⊎◌, ℕ, List, length, Option, Some, None, Result, sym, ap, subst, arith, inl, inr}
+use Rattle.std.proofs.Common.{◌≡◌, ◌<◌, ◌≤◌, ◌∙◌, ◌+◌, ◌⊎◌, ℕ, List, length, Option, Some, None, sym, ap, subst, arith, inl, inr}
 use Rattle.std.specs.Prelude.{IfSome}
 use Rattle.sha2.proofs.Facts256.{length-sha256}
 use Rattle.sha2.specs.Sha256.{sha256}
@@ -8,7 +8,7 @@ use Rattle.cloak_base.specs.Random.{Random}
 use Rattle.cloak_model.specs.declared.fault.BundleFault.{BundleFault}
 use Rattle.cloak_model.specs.declared.fault.StoreFault.{StoreFault}
 use Rattle.cloak_model.specs.declared.image.Bundle.{Bundle}
-use Rattle.cloak_model.specs.Bundle.{IsBundle, IsBundleIn}
+use Rattle.cloak_model.specs.Bundle.{IsBundleIn}
 use Rattle.cloak_model.specs.BundleFault.{bundle_fault}
 use Rattle.cloak_model.specs.Opening.{Lack}
 use Rattle.cloak_model.specs.Parts.{Joint}
@@ -22,9 +22,6 @@ use Rattle.frozen_state.specs.declared.frozen.Frozen.{Frozen}
 use Rattle.frozen_state.specs.Ranges.{IsFrozen}
 use Rattle.frozen_state.specs.Refusing.{HasChangedDomain, HasChangedFrame, HasWrongPage, LacksDraws, LacksKeys}
 use Rattle.frozen_state.specs.Thawing.{CanGoOn}
-use Rattle.guest_bundle.proofs.Faulty.{bundle_tells}
-use Rattle.guest_bundle.proofs.Only.{bundle_again}
-use Rattle.guest_bundle.proofs.Tells.{Tells}
 use Rattle.command_parts.specs.declared.refusal.Refusal.{Refusal}
 use Rattle.command_parts.specs.declared.refusal.Refusal.TheVariants as refusal
 use Rattle.command_parts.specs.Bundles.{IsInFileAs}
@@ -37,8 +34,10 @@ use Rattle.command_parts.specs.Thawing.{AsksThawed, IsBadState, IsTooLong, IsUnt
 use Rattle.command_parts.proofs.StreamFacts.{same_stream}
 use Rattle.frozen_promise.specs.Accepted.{IsFromOutside}
 use Rattle.frozen_promise.proofs.NoFault.{saved_without_fault}
-use Rattle.frozen_promise.proofs.Sources.{as_thaw, one_image}
+use Rattle.frozen_promise.proofs.Sources.{one_image}
 use Rattle.frozen_promise.proofs.Whole.{has_draws, has_keys, no_domain_changed, no_frame_changed, no_page_wrong, not_none}
+use Rattle.frozen_commands.proofs.SameWords.{as_thaw}
+use Rattle.guest_bundle.proofs.Faultless.{no_fault}
 
 -- Words of `thaw` that name an image, a stream, and the file of a state of this image. The state is one of a machine
 -- that can go on, and the steps that are asked for are left.
@@ -109,20 +108,12 @@ not_too_long {S} {before} {after} {fault} n why =
 
 -- The files.
 
--- a bundle is no file with a fault
-no_bundle_fault : (bytes : List ℕ) (b : Bundle) (fault : BundleFault) → IsBundle bytes b →
-    bundle_fault bytes ≡ Some fault → ⊥
-no_bundle_fault bytes b fault is faulty =
-    not_none fault faulty
-    (subst (λ (r : Result Bundle BundleFault). Tells r (bundle_fault bytes)) (bundle_again bytes b is)
-    (bundle_tells bytes))
-
 not_bad_bundle : {S : Type 0} {before after : FilesOutside S} {fault : BundleFault} (n : Named before.held) →
     IsBadBundle (thaw_of n) fault before after → ⊥
 not_bad_bundle {S} {before} {after} {fault} n why =
     let asks : Some n.names.bundle ≡ Some why.bundle_name = why.asks in
     let name : why.bundle_name ≡ n.names.bundle = cc in
-    no_bundle_fault n.image n.bundle fault (n.version, n.is_image)
+    no_fault n.image n.bundle fault (n.version, n.is_image)
     (subst (λ (told : Option (List ℕ)). IfSome told (λ bytes. bundle_fault bytes ≡ Some fault))
     (ap before.held name ∙ n.image_told) why.first_fault)
 

@@ -15,24 +15,6 @@ use Rattle.command_parts.specs.Bundles.{IsInFileAs}
 
 -- The words say what is asked for.
 
-pub as_freeze : (P : spec.FreezeNames → ℕ → spec.Randomness → Type 0) (n m : spec.FreezeNames) (k l : ℕ)
-    (x y : spec.Randomness) → spec.Freeze n k x ≡ spec.Freeze m l y → P m l y → P n k x
-as_freeze P n m k l x y is p =
-    let names : m ≡ n = cc in
-    let steps : l ≡ k = cc in
-    let from : y ≡ x = cc in
-    subst (λ (a : spec.FreezeNames). P a k x) names
-    (subst (λ (a : ℕ). P m a x) steps (subst (λ (a : spec.Randomness). P m l a) from p))
-
-pub as_thaw : (P : spec.ThawNames → ℕ → spec.Randomness → Type 0) (n m : spec.ThawNames) (k l : ℕ)
-    (x y : spec.Randomness) → spec.Thaw n k x ≡ spec.Thaw m l y → P m l y → P n k x
-as_thaw P n m k l x y is p =
-    let names : m ≡ n = cc in
-    let steps : l ≡ k = cc in
-    let from : y ≡ x = cc in
-    subst (λ (a : spec.ThawNames). P a k x) names
-    (subst (λ (a : ℕ). P m a x) steps (subst (λ (a : spec.Randomness). P m l a) from p))
-
 -- An image that is told is one.
 pub one_image : {version other : ℕ} {told : Option (List ℕ)} {image bytes : List ℕ} {b c : Bundle} → told ≡ Some image →
     IsBundleIn version image b → IsInFileAs other told bytes c → (bytes ≡ image) × (c ≡ b)

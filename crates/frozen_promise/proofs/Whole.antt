@@ -18,8 +18,10 @@ use Rattle.frozen_state.specs.Refusing.{HasChangedDomain, HasChangedFrame, HasWr
 use Rattle.frozen_state.specs.Thawing.{CanGoOn, keys_and_rest}
 use Rattle.joint_machine.proofs.GoesOn.{program_of}
 use Rattle.joint_machine.proofs.Shown.{DrewOne, IsFrameShown, ShowsAll, domain_seen, frame_seen, shows_all}
-use Rattle.joint_machine.proofs.Thaws.{all_get, get_low, get_there, some_there}
+use Rattle.joint_machine.proofs.Thaws.{get_there, some_there}
 use Rattle.io_traits.specs.Skipping.{skipped}
+use Rattle.std.proofs.lemmas.Option.{slice_get_within}
+use Rattle.resource_map.proofs.Lists.{All-slice_get}
 
 pub not_none : {A : Type 0} {o : Option A} (x : A) → o ≡ Some x → o ≡ None → ⊥
 not_none x is none = (let clash : None ≡ Some x = sym none ∙ is in cc)
@@ -82,13 +84,13 @@ whole_frames {j} {f} shows k none low =
 
 none_changed : {A : Type 0} (IsWhole : A → Type 0) (xs : List A) (n : ℕ) → All IsWhole xs →
     IsFirstChanged IsWhole xs n → ⊥
-none_changed IsWhole xs n whole first = first.changed (all_get IsWhole xs n first.x whole first.there)
+none_changed IsWhole xs n whole first = first.changed (All-slice_get IsWhole xs n first.x whole first.there)
 
 none_wrong : {b : Bundle} {stream : Random} {f : Frozen} {j : Joint} {at : ℕ} → CanGoOn b stream f j →
     IsFirstWrong j.memory.ledger.keys f at → ⊥
 none_wrong {b} {stream} {f} {j} {at} on first =
     let shows = shows_all j f f.steps on.ivs on.state in
-    let domain = domain_there shows first.d (get_low f.domains first.d first.shown first.there) in
+    let domain = domain_there shows first.d (slice_get_within f.domains first.d first.shown first.there) in
     first.wrong domain.0.control
     (program_of b stream f j j.memory.ledger.keys first.d domain.0 first.shown on shows refl domain.1 first.there)
 

@@ -1,16 +1,16 @@
 -- What a pen added, piece by piece.
-use Rattle.std.proofs.Common.{◌≡◌, ◌<◌, ◌+◌, ◌⊎◌, inl, inr, ℕ, Bool, true, false, List, [], ◌∷◌, ◌++◌, length, take, get_or, ap, refl, sym, ◌∙◌, subst, append_assoc, arith}
+use Rattle.std.proofs.Common.{◌≡◌, ◌<◌, ◌+◌, ℕ, Bool, true, false, List, [], ◌∷◌, ◌++◌, length, take, get_or, ap, refl, sym, ◌∙◌, subst, append_assoc, arith}
 use Rattle.std.proofs.Common.{Option, Result, Ok, Err, OnOk, OnErr, is_err}
-use Rattle.std.proofs.lemmas.List.{append-nil, flat_map_more, take_all, take_more}
+use Rattle.std.proofs.lemmas.List.{flat_map_more, take_more}
 use Rattle.std.specs.List.{flat_map}
 use Rattle.sha2.specs.Hashers.{Holds256}
 use Rattle.sha2.specs.Sha256.{sha256}
 use Rattle.cloak_base.specs.declared.causes.Failed.{Failed}
 use Rattle.io_traits.specs.declared.shelf.Shelf as shelves
-use Rattle.io_traits.specs.Told.{Tells, Grows, GrowsByFront, Rose, Counts, SameFiles, OtherFiles}
+use Rattle.io_traits.specs.Told.{Tells, Grows, GrowsByFront, Counts, OtherFiles}
 use Rattle.io_traits.proofs.ToldFacts.{Grows-append, Grows-none, GrowsByFront-append, GrowsByFront-first, Rose-after}
 use Rattle.frozen_run.specs.declared.pen.Pen.{Pen}
-use Rattle.frozen_run.specs.Writing.{Adds, HasAdded, AddsMore, Saves, TellsFront}
+use Rattle.frozen_run.specs.Writing.{Adds, HasAdded, AddsMore, TellsFront}
 
 -- Shelves.
 
@@ -78,23 +78,6 @@ adds_none of_shelf failed name s well = record {
 }
 
 -- Pens.
-
-pub gives_none : {S : Type 0} (of_shelf : shelves.Ghosts S) (pen : Pen S) → AddsMore of_shelf pen pen []
-gives_none of_shelf pen = record {
-  name = refl;
-  more = λ start before had. subst (λ (l : List ℕ). HasAdded of_shelf start pen l) (sym (append-nil before)) had;
-}
-
--- a pen that failed adds nothing of what comes
-pub gives_nothing : {S : Type 0} (of_shelf : shelves.Ghosts S) (pen : Pen S) (bytes : List ℕ) → pen.failed ≡ true →
-    AddsMore of_shelf pen pen bytes
-gives_nothing of_shelf pen bytes ill = record {
-  name = refl;
-  more = λ start before had. record {
-    adds = adds_front of_shelf pen.failed pen.name.now start pen.shelf.now before bytes ill had.adds;
-    digest = λ well. absurd (let clash : true ≡ false = sym ill ∙ well in cc);
-  };
-}
 
 -- one that did not adds a piece
 pub gives_piece : {S : Type 0} (of_shelf : shelves.Ghosts S) (old new : Pen S) (bytes : List ℕ) → old.failed ≡ false →
@@ -174,67 +157,9 @@ at_end {S} {of_shelf} {failed} {name} {start} {now} {end} {bytes} same adds = rw
 front_none : (told : Option (List ℕ)) (bytes : List ℕ) → Tells told [] → TellsFront told bytes
 front_none told bytes tells = (0, omega arith, tells)
 
--- the file could not be begun
-pub saves_unbegun : {S : Type 0} (of_shelf : shelves.Ghosts S) (name : List ℕ) (before after : S) (bytes : List ℕ) →
-    (of_shelf.held after name ≡ of_shelf.held before name) ⊎ Tells (of_shelf.held after name) [] →
-    OtherFiles name (of_shelf.held before) (of_shelf.held after) →
-    Rose (of_shelf.writing_faults before) (of_shelf.writing_faults after) →
-    of_shelf.reading_faults after ≡ of_shelf.reading_faults before → Saves of_shelf true name before after bytes
-saves_unbegun of_shelf name before after bytes begun others rose reading = record {
-  whole = λ well. absurd (let clash : true ≡ false = well in cc);
-  front = λ ill. elim begun [
-    | inl same ↦ inl same
-    | inr tells ↦ inr (front_none (of_shelf.held after name) bytes tells)
-  ];
-  others = others;
-  no_fault = λ well. absurd (let clash : true ≡ false = well in cc);
-  fault = λ ill. rose;
-  reading = reading;
-}
-
 -- What a beginning did.
 pub record Begins {S : Type 0} (of_shelf : shelves.Ghosts S) (name : List ℕ) (before after : S) : Type 0 where
   pub empty : Tells (of_shelf.held after name) []
   pub others : OtherFiles name (of_shelf.held before) (of_shelf.held after)
   pub writing : of_shelf.writing_faults after ≡ of_shelf.writing_faults before
   pub reading : of_shelf.reading_faults after ≡ of_shelf.reading_faults before
-
--- after a beginning bytes were added, or a front of them
-pub saves_added : {S : Type 0} (of_shelf : shelves.Ghosts S) (failed : Bool) (name : List ℕ) (before mid after : S)
-    (bytes : List ℕ) → Begins of_shelf name before mid → Adds of_shelf failed name mid after bytes →
-    Saves of_shelf failed name before after bytes
-saves_added of_shelf failed name before mid after bytes begins adds = record {
-  whole = λ well. adds.whole well [] begins.empty;
-  front = λ ill. inr (adds.front ill [] begins.empty);
-  others = λ other apart. adds.others other apart ∙ begins.others other apart;
-  no_fault = λ well. adds.no_fault well ∙ begins.writing;
-  fault = λ ill. Rose-after _ _ _ begins.writing (adds.fault ill);
-  reading = adds.reading ∙ begins.reading;
-}
-
--- and then all was to be written out
-pub saves_flushed : {S : Type 0} (of_shelf : shelves.Ghosts S) (was : Bool) (name : List ℕ) (before mid after : S)
-    (bytes : List ℕ) (r : Result Unit Failed) → was ≡ false → Saves of_shelf was name before mid bytes →
-    SameFiles (of_shelf.held mid) (of_shelf.held after) →
-    Counts (of_shelf.writing_faults mid) (of_shelf.writing_faults after) r →
-    of_shelf.reading_faults after ≡ of_shelf.reading_faults mid → Saves of_shelf (is_err r) name before after bytes
-saves_flushed of_shelf was name before mid after bytes (Ok u) well saves same writing reading = record {
-  whole = λ ok. rw (same name) (saves.whole well);
-  front = λ ill. absurd (let clash : false ≡ true = ill in cc);
-  others = λ other apart. same other ∙ saves.others other apart;
-  no_fault = λ ok. writing ∙ saves.no_fault well;
-  fault = λ ill. absurd (let clash : false ≡ true = ill in cc);
-  reading = reading ∙ saves.reading;
-}
-saves_flushed of_shelf was name before mid after bytes (Err e) well saves same writing reading = record {
-  whole = λ ok. absurd (let clash : true ≡ false = ok in cc);
-  front = λ ill. inr (
-    length bytes,
-    (omega arith),
-    rw (same name) (subst (λ (l : List ℕ). Tells (of_shelf.held mid name) l) (sym (take_all (length bytes) bytes (omega arith))) (saves.whole well)),
-  );
-  others = λ other apart. same other ∙ saves.others other apart;
-  no_fault = λ ok. absurd (let clash : true ≡ false = ok in cc);
-  fault = λ ill. Rose-after _ _ _ (saves.no_fault well) writing;
-  reading = reading ∙ saves.reading;
-}

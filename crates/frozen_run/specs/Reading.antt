@@ -20,11 +20,6 @@ use Rattle.frozen_state.specs.declared.frozen.FrozenHart.{FrozenHart}
 use Rattle.frozen_state.specs.declared.frozen.FrozenPage.{FrozenPage}
 use Rattle.frozen_state.specs.FrozenFault.{FrozenField, any_in, byte_below, page_at, page_fields, owes_page, after_frame, after_maybe, after_violation, page_from, after_domain, regs_from, csrs_from, mark_from, after_hart, harts_from, disk_from, frames_from, count_at}
 
--- the fault that was returned, if there was one
-abbrev pub fault_of : {A F : Type 0} → Result A F → Option F
-fault_of (Ok x) = None
-fault_of (Err fault) = Some fault
-
 -- A function that takes memory returned this first fault, or none if there is none, unless memory ran out.
 abbrev pub TellsFirst : {A : Type 0} → Result A FrozenFault → Option FrozenFault → Type 0
 TellsFirst (Ok x) first = first ≡ None

@@ -10,7 +10,8 @@ ghost use Rattle.frozen_state.specs.declared.frozen.Frozen.{Frozen};
 ghost use Rattle.frozen_state.specs.FrozenFault as format;
 ghost use Rattle.frozen_state.specs.FrozenFault.{form_fault, frozen_fault};
 ghost use Rattle.frozen_state.specs.Ranges.{IsFrozen};
-ghost use Rattle.frozen_run.specs.Reading.{TellsFirst, fault_of, frozen_in};
+ghost use Rattle.field_facts.specs.Faults.{fault_of};
+ghost use Rattle.frozen_run.specs.Reading.{TellsFirst, frozen_in};
 ghost use Rattle.frozen_run.specs.Shapes.{HasShape};
 
 mod domains;

@@ -23,10 +23,11 @@ use Rattle.guest_bundle.specs.declared.header.Header.{Header}
 use Rattle.guest_bundle.specs.Fields.{◌>>=◌, bytes_at, pages_at, number_at, count_at, entry_at}
 use Rattle.guest_bundle.specs.Reading.{version_at, header_at, turn_at, segment_at, segment_size, program_at}
 use Rattle.guest_bundle.specs.Reading.{program_size, parts_at, bundle_of, bundle_at}
-use Rattle.guest_bundle.proofs.Steps.{bind_ok, refused_not, passed, ok_is, IsBytes, KeyFits}
+use Rattle.guest_bundle.proofs.Steps.{bind_ok, refused_not, passed, ok_is, KeyFits}
 use Rattle.guest_bundle.proofs.Lengths.{first_shortest}
 use Rattle.guest_bundle.proofs.Takes.{bytes_take, pages_take, number_takes, count_takes, entry_takes, turn_takes}
 use Rattle.guest_bundle.proofs.Takes.{segment_takes, program_takes, parts_take}
+use Rattle.cloak_base.proofs.Lists.{IsBytes}
 
 -- what a version that was read says
 pub record VersionSteps (file : List ℕ) (v : ℕ) : Type 0 where

@@ -6,14 +6,10 @@ use Rattle.std.proofs.lemmas.Grind.{flat_map-append}
 use Rattle.std.proofs.lemmas.List.{take-append-drop, flat_map_more}
 use Rattle.std.proofs.lemmas.List.Concat.{flat_map-cons}
 use Rattle.cloak_model.specs.Bundle.{segment_bytes, program_bytes, bundle_bytes, IsInGrammar}
-use Rattle.cloak_model.specs.declared.image.Segment.{Segment}
 use Rattle.cloak_model.specs.declared.image.Program.{Program}
 use Rattle.cloak_model.specs.declared.image.Bundle.{Bundle}
 use Rattle.guest_bundle.specs.Places.{key_size}
 use Rattle.guest_bundle.proofs.Steps.{key_text, key_text-length}
-
-pub segment_bytes-length : (s : Segment) → length (segment_bytes s) ≡ 8 + length s.bytes
-segment_bytes-length s = omega arith
 
 pub program_bytes-length : (version : ℕ) (p : Program) →
     length (program_bytes version p) ≡ 20 + key_size (eqb version 2) + length p.bytes

@@ -6,6 +6,7 @@ pub mod Lengths
 pub mod Found
 pub mod Again
 pub mod Only
+pub mod Faultless
 pub mod Tells
 pub mod Faulty
 pub mod Versions

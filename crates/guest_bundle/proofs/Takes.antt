@@ -21,8 +21,9 @@ use Rattle.guest_bundle.specs.Reading.{turn_at, segment_at, segment_size, place_
 use Rattle.guest_bundle.specs.Reading.{program_size, parts_at}
 use Rattle.guest_bundle.specs.Places.{key_size}
 use Rattle.cloak_model.specs.BundleFault.{lies_in_ram, is_base_of}
-use Rattle.guest_bundle.proofs.Steps.{bind_ok, refused_not, passed, ok_is, IsBytes, IsBytes-drop, IsBytes-take}
+use Rattle.guest_bundle.proofs.Steps.{bind_ok, refused_not, passed, ok_is}
 use Rattle.guest_bundle.proofs.Steps.{KeyFits, key_small, key_text}
+use Rattle.cloak_base.proofs.Lists.{IsBytes-drop, IsBytes-take, IsBytes}
 
 pub bytes_take : (file : List ℕ) (at n : ℕ) (x : List ℕ) → bytes_at file at n ≡ Ok x →
     Stands file at x (at + n) × (length x ≡ n)

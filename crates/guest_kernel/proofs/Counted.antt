@@ -1,27 +1,12 @@
 -- Lists of what the numbers below a bound give.
-use Rattle.std.proofs.Common.{◌≡◌, ◌<◌, ◌+◌, ◌*◌, ℕ, zero, suc, List, [], ◌∷◌, ◌++◌, length, ap, ◌∙◌, refl, sym, arith, add-one, length-append}
+use Rattle.std.proofs.Common.{◌≡◌, ◌<◌, ◌*◌, ℕ, zero, suc, List, [], ◌∷◌, length, ap, ◌∙◌, refl, sym, arith, length-append}
 use Rattle.std.specs.Prelude.{map, All}
 use Rattle.std.specs.List.{flat_map}
-use Rattle.std.proofs.lemmas.List.{map-append, length-map}
+use Rattle.std.proofs.lemmas.List.{map-append}
 use Rattle.std.proofs.lemmas.List.Elements.{All-nil, All-push, All-same}
 use Rattle.std.proofs.lemmas.Grind.{flat_map-append}
 use native.Mathlib.Nat.{zero-mul, suc-mul}
 use Rattle.cloak_model.specs.Opening.{numbers_below}
-
--- one number more
-pub map-more : {X : Type 0} (f : ℕ → X) (n : ℕ) →
-    map f (numbers_below n) ++ f n ∷ [] ≡ map f (numbers_below (n + 1))
-map-more f n =
-    sym (map-append f (numbers_below n) (n ∷ [])) ∙ ap (λ (k : ℕ). map f (numbers_below k)) (sym (add-one n))
-
-pub length-numbers_below : (n : ℕ) → length (numbers_below n) ≡ n
-length-numbers_below zero = refl
-length-numbers_below (suc n) =
-    let both = length-append (numbers_below n) (n ∷ []) in
-    let rest = length-numbers_below n in omega (arith, both, rest)
-
-pub length-map_below : {X : Type 0} (f : ℕ → X) (n : ℕ) → length (map f (numbers_below n)) ≡ n
-length-map_below f n = length-map (numbers_below n) f ∙ length-numbers_below n
 
 -- what holds of each number's holds of all
 pub All-below : {X : Type 0} (P : X → Type 0) (f : ℕ → X) (n : ℕ) → ((k : ℕ) → k < n → P (f k)) →

@@ -14,9 +14,11 @@ use Rattle.cloak_model.specs.Bundle.{segment_bytes, program_bytes, bundle_bytes,
 use Rattle.guest_kernel.specs.Layout.{kernel_words, kernel_address, boot_table_address, demo_frame}
 use Rattle.guest_kernel.specs.Drawing.{hart_count, program_count, hart_of_turn, schedule_of, rounds_of}
 use Rattle.guest_kernel.specs.Generated.{words_segment, boot_table, segments_of, demo_program, demo_programs, generated}
-use Rattle.guest_kernel.proofs.Counted.{length-map_below, All-below, length-flat_map_below}
+use Rattle.guest_kernel.proofs.Counted.{All-below, length-flat_map_below}
 use Rattle.guest_kernel.proofs.Drawn.{hart_of_turn-lt}
-use Rattle.guest_kernel.proofs.Lengths.{length-words, length-kernel_words, length-demo_bytes}
+use Rattle.guest_kernel.proofs.Lengths.{length-kernel_words, length-demo_bytes}
+use Rattle.cloak_model.proofs.Opening.{length-map_below}
+use Rattle.cloak_model.proofs.Lengths.{length-words, length-segment_bytes}
 
 -- the file's front has 40 bytes, whatever its numbers
 length-front : (version : ℕ) (b : Bundle) (rest : List ℕ) →
@@ -39,9 +41,6 @@ length-bundle_bytes version b =
     let two = length-append segments (k.disk ++ programs) in
     let three = length-append k.disk programs in
     length-front version b (k.schedule ++ (segments ++ (k.disk ++ programs))) ∙ omega (arith, one, two, three)
-
-length-segment_bytes : (s : Segment) → length (segment_bytes s) ≡ 8 + length s.bytes
-length-segment_bytes s = omega arith
 
 length-program_bytes : (d rounds : ℕ) → length (program_bytes 2 (demo_program d rounds)) ≡ 4120
 length-program_bytes d rounds = let page = length-demo_bytes d rounds in omega (arith, page)

@@ -1,5 +1,5 @@
 -- What is made of words, and how long it is.
-use Rattle.std.proofs.Common.{◌≡◌, ◌-◌, ◌*◌, ℕ, List, [], ◌∷◌, ◌++◌, length, take, ap, ◌∙◌, refl, sym, arith, length-append}
+use Rattle.std.proofs.Common.{◌≡◌, ◌-◌, ℕ, List, [], ◌∷◌, ◌++◌, length, take, ap, ◌∙◌, refl, sym, arith, length-append}
 use Rattle.std.specs.Prelude.{replicate}
 use Rattle.std.specs.List.{flat_map}
 use Rattle.std.proofs.lemmas.List.{length-replicate, length-take-le, take_all}
@@ -8,13 +8,7 @@ use Rattle.cloak_model.specs.Bits.{word}
 use Rattle.cloak_model.specs.declared.image.Program.{Program}
 use Rattle.guest_kernel.specs.Layout.{kernel_words, demo_words, demo_frame, demo_start}
 use Rattle.guest_kernel.specs.Generated.{demo_code, demo_program}
-
-pub length-words : (words : List ℕ) → length (flat_map word words) ≡ 4 * length words
-length-words [] = refl
-length-words (w ∷ words) =
-    let both = length-append (word w) (flat_map word words) in
-    let one : length (word w) ≡ 4 = refl in
-    let rest = length-words words in omega (arith, both, one, rest)
+use Rattle.cloak_model.proofs.Lengths.{length-words}
 
 pub length-kernel_words : length kernel_words ≡ 174
 unfolding kernel_words

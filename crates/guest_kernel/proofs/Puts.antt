@@ -1,31 +1,20 @@
 -- A line that is put piece by piece.
-use Rattle.std.proofs.Common.{◌≡◌, ℕ, List, ◌++◌, length, codes, ◌∙◌, ap, sym, subst, Option, Result, Ok, Err, OnOk, OnErr, IsErrAnd}
+use Rattle.std.proofs.Common.{◌≡◌, ℕ, List, ◌++◌, length, codes, ap, sym, subst, Result, Ok, Err, OnOk, OnErr, IsErrAnd}
 use Rattle.cloak_base.specs.declared.causes.Failed.{Failed}
 use Rattle.io_traits.specs.declared.sink.Sink.{Ghosts}
-use Rattle.io_traits.specs.Told.{Grows, GrowsByFront, Counts, Puts}
-use Rattle.io_traits.proofs.ToldFacts.{Grows-append, GrowsByFront-append, GrowsByFront-first, Rose-after}
+use Rattle.io_traits.specs.Told.{Grows, GrowsByFront, Counts}
+use Rattle.io_traits.proofs.ToldFacts.{GrowsByFront-first, puts, puts-then}
 use Rattle.cloak_model.specs.Bundle.{bundle_bytes}
 use Rattle.guest_kernel.specs.Drawing.{hart_count, program_count, rounds_of}
 use Rattle.guest_kernel.specs.Generated.{demo_program, generated}
 use Rattle.guest_kernel.specs.Summary.{PutsText, named, image_line, summary_line}
-use Rattle.guest_kernel.proofs.Counted.{length-map_below}
-
-puts : (a b : Option (List ℕ)) (m n : ℕ) (text : List ℕ) (r : Result Unit Failed) → OnOk r (Grows a b text) →
-    OnErr r (GrowsByFront a b text) → Counts m n r → Puts a b m n text r
-puts a b m n text (Ok u) grows front counts = (grows, counts)
-puts a b m n text (Err e) grows front counts = (front, counts)
+use Rattle.cloak_model.proofs.Opening.{length-map_below}
 
 pub text_put : {O : Type 0} (sink : Ghosts O) (a b : O) (text : List ℕ) (r : Result Unit Failed) →
     OnOk r (Grows (sink.taken a) (sink.taken b) text) → OnErr r (GrowsByFront (sink.taken a) (sink.taken b) text) →
     Counts (sink.faults a) (sink.faults b) r → PutsText sink a b text r
 text_put sink a b text r grows front counts =
     record { puts = puts (sink.taken a) (sink.taken b) (sink.faults a) (sink.faults b) text r grows front counts }
-
-puts-then : (a b c : Option (List ℕ)) (m n k : ℕ) (x y : List ℕ) (u : Unit) (r : Result Unit Failed) →
-    Puts a b m n x (Ok u) → Puts b c n k y r → Puts a c m k (x ++ y) r
-puts-then a b c m n k x y u (Ok v) first second = (Grows-append a b c x y first.0 second.0, second.1 ∙ first.1)
-puts-then a b c m n k x y u (Err e) first second =
-    (GrowsByFront-append a b c x y first.0 second.0, Rose-after m n k first.1 second.1)
 
 -- a piece, and then another
 pub then : {O : Type 0} {sink : Ghosts O} {a b c : O} {x y : List ℕ} {u : Unit} {r : Result Unit Failed} →

@@ -4,6 +4,7 @@ use Rattle.std.proofs.lemmas.List.{length-replicate, take-replicate}
 use Rattle.std.specs.List.{list_any}
 use Rattle.std.specs.Option.{is_some}
 use Rattle.cloak_model.specs.Memory.{unless_written}
+use Rattle.cloak_model.proofs.Marks.{still_none}
 
 pub none_left : (marks : List (Option ℕ)) → list_any is_some marks ≡ false → marks ≡ replicate (length marks) None
 none_left [] without = refl
@@ -14,10 +15,6 @@ set-replicate : {A : Type 0} (a : A) (n i : ℕ) → set (replicate n a) i a ≡
 set-replicate a zero i = refl
 set-replicate a (suc n) zero = refl
 set-replicate a (suc n) (suc i) = ap (λ xs. a ∷ xs) (set-replicate a n i)
-
-map-none : (is_written : ℕ → Bool) (harts : ℕ) → map (unless_written is_written) (replicate harts None) ≡ replicate harts None
-map-none is_written zero = refl
-map-none is_written (suc harts) = ap (λ (marks : List (Option ℕ)). None ∷ marks) (map-none is_written harts)
 
 -- nothing ends
 
@@ -30,7 +27,7 @@ pub none_to_end : (is_written : ℕ → Bool) (words marks : List (Option ℕ)) 
     marks ≡ map (unless_written is_written) marks
 none_to_end is_written words marks same is =
     subst (λ (marks : List (Option ℕ)). marks ≡ map (unless_written is_written) marks) same
-    (is ∙ sym (map-none is_written (length words)) ∙ ap (map (unless_written is_written)) (sym is))
+    (is ∙ sym (still_none is_written (length words)) ∙ ap (map (unless_written is_written)) (sym is))
 
 -- as it begins
 

@@ -1,8 +1,6 @@
 -- What a file that was added leaves as it was.
-use Rattle.std.proofs.Common.{◌≡◌, ◌<◌, ℕ, Bool, true, false, cond, List, length, Option, Some, None, Result, refl, subst, sym}
+use Rattle.std.proofs.Common.{◌≡◌, ◌<◌, ℕ, Bool, true, false, cond, length, Option, Some, None, Result, refl, subst, sym}
 use Rattle.std.specs.Prelude.{◌==◌, ◌||◌, ◌+◌, nat_lt, is_none, position, IfErr, IfOk, IfSome}
-use Rattle.std.specs.List.{position_or_len}
-use Rattle.std.proofs.lemmas.Bool.{ltb-true}
 use Rattle.cloak_model.specs.declared.resource.MapFault.{MapFault}
 use Rattle.cloak_model.specs.declared.resource.MapFault.TheVariants.{Full, BadArg}
 use Rattle.cloak_model.specs.declared.resource.Owner.{Owner}
@@ -12,6 +10,7 @@ use Rattle.cloak_model.specs.Resources.{Resources, Mapped, resource_at, pages_of
 use Rattle.cloak_model.specs.Files.{holds_file, file_found, file_resource}
 use Rattle.hypercalls.specs.declared.domain.Domain.{Domain}
 use Rattle.hypercalls.proofs.Freed.{free_file}
+use Rattle.cloak_base.proofs.Lists.{place_below}
 
 -- what was true of resources is true of those after a refusal
 abbrev HoldsIfRefused : (Resources → Type 0) → Mapped ℕ → Type 0
@@ -82,14 +81,6 @@ made_below : (owner : Owner) (pages : ℕ) (place : Option ℕ) (r : Resources) 
 unfolding made_at
 made_below owner pages None r below = tt
 made_below owner pages (Some k) r below = below
-
-place_below : {X : Type 0} (p : X → Bool) (xs : List X) → IfSome (position p xs) (λ k. k < length xs)
-place_below p xs = below_by (nat_lt (position_or_len p xs) (length xs)) refl
-  where
-    below_by : (b : Bool) → nat_lt (position_or_len p xs) (length xs) ≡ b →
-        IfSome (cond b (Some (position_or_len p xs)) None) (λ k. k < length xs)
-    below_by true is = ltb-true (position_or_len p xs) (length xs) is
-    below_by false is = tt
 
 new_below : (owner : Owner) (pages : ℕ) (r : Resources) → IsBelow (length r.held) (new_resource owner pages r).answer
 unfolding new_resource

@@ -7,12 +7,11 @@ use Rattle.cloak_model.specs.Contexts.{Context, Resumed, context_at, with_contex
 use Rattle.cloak_model.specs.declared.context.PageWord.{PageWord}
 use Rattle.cloak_model.specs.Resources.{Resources, started_resources}
 use Rattle.cloak_model.specs.DomainState.{Control}
-use Rattle.cloak_model.specs.Ending.{ended_control}
 use Rattle.cloak_model.specs.Hypercalls.{with_slot}
 use Rattle.resource_map.specs.Kept.{IsInUse}
 use Rattle.resource_map.specs.Owning.{SameSpaces}
 use Rattle.resource_map.proofs.Lists.{get_or-replicate_none}
-use Rattle.hypercalls.specs.Hashing.{HasHart}
+use Rattle.domain_page.specs.Writing.{HasHart}
 use Rattle.cloaked_fork.specs.Homes.{AllInUse}
 use Rattle.cloak_model.specs.Fork.{Spaces}
 use Rattle.cloak_model.specs.Fork as forking
@@ -28,10 +27,10 @@ each_with P (y ∷ xs) (suc i) x holds each zero = each zero
 each_with P (y ∷ xs) (suc i) x holds each (suc k) = each_with P xs i x holds (λ n. each (suc n)) k
 
 no_hart : HasHart None
-no_hart x is = cc
+no_hart = tt
 
 some_hart : (hart : ℕ) → hart < 4 → HasHart (Some (record { 0 = hart }))
-some_hart hart few x is = subst (λ o. IfSome o (λ h. h.0 < 4)) is few
+some_hart hart few = few
 
 some_holds : {A : Type 0} (P : A → Type 0) (o : Option A) (x : A) → o ≡ Some x → IfSome o P → P x
 some_holds P o x is holds = subst (λ o. IfSome o P) is holds
@@ -113,14 +112,6 @@ harts_at_start pc sp (suc slot) = subst (λ o. IfSome o (λ (c : Context). HasHa
 
 pub fits_started : (number pc sp pages base : ℕ) → number < 4 → IsFitting (record { number = number; contexts = started_contexts pc sp; resources = started_resources pages base; ended = false })
 fits_started number pc sp pages base few = record { number = few; spaces = spaces_at_start pc sp pages base; harts = harts_at_start pc sp }
-
--- a program as it ends
-pub fits_nothing : (d : Control) → IsFitting d → IsFitting (ended_control d)
-fits_nothing d fits = record {
-  number = fits.number;
-  spaces = λ slot. subst (λ o. IfSome o (λ (c : Context). IsInUse (ended_control d).resources c.space)) (sym (get_or-replicate_none 8 slot)) tt;
-  harts = λ slot. subst (λ o. IfSome o (λ (c : Context). HasHart c.on)) (sym (get_or-replicate_none 8 slot)) tt;
-}
 
 -- resources change, and the same spaces are in use
 pub fits_with : (d : Control) (r : Resources) → IsFitting d → SameSpaces d.resources r → IsFitting (record d { resources = r })

@@ -1,5 +1,5 @@
 -- Numbers that are free after a hypercall were free before.
-use Rattle.std.proofs.Common.{◌≡◌, ◌∙◌, ℕ, zero, suc, Bool, true, false, cond, List, [], ◌∷◌, Option, Some, None, Ok, Result, refl, slice_index_or, slice_set, ap, subst, sym}
+use Rattle.std.proofs.Common.{◌≡◌, ◌∙◌, ℕ, Bool, true, false, cond, List, Option, Some, None, Ok, Result, refl, ap, subst, sym}
 use Rattle.std.specs.Prelude.{◌==◌, ◌||◌, ◌+◌, not, nat_lt, nat_le, filter, length, position}
 use Rattle.std.specs.List.{list_any}
 use Rattle.cloak_model.specs.declared.resource.Owner.{Owner}
@@ -9,19 +9,12 @@ use Rattle.cloak_model.specs.declared.resource.MapFault.{MapFault}
 use Rattle.cloak_model.specs.declared.resource.MapFault.TheVariants.{Full, BadArg, Overlap, NotFound}
 use Rattle.cloak_model.specs.Resources.{Resources, Mapped, resource_at, regions_in, pages_of, all_pages, first_free, refused, made_at, new_resource, size_for, is_region, overlaps, with_region, with_regions, mapped, map_region, starts_at, unmap_region}
 use Rattle.cloak_model.specs.Files.{holds_file, file_found, file_resource}
-
--- a list with one more in a place has no more free places
-free_with : {A : Type 0} (xs : List (Option A)) (i n : ℕ) (x : A) → slice_index_or (slice_set xs i (Some x)) n None ≡ None → slice_index_or xs n None ≡ None
-free_with [] i n x free = free
-free_with (y ∷ xs) zero zero x free = cc
-free_with (y ∷ xs) zero (suc n) x free = free
-free_with (y ∷ xs) (suc i) zero x free = free
-free_with (y ∷ xs) (suc i) (suc n) x free = free_with xs i n x free
+use Rattle.cloak_base.proofs.Lists.{free_before}
 
 free_made : (owner : Owner) (pages : ℕ) (place : Option ℕ) (r : Resources) (n : ℕ) → resource_at (made_at owner pages place r).resources n ≡ None → resource_at r n ≡ None
 unfolding made_at
 free_made owner pages None r n free = free
-free_made owner pages (Some i) r n free = free_with r.held i n _ free
+free_made owner pages (Some i) r n free = free_before r.held i n _ free
 
 free_if_made : (bad full : Bool) (owner : Owner) (pages : ℕ) (r : Resources) (n : ℕ)
     → resource_at (cond bad (refused BadArg r) (cond full (refused Full r) (made_at owner pages (first_free r.held) r))).resources n ≡ None → resource_at r n ≡ None

@@ -4,12 +4,12 @@ use Rattle.std.specs.List.{flat_map}
 use Rattle.std.proofs.lemmas.List.{append-nil, take_all, take_more_set, length-set}
 use Rattle.std.proofs.lemmas.List.Concat.{flat_map-append}
 use Rattle.cloak_model.specs.DomainState.{load_bytes}
-use Rattle.hypercalls.specs.Writing.{Appends}
-use Rattle.hypercalls.proofs.Lines.{then}
+use Rattle.domain_page.specs.Writing.{Appends}
+use Rattle.domain_page.proofs.Written.{then}
 
 -- a byte that is stored
 one : (xs ys : List ℕ) (i j : ℕ) (x : ℕ) → length ys ≡ length xs → j ≡ i + 1 → j ≤ length xs → Appends ys (slice_set ys i x) i j (x ∷ [])
-one xs ys i j x same next fits = record { end_is = next; text_is = rw next (take_more_set ys i x (omega (arith, same, next))) }
+one xs ys i j x same next fits = record { end_is = next; bytes_are = rw next (take_more_set ys i x (omega (arith, same, next))) }
 
 -- eight bytes that are stored one after another
 pub eight : (xs : List ℕ) (at a b c d e f g h : ℕ) → at + 8 ≤ length xs
@@ -38,7 +38,7 @@ eight xs at a b c d e f g h fits =
     (then (one xs ws (at + 5) (at + 6) f l5 (omega arith) (omega (arith, fits)))
     (then (one xs rs (at + 6) (at + 7) g l6 (omega arith) (omega (arith, fits)))
     (one xs ss (at + 7) (at + 8) h l7 (omega arith) (omega (arith, fits))))))))) in
-    all.text_is
+    all.bytes_are
 
 module _ (taken old new : List ℕ) (place : ℕ) (loads : List (ℕ × ℕ)) (load : ℕ × ℕ)
     (stored : take (8 * place + 8) new ≡ take (8 * place) old ++ load_bytes load) (are : taken ++ take (8 * place) old ≡ flat_map load_bytes loads) where
@@ -62,3 +62,5 @@ module _ (taken old new : List ℕ) (place : ℕ) (loads : List (ℕ × ℕ)) (l
       append-nil (taken ++ new)
       ∙ ap (λ (bytes : List ℕ). taken ++ bytes) (sym (take_all (8 * place + 8) new (omega (arith, whole, last))))
       ∙ one_more
+
+pub ruleset lines = (append_assoc)

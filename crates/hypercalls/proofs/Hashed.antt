@@ -14,10 +14,6 @@ then {a} {b} {c} {x} {y} first second = record {
   holds = λ message held. subst (λ (whole : List ℕ). Holds256 c whole) (append_assoc message x y) (second.holds (message ++ x) (first.holds message held));
 }
 
--- nothing
-pub Takes-none : (a : Sha256) → TakesIn a a []
-Takes-none a = record { holds = λ message held. subst (λ (whole : List ℕ). Holds256 a whole) (sym (append-nil message)) held }
-
 -- the same bytes under another name
 pub bytes_are : {a b : Sha256} {x y : List ℕ} → TakesIn a b x → x ≡ y → TakesIn a b y
 bytes_are {a} {b} {x} {y} takes same = subst (λ (bytes : List ℕ). TakesIn a b bytes) same takes

@@ -1,7 +1,6 @@
 -- What is read of a page fits together.
-use Rattle.std.proofs.Common.{◌≡◌, ◌<◌, ℕ, Bool, List, Option, Some, None, refl, ap, sym, subst}
+use Rattle.std.proofs.Common.{◌≡◌, ◌<◌, ℕ, Bool, List, Option, Some, None, refl, ap, sym}
 use Rattle.std.specs.Prelude.{IfSome}
-use Rattle.cloak_base.specs.declared.names.HartId.{HartId}
 use Rattle.cloak_model.specs.Contexts.{Context, context_at}
 use Rattle.cloak_model.specs.DomainState.{Control}
 use Rattle.cloak_model.specs.Resources.{Resources}
@@ -9,19 +8,16 @@ use Rattle.domain_page.specs.Reading.{IsRead, program_of}
 use Rattle.frozen_state.specs.Limits.{IsContext, KeepsLimits}
 use Rattle.resource_map.specs.Kept.{IsInUse}
 use Rattle.hypercalls.specs.Fitting.{IsFitting}
-use Rattle.hypercalls.specs.Hashing.{HasHart}
+use Rattle.domain_page.specs.Writing.{HasHart}
 use Rattle.hypercalls.specs.Paging.{IsReadAs}
 
 in_use : (r : Resources) (o : Option Context) → IfSome o (IsContext r) → IfSome o (λ c. IsInUse r c.space)
 in_use r None is = tt
 in_use r (Some c) is = is.space
 
-hart_there : (on : Option HartId) → IfSome on (λ hart. hart.0 < 4) → HasHart on
-hart_there on is hart there = subst (λ (o : Option HartId). IfSome o (λ h. h.0 < 4)) there is
-
 on_hart : (r : Resources) (o : Option Context) → IfSome o (IsContext r) → IfSome o (λ c. HasHart c.on)
 on_hart r None is = tt
-on_hart r (Some c) is = hart_there c.on is.hart
+on_hart r (Some c) is = is.hart
 
 pub fits_read : (number : ℕ) (contexts : List (Option Context)) (resources : Resources) (ended : Bool) → number < 4 →
     KeepsLimits (program_of number contexts resources) →

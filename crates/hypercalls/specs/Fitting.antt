@@ -3,7 +3,7 @@ use Rattle.std.specs.Prelude.{ℕ, ◌<◌, List, Option, IfSome}
 use Rattle.cloak_model.specs.Contexts.{Context, context_at}
 use Rattle.cloak_model.specs.DomainState.{Control}
 use Rattle.cloaked_fork.specs.Homes.{AllInUse}
-use Rattle.hypercalls.specs.Hashing.{HasHart}
+use Rattle.domain_page.specs.Writing.{HasHart}
 
 -- each context runs on one of four harts, if on any
 abbrev pub AllOnHarts : List (Option Context) → Type 0

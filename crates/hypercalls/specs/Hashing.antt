@@ -1,10 +1,8 @@
 -- Bytes that are given to a hasher.
-use Rattle.std.specs.Prelude.{ℕ, ◌≡◌, ◌<◌, List, [], ◌∷◌, ◌++◌, length, take, Option}
+use Rattle.std.specs.Prelude.{ℕ, ◌≡◌, ◌<◌, List, [], ◌∷◌, ◌++◌, length, take}
 use Rattle.std.specs.List.{flat_map}
-use Rattle.std.specs.Option.{ForSome}
 use Rattle.sha2.specs.Hashers.{Holds256}
 use Rattle.sha2.specs.declared.Sha256.{Sha256}
-use Rattle.cloak_base.specs.declared.names.HartId.{HartId}
 
 -- after whatever the hasher held it took these bytes
 pub record TakesIn (old new : Sha256) (bytes : List ℕ) : Type 0 where
@@ -14,7 +12,3 @@ pub record TakesIn (old new : Sha256) (bytes : List ℕ) : Type 0 where
 pub record TakesFirst {X : Type 0} (bytes_of : X → List ℕ) (xs : List X) (count n : ℕ) (old new : Sha256) : Type 0 where
   pub takes : TakesIn old new (flat_map bytes_of (take n xs))
   pub counted : 0 < n → length xs ≡ count
-
--- a hart, if there is one, has a number of one byte, which is not that of none
-abbrev pub HasHart : Option HartId → Type 0
-HasHart on = ForSome on (λ hart. hart.0 < 4)

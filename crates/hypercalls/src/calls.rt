@@ -10,6 +10,7 @@ ghost use Rattle.hypercalls.specs.Slots.{context_of};
 ghost use Rattle.cloak_model.specs.Script.{played};
 
 use crate::control::{Control, leave_hart};
+use cloak_base::EXIT;
 use cloak_model::{Begun, Ended, Forked, MapFault, PageSide, Region, Went, Why};
 use cloaked_files::file_resource;
 use cloaked_fork::{end_context, fork_space};
@@ -27,8 +28,6 @@ const FILE: u32 = 0x4f56_0004;
 const THREAD: u32 = 0x4f56_0005;
 
 const FORK: u32 = 0x4f56_0006;
-
-const EXIT: u32 = 0x4f56_0007;
 
 const CALL: u32 = 0x4f56_0008;
 

@@ -1,7 +1,8 @@
 //! The line of a domain in the report.
 ghost use Rattle.std.specs.Prelude.{◌≡◌, ◌≤◌, ◌+◌, length, take, decimal};
 ghost use Rattle.hex.specs.Hex.{encode_lower};
-ghost use Rattle.hypercalls.specs.Writing.{Appends, line_of};
+ghost use Rattle.domain_page.specs.Writing.{Appends};
+ghost use Rattle.hypercalls.specs.Writing.{line_of};
 
 /// Writes a text at a place, and returns the place after it.
 fn append(into: &mut [u8; 256], at: usize, text: &[u8]) -> usize

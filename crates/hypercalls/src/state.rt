@@ -6,12 +6,12 @@ ghost use Rattle.std.specs.Option.{ForSome};
 ghost use Rattle.sha2.specs.Sha256.{sha256};
 ghost use Rattle.cloak_model.specs.Bits.{word};
 ghost use Rattle.cloak_model.specs.DomainState as spec;
-ghost use Rattle.hypercalls.specs.Hashing.{TakesIn, HasHart};
-ghost use Rattle.domain_page.specs.Writing.{told_bytes};
+ghost use Rattle.hypercalls.specs.Hashing.{TakesIn};
+ghost use Rattle.domain_page.specs.Writing.{HasHart, told_bytes};
 
 use crate::control::Control;
-use cloak_base::HartId;
 use cloak_model::{Owner, Phase, Region};
+use domain_page::{hart_byte, phase_numbers};
 use resource_map::Resources;
 use sha2::{Digest, Sha256};
 use thread_context::Context;
@@ -33,29 +33,6 @@ fn put_words(h: &mut Sha256, words: &[u32])
 {
     for w in words {
         put_word(h, *w);
-    }
-}
-
-/// A hart's number, or 255 for none.
-fn hart_byte(on: Option<HartId>) -> u8
-    requires { HasHart on }
-    ensures { result ≡ spec.hart_byte on }
-{
-    match on {
-        Some(hart) => hart.0 as u8,
-        None => 255,
-    }
-}
-
-/// A phase's number, and how much is done of what.
-fn phase_numbers(phase: &Phase) -> (u8, u32, u32)
-    ensures { result.0 ∷ (word result.1 ++ word result.2) ≡ spec.phase_bytes phase.now }
-{
-    match *phase {
-        Phase::Plain => (0, 0, 0),
-        Phase::CopyIn { done } => (1, done, 0),
-        Phase::Waiting => (2, 0, 0),
-        Phase::CopyOut { done, total } => (3, done, total),
     }
 }
 

@@ -18,7 +18,8 @@ use Rattle.command_parts.specs.Refusing.{Refuses}
 use Rattle.command_parts.proofs.FaultFacts.{raised}
 use Rattle.command_parts.proofs.Refused.{IsUnread}
 use Rattle.image_commands.specs.Upgrading.{MakesVersion2, UpgradeAnswers, WritesUpgrade, version_2}
-use Rattle.image_commands.specs.Writing.{FailsToWrite, WritesFile}
+use Rattle.image_commands.specs.Writing.{FailsToWrite}
+use Rattle.command_parts.specs.Files.{WritesFile}
 
 -- The bundle was not read, or there was no memory.
 
@@ -85,8 +86,8 @@ not_made old_name new_name b _ made file files low refuses = absurd made
 -- It was written, or not, seen from before the bundle was read.
 
 writes_since : {S : Type 0} {bytes name : List ℕ} (before mid after : FilesOutside S) → SameFiles before.held mid.held →
-    mid.reading ≡ before.reading → mid.writing ≡ before.writing → WritesFile bytes name mid after →
-    WritesFile bytes name before after
+    mid.reading ≡ before.reading → mid.writing ≡ before.writing → WritesFile name bytes mid after →
+    WritesFile name bytes before after
 writes_since before mid after held reading writing w = record {
   file = w.file;
   others = λ other apart. w.others other apart ∙ held other;

@@ -1,16 +1,9 @@
 -- What becomes of files and output as a file is written, and then a line is shown.
 use Rattle.std.specs.Prelude.{ℕ, ◌≡◌, ◌⊎◌, List}
-use Rattle.io_traits.specs.Told.{Tells, OtherFiles}
-use Rattle.command_parts.specs.Files.{TellsFront}
+use Rattle.io_traits.specs.Told.{OtherFiles}
 use Rattle.command_parts.specs.Outside.{FilesOutside, Outside, Raised}
 use Rattle.image_commands.specs.Showing.{IsShown, IsShownInPart}
-
--- The file of this name has these bytes. Other files keep theirs, and no call on files failed.
-pub record WritesFile {S : Type 0} (bytes name : List ℕ) (before after : FilesOutside S) : Type 0 where
-  pub file : Tells (after.held name) bytes
-  pub others : OtherFiles name before.held after.held
-  pub reading : after.reading ≡ before.reading
-  pub writing : after.writing ≡ before.writing
+use Rattle.command_parts.specs.Files.{WritesFile, TellsFront}
 
 -- Writing the file failed: it has the bytes that it had, as it could not be begun, or a front of these.
 pub record FailsToWrite {S : Type 0} (bytes name : List ℕ) (before after : FilesOutside S) : Type 0 where
@@ -21,7 +14,7 @@ pub record FailsToWrite {S : Type 0} (bytes name : List ℕ) (before after : Fil
 
 -- the file was written, and then the line was shown
 pub record HasWritten {S O : Type 0} (bytes name line : List ℕ) (before after : Outside S O) : Type 0 where
-  pub file : WritesFile bytes name before.files after.files
+  pub file : WritesFile name bytes before.files after.files
   pub line_shown : IsShown before.output after.output line
 
 -- the file could not be written, and nothing was shown
@@ -31,5 +24,5 @@ pub record FileFailed {S O : Type 0} (bytes name : List ℕ) (before after : Out
 
 -- the file was written, and then a front of the line was shown
 pub record LastLineFailed {S O : Type 0} (bytes name line : List ℕ) (before after : Outside S O) : Type 0 where
-  pub file : WritesFile bytes name before.files after.files
+  pub file : WritesFile name bytes before.files after.files
   pub line_cut : IsShownInPart before.output after.output line

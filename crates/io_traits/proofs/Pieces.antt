@@ -3,8 +3,8 @@ use Rattle.std.proofs.Common.{◌≡◌, ◌≤◌, ◌+◌, ◌-◌, ℕ, List,
 use Rattle.std.proofs.Common.{Option, length-drop}
 use Rattle.std.proofs.Math.Seq.{take-add}
 use Rattle.std.proofs.lemmas.List.{drop-drop, take_all}
-use Rattle.io_traits.specs.Told.{Grows, GrowsByFront}
-use Rattle.io_traits.proofs.ToldFacts.{Grows-none, Grows-append, GrowsByFront-take}
+use Rattle.io_traits.specs.Told.{Grows}
+use Rattle.io_traits.proofs.ToldFacts.{Grows-none, Grows-append}
 
 -- a front of a piece is put, and the rest is left
 pub record PutsFront (old mid : Option (List ℕ)) (before count : ℕ) (piece rest : List ℕ) : Type 0 where
@@ -43,22 +43,6 @@ PutsFront-nothing old new before now piece rest p none =
     let left = ap (λ (l : List ℕ). length l) p.left in
     let empty = ap (λ (l : List ℕ). length l) none in
     omega (arith, length-drop p.length_put piece, left, empty)
-
--- nothing is left
-pub PutsFront-whole : (old new : Option (List ℕ)) (before now : ℕ) (piece rest : List ℕ) →
-    PutsFront old new before now piece rest → length rest ≡ 0 → Grows old new piece
-PutsFront-whole old new before now piece rest p none =
-    let k : ℕ = p.length_put in
-    let all : length piece ≤ k =
-    (let len = length-drop k piece in let e = ap (λ (l : List ℕ). length l) p.left in omega (arith, len, e)) in
-    subst (λ (l : List ℕ). Grows old new l) (take_all k piece all) p.told
-
--- the next part failed
-pub PutsFront-failed : (old mid new : Option (List ℕ)) (before count : ℕ) (piece rest : List ℕ) →
-    PutsFront old mid before count piece rest → new ≡ mid → GrowsByFront old new piece
-PutsFront-failed old mid new before count piece rest p same =
-    GrowsByFront-take old new piece p.length_put p.within
-    (subst (λ (t : Option (List ℕ)). Grows old t (take p.length_put piece)) (sym same) p.told)
 
 -- the rest of a rest
 pub rest_after : (rest : List ℕ) (n : ℕ) → take (length rest - n) (drop n rest) ≡ drop n rest

@@ -1,10 +1,10 @@
 -- Facts on what shelves and sinks tell, and on their counts.
 use Rattle.std.proofs.Common.{◌≡◌, ◌≤◌, ◌<◌, ◌+◌, ◌-◌, ◌^◌, ℕ, List, [], ◌++◌, length, take, sym, ◌∙◌, ap, subst}
-use Rattle.std.proofs.Common.{arith, append_assoc, Option, Result, Ok, Err, OnOk, OnErr, length-append}
+use Rattle.std.proofs.Common.{arith, append_assoc, Option, Result, Ok, Err, OnOk, OnErr, IsErrAnd, length-append}
 use Rattle.std.proofs.Math.Seq.{take-append-add}
 use Rattle.std.proofs.lemmas.List.{take_all, append-nil, take-append-le}
 use Rattle.cloak_base.specs.declared.causes.Failed.{Failed}
-use Rattle.io_traits.specs.Told.{Tells, Grows, GrowsByFront, Rose, Counts}
+use Rattle.io_traits.specs.Told.{Tells, Grows, GrowsByFront, Rose, Counts, Puts}
 
 -- what is told before a piece, and the piece, is told after it
 pub Tells_after : (a b : Option (List ℕ)) (x piece : List ℕ) → Tells a x → Grows a b piece → Tells b (x ++ piece)
@@ -64,22 +64,31 @@ GrowsByFront-first a b x y front = λ before told.
 pub Rose-below : (before now : ℕ) → Rose before now → before < 2 ^ 64 - 1 → before < now
 Rose-below before now rose below = omega arith
 
--- no count falls
-pub Rose-stays : (before now : ℕ) → Rose before now → before < 2 ^ 64 → before ≤ now
-Rose-stays before now rose small = omega arith
-
 -- a count that one call left and the next raised, rose
 pub Rose-after : (before mid now : ℕ) → mid ≡ before → Rose mid now → Rose before now
 Rose-after before mid now same rose = subst (λ (n : ℕ). Rose n now) same rose
 
--- what a count does, by the result
-pub Counts-cases : {A : Type 0} (before now : ℕ) (r : Result A Failed) → Counts before now r →
-    OnOk r (now ≡ before) × OnErr r (Rose before now)
-Counts-cases before now (Ok a) same = (same, tt)
-Counts-cases before now (Err e) rose = (tt, rose)
+-- What is put piece by piece.
 
--- a count that stands is that of a call that succeeded, and one that fits its type does not fall
-pub Counts-stays : {A : Type 0} (before now : ℕ) (r : Result A Failed) → Counts before now r → before < 2 ^ 64 →
-    before ≤ now
-Counts-stays before now (Ok a) same small = omega arith
-Counts-stays before now (Err e) rose small = Rose-stays before now rose small
+pub puts : (a b : Option (List ℕ)) (m n : ℕ) (text : List ℕ) (r : Result Unit Failed) → OnOk r (Grows a b text) →
+    OnErr r (GrowsByFront a b text) → Counts m n r → Puts a b m n text r
+puts a b m n text (Ok u) grows front counts = (grows, counts)
+puts a b m n text (Err e) grows front counts = (front, counts)
+
+-- a piece, and then another
+pub puts-then : (a b c : Option (List ℕ)) (m n k : ℕ) (x y : List ℕ) (u : Unit) (r : Result Unit Failed) →
+    Puts a b m n x (Ok u) → Puts b c n k y r → Puts a c m k (x ++ y) r
+puts-then a b c m n k x y u (Ok v) first second = (Grows-append a b c x y first.0 second.0, second.1 ∙ first.1)
+puts-then a b c m n k x y u (Err e) first second =
+    (GrowsByFront-append a b c x y first.0 second.0, Rose-after m n k first.1 second.1)
+
+-- a piece that failed, and no other
+pub puts-first : (a b : Option (List ℕ)) (m n : ℕ) (x y : List ℕ) (e : Failed) → Puts a b m n x (Err e) →
+    Puts a b m n (x ++ y) (Err e)
+puts-first a b m n x y e failed = (GrowsByFront-first a b x y failed.0, failed.1)
+
+-- the failure, handed on
+pub puts-failed : (a b : Option (List ℕ)) (m n : ℕ) (text : List ℕ) (e : Failed) (r : Result Unit Failed)
+    (P : Failed → Type 0) → IsErrAnd r P → Puts a b m n text (Err e) → Puts a b m n text r
+puts-failed a b m n text e (Ok u) P is failed = absurd is
+puts-failed a b m n text e (Err f) P is failed = failed

@@ -29,8 +29,8 @@ use Rattle.cloaked_side.specs.Holding.{Holds}
 use Rattle.cloaked_side.specs.Telling.{HoldsWorld}
 use Rattle.cloaked_side.specs.Tracking.{GoesBy, Tracks, TracksBy, spent_in}
 use Rattle.cloaked_side.specs.declared.memory.Memory.{Memory}
-use Rattle.cloaked_side.proofs.Emitting.{emits_items, emits_none}
-use Rattle.cloaked_side.proofs.Spending.{due_then, looks_then, maps_on, spends_looks, spends_more, spends_then}
+use Rattle.cloak_model.proofs.Emitting.{emits_items, emits_none}
+use Rattle.cloaked_side.proofs.Spending.{due_then, maps_on, spends_looks, spends_more, spends_then}
 use Rattle.cloaked_side.proofs.Tracking.{tracks_on}
 use Rattle.hypercalls.specs.declared.domain.Domain.{Domain}
 use Rattle.hypercalls.specs.Standing.{StandsFor}
@@ -50,6 +50,7 @@ use Rattle.joint_machine.proofs.Insides.{holds_memory, stepped_joint}
 use Rattle.joint_machine.specs.Programs.{AreFreeUnused}
 use Rattle.joint_machine.proofs.Places.{domain_at, domains_set, free_stepped}
 use Rattle.joint_machine.proofs.Tracked.{goes_then, told_in}
+use Rattle.shadow_fold.proofs.Looks.{looks_then}
 
 -- The program that ends.
 

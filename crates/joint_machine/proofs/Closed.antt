@@ -1,23 +1,21 @@
 -- Frames that are settled one after another, over plain variables.
-use Rattle.std.proofs.Common.{◌≡◌, ◌<◌, ◌+◌, ℕ, zero, suc, List, length, Option, None, Some, refl, ap, sym, ◌∙◌, subst, arith, add-one, inl, inr}
-use Rattle.cloak_base.specs.declared.names.PageId.{PageId}
+use Rattle.std.proofs.Common.{◌≡◌, ◌<◌, ◌+◌, ℕ, zero, suc, List, length, Option, None, refl, ap, sym, ◌∙◌, subst, arith, add-one, inl, inr}
 use Rattle.cloak_base.specs.declared.names.SpaceId.{SpaceId}
-use Rattle.cloak_base.specs.Random.{Random}
 use Rattle.cloak_model.specs.Hart.{Hart}
-use Rattle.cloak_model.specs.Ledger.{vector_of}
-use Rattle.cloak_model.specs.Cloaking.{CloakedMemory, settle, settle_if, settle_owed, owed_in}
+use Rattle.cloak_model.specs.Cloaking.{CloakedMemory, settle}
 use Rattle.cloak_model.specs.Exchange.{Piece}
 use Rattle.cloak_model.specs.Joint.{cloak_outside, hart_in}
 use Rattle.cloak_model.specs.Parts as model
 use Rattle.cloak_model.specs.Run.{closing, settled_below}
 use Rattle.cloak_model.specs.World.{MidStep, cipher_items, settled_in}
+use Rattle.script_fold.proofs.Rooted.{settle_root}
 use Rattle.thread_context.specs.Recorded.{root_at}
 use Rattle.cloak_pager.specs.State.{PagerState, page_of, held_in}
 use Rattle.cloak_pager.specs.Turns.{StaysBut}
 use Rattle.cloak_pager.proofs.Pages.{same_or_not}
 use Rattle.cloaked_side.specs.Holding.{Holds, Settles}
 use Rattle.cloaked_side.specs.declared.memory.Memory.{Memory}
-use Rattle.cloaked_side.proofs.Emitting.{emits_none, emits_items}
+use Rattle.cloak_model.proofs.Emitting.{emits_none, emits_items}
 use Rattle.joint_machine.specs.declared.joint.Joint.{Joint}
 use Rattle.joint_machine.specs.Closing.{SettlesFrames}
 use Rattle.joint_machine.specs.Standing.{AreDomains, ShowsAs, StandsForJoint}
@@ -59,26 +57,11 @@ settles_more gave e f g old new i c so_far settles =
 
 -- The page tables that are recorded stay.
 
-owed_roots : (f : ℕ) (q : PageId) (draw : Option (List ℕ × Random)) (m : CloakedMemory) (s : SpaceId) →
-    (settle_owed f q draw m).memory.ledger.root s ≡ m.ledger.root s
-unfolding settle_owed
-owed_roots f q None m s = refl
-owed_roots f q (Some draw) m s = refl
-
-roots_if : (f : ℕ) (owed : Option PageId) (m : CloakedMemory) (s : SpaceId) →
-    (settle_if f owed m).memory.ledger.root s ≡ m.ledger.root s
-unfolding settle_if
-roots_if f None m s = refl
-roots_if f (Some q) m s = owed_roots f q (vector_of m.ledger q) m s
-
-settle_roots : (f : ℕ) (m : CloakedMemory) (s : SpaceId) → (settle f m).memory.ledger.root s ≡ m.ledger.root s
-unfolding settle
-settle_roots f m s = roots_if f (owed_in m f) m s
-
 below_roots : (n : ℕ) (c : MidStep) (s : SpaceId) → (settled_below n c).memory.ledger.root s ≡ c.memory.ledger.root s
 unfolding settled_below
 below_roots zero c s = refl
-below_roots (suc n) c s = settle_roots n (settled_below n c).memory s ∙ below_roots n c s
+below_roots (suc n) c s =
+    ap (λ (root : SpaceId → Option ℕ). root s) (settle_root n (settled_below n c).memory) ∙ below_roots n c s
 
 -- The closing.
 

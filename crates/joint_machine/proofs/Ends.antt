@@ -15,10 +15,10 @@ use Rattle.cloaked_side.specs.Ending.{ended_world}
 use Rattle.shadow_fold.specs.Births.{MakeAll}
 use Rattle.shadow_fold.specs.declared.entry.Entry.{Entry}
 use Rattle.shadow_fold.specs.Fold.{Fold, after_event, after_events}
-use Rattle.joint_machine.proofs.Insides.{root_in}
 use Rattle.script_fold.specs.Tables.{recorded_tables}
 use Rattle.script_fold.proofs.Endings.{keeps_end}
 use Rattle.script_fold.proofs.Rooted.{settle_root}
+use Rattle.script_fold.proofs.Tables.{memory_root}
 
 -- Its events.
 
@@ -116,7 +116,7 @@ pub end_plain : (m : CloakedMemory) (d : ℕ) → ArePlain (events_of (ended_wor
 end_plain m d = (leaves_end d (Cloaked (cloak_for m d))).plain tt
 
 pub end_root : (m : CloakedMemory) (d : ℕ) → (memory_of (ended_world m d) m).ledger.root ≡ m.ledger.root
-end_root m d = root_in (ended_world m d) m (leaves_end d (Cloaked (cloak_for m d))).root
+end_root m d = memory_root (ended_world m d) m (leaves_end d (Cloaked (cloak_for m d))).root
 
 -- The mark of a clash.
 

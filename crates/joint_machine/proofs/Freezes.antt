@@ -41,12 +41,13 @@ use Rattle.cloak_pager.specs.declared.frame_right.FrameRight.TheVariants.{Outsid
 use Rattle.cloak_pager.specs.declared.touching.Touched.{Touched}
 use Rattle.cloak_pager.proofs.Pages.{same_or_not}
 use Rattle.cloak_pager.proofs.Stands.{owed_by_right}
-use Rattle.cloak_pager.proofs.Touches.{after_settling, settle_none}
+use Rattle.cloak_pager.proofs.Touches.{after_settling}
 use Rattle.joint_machine.specs.Freezing.{AreOwedOrOutside, HasRoom, TellsDomain, TellsDomains, TellsFrame, TellsFrames, newest_in, page_known, pages_known}
 use Rattle.frozen_state.specs.declared.room.FrozenRoom.{FrozenRoom}
 use Rattle.joint_machine.specs.Standing.{AreDomains, LendsPager, StandsForJoint}
 use Rattle.joint_machine.specs.declared.joint.Joint.{Joint}
 use Rattle.joint_machine.proofs.Places.{count_domains, domain_at}
+use Rattle.cloak_model.proofs.Settling.{settle_unowed}
 
 -- What draws, one after another.
 
@@ -102,7 +103,7 @@ resealed_stands p p' stream left result f follows none wiped m stands same =
     let M : AfterSettling → Type 0 =
     λ x. FollowsCallFrom p' left (shown_by result f p') (after_settling x (owed_in m f) wiped) in
     let none_owed = owed_by_right p wiped m stands f ∙ none in
-    (subst M (settle_none f m none_owed) (follows wiped m stands same)).stands
+    (subst M (settle_unowed f m none_owed) (follows wiped m stands same)).stands
 
 -- so are all below this number, and no other frame changed
 pub record ResealsBelow (old p : PagerState) (stream left : Random) (n : ℕ) : Type 0 where
@@ -665,13 +666,6 @@ stays_still p f = record {
 }
 
 -- The whole machine.
-
-pub lent : (joint : Joint) (j : model.Joint) → StandsForJoint joint j → LendsPager joint.memory.pager j.memory
-lent joint j stands = record {
-  wiped = stands.memory.wiped;
-  stands = stands.memory.pager;
-  whole = λ drawn. stands.memory.whole (stands.memory.missed ∙ drawn);
-}
 
 pub tells_all : (joint : Joint) (j : model.Joint) (p : PagerState) (xs : List Domain) → StandsForJoint joint j →
     LendsPager p j.memory → xs ≡ joint.domains.items → TellsDomains p joint.roots joint.ended xs j

@@ -43,7 +43,8 @@ use Rattle.joint_machine.specs.Standing.{AreDomains}
 use Rattle.joint_machine.specs.Thawing.{AreThawedDomains, IsThawedFrame, IsThawedPager, meta_among}
 use Rattle.joint_machine.proofs.Rows.{row_at, row_past}
 use Rattle.joint_machine.proofs.Shown.{DrewOne, IsFrameShown, ShowsAll, domain_seen, frame_seen, meta_in, meta_of_record, recorded_shown}
-use Rattle.joint_machine.proofs.Thaws.{get_low, get_there}
+use Rattle.joint_machine.proofs.Thaws.{get_there}
+use Rattle.std.proofs.lemmas.Option.{slice_get_within}
 
 -- The memory.
 
@@ -268,7 +269,7 @@ pub programs_go_on : (b : Bundle) (stream : Random) (f : Frozen) (j : Joint) (ke
     AreDomains xs (map without_loads j.domains)
 programs_go_on b stream f j keys xs goes all same thawed =
     are_by xs j.domains (thawed.count ∙ all.domains.count) (λ k x d at is.
-    let low : k < length f.domains = (let a = get_low xs k x at in let c = thawed.count in omega (arith, a, c)) in
+    let low : k < length f.domains = (let a = slice_get_within xs k x at in let c = thawed.count in omega (arith, a, c)) in
     let zeros : FrozenDomain = record { violation = None; roots = []; meta = record { iv = []; digest = [] }; page = [] } in
     let shown = slice_index_or f.domains k zeros in
     let there = get_there f.domains k zeros low in

@@ -24,7 +24,7 @@ use Rattle.cloak_pager.specs.declared.frame_right.FrameRight.{FrameRight}
 use Rattle.cloak_pager.specs.declared.frame_right.FrameRight.TheVariants.{Outside, Clean, Changed, Spent}
 use Rattle.cloaked_side.specs.Holding.{Holds}
 use Rattle.cloaked_side.specs.declared.memory.Memory.{Memory}
-use Rattle.cloaked_side.proofs.Emitting.{emits_none}
+use Rattle.cloak_model.proofs.Emitting.{emits_none}
 use Rattle.thread_context.specs.Recorded.{root_at}
 use Rattle.joint_machine.specs.Turning.{AreRoots, IsCarriedOut, Unmarks}
 

@@ -26,6 +26,7 @@ use Rattle.joint_machine.specs.declared.joint.Joint.{Joint}
 use Rattle.joint_machine.specs.declared.storing.FilePlace.{FilePlace}
 use Rattle.joint_machine.specs.Standing.{AllOutside, AreDomains, StandsForJoint}
 use Rattle.joint_machine.specs.Storing.{known_file, known_files, place_in, place_inserted, place_owned, places_in, places_of, places_sorted}
+use Rattle.std.proofs.lemmas.List.Elements.{All-append}
 
 -- The contents of a file.
 
@@ -134,12 +135,6 @@ all_mapped P f each [] i d low = absurd (omega (arith, low))
 all_mapped P f each (x ∷ xs) zero d low = each x
 all_mapped P f each (x ∷ xs) (suc i) d low = all_mapped P f each xs i d (omega (arith, low))
 
-all_joined : {A : Type 0} (P : A → Type 0) (xs ys : List A) → All P xs → All P ys → All P (xs ++ ys)
-all_joined P [] ys first second i d low = second i d low
-all_joined P (x ∷ xs) ys first second zero d low = first 0 d (omega arith)
-all_joined P (x ∷ xs) ys first second (suc i) d low =
-    all_joined P xs ys (λ k e less. first (suc k) e (omega (arith, less))) second i d (omega (arith, low))
-
 file_sealed : (m : CloakedMemory) (d : ℕ) (f : FilePlace) → Sealed m → HasSealedPages m.ledger.keys (content_at m d f)
 unfolding content_at
 file_sealed m d f sealed =
@@ -154,7 +149,7 @@ sealed_all m d [] [] are sealed i x low = absurd (omega (arith, low))
 sealed_all m d [] (was ∷ ds) are sealed i x low = absurd are
 sealed_all m d (y ∷ xs) [] are sealed i x low = absurd are
 sealed_all m d (y ∷ xs) (was ∷ ds) are sealed i x low =
-    all_joined (HasSealedPages m.ledger.keys) (sorted (files_in m d 0 was.control.resources.held)) (contents_from m (d + 1) ds)
+    All-append (HasSealedPages m.ledger.keys) (sorted (files_in m d 0 was.control.resources.held)) (contents_from m (d + 1) ds)
     (subst (All (HasSealedPages m.ledger.keys)) (domain_contents m d y was are.0)
     (all_mapped (HasSealedPages m.ledger.keys) (content_at m d) (λ f. file_sealed m d f sealed) (places_of y)))
     (sealed_all m (d + 1) xs ds are.1 sealed) i x low

@@ -23,13 +23,13 @@ use Rattle.cloak_model.specs.World.{World, MidStep, Flat, Cloaked, Alone, items_
 use Rattle.cloaked_side.specs.Holding.{Holds}
 use Rattle.cloaked_side.specs.Telling.{HoldsWorld}
 use Rattle.cloaked_side.specs.declared.memory.Memory.{Memory}
-use Rattle.cloaked_side.proofs.Emitting.{emits_items}
+use Rattle.cloak_model.proofs.Emitting.{emits_items}
 use Rattle.hypercalls.specs.declared.domain.Domain.{Domain}
 use Rattle.hypercalls.specs.Standing.{EndsAs}
 use Rattle.joint_machine.specs.declared.stepping.SteppedProgram.{SteppedProgram}
 use Rattle.joint_machine.specs.Turning.{AreRoots, IsCarriedOut, InterruptsIn, StepsDomain, TurnsIn, Unmarks, begun}
-use Rattle.script_fold.specs.Tables.{recorded_tables}
 use Rattle.script_fold.proofs.Rooted.{rooted_domain_step}
+use Rattle.script_fold.proofs.Tables.{memory_root}
 
 -- The memory of a world.
 
@@ -37,11 +37,6 @@ pub holds_memory : (memory : Memory) (w : World) (m : CloakedMemory) → HoldsWo
 holds_memory memory (Flat ram) m holds = absurd holds
 holds_memory memory (Alone handed) m holds = absurd holds
 holds_memory memory (Cloaked c) m holds = holds
-
-pub root_in : (w : World) (m : CloakedMemory) → recorded_tables w ≡ m.ledger.root → (memory_of w m).ledger.root ≡ m.ledger.root
-root_in (Flat ram) m same = refl
-root_in (Cloaked c) m same = same
-root_in (Alone handed) m same = refl
 
 pub clashed_in : (w : World) (m : CloakedMemory) → (memory_of w m).ledger.clashed ≡ false → is_clashed w ≡ false
 clashed_in (Flat ram) m none = refl
@@ -82,7 +77,7 @@ step_unclashed j number h d slot was none =
 -- the page tables after a program's step
 pub roots_stepped : (roots : List (List (Option ℕ))) (j : model.Joint) (h : Hart) (d slot : ℕ) (was : program.Domain) → AreRoots roots j.memory.ledger.root → AreRoots roots (memory_of (told_of j h d slot was).world j.memory).ledger.root
 roots_stepped roots j h d slot was are =
-    subst (λ (root : SpaceId → Option ℕ). AreRoots roots root) (sym (root_in (told_of j h d slot was).world j.memory (rooted_domain_step slot was _).root)) are
+    subst (λ (root : SpaceId → Option ℕ). AreRoots roots root) (sym (memory_root (told_of j h d slot was).world j.memory (rooted_domain_step slot was _).root)) are
 
 -- the hart's regime
 pub begun_is : (m : CloakedMemory) (regime : InsideRegime) (slot : ℕ) (was : program.Domain) (h : Hart) (d : ℕ) → regime.satp ≡ satp_of h.csrs → regime.sum ≡ sum_of h.csrs → regime.mxr ≡ mxr_of h.csrs → regime.domain ≡ d →

@@ -39,7 +39,8 @@ use Rattle.joint_machine.specs.declared.joint.Joint.{Joint}
 use Rattle.joint_machine.proofs.GoesOn.{frozen_goes_on, goes_on_stands, programs_go_on, root_shown_low, root_shown_past, shown_roots, shown_violation}
 use Rattle.joint_machine.proofs.Shown.{ShowsAll, domain_seen, meta_of_record, shows_all}
 use Rattle.joint_machine.proofs.ThawedParts.{marks_shown}
-use Rattle.joint_machine.proofs.Thaws.{get_low, get_there}
+use Rattle.joint_machine.proofs.Thaws.{get_there}
+use Rattle.std.proofs.lemmas.Option.{slice_get_within}
 
 -- Pages in use.
 
@@ -81,7 +82,7 @@ in_use_low j q programs used = by_domain (slice_get j.domains q.domain) refl use
         let fits : IsProgram q.domain d.control =
         subst (λ (o : Option program.Domain). IfSome o (λ (domain : program.Domain). IsProgram q.domain domain.control)) is (programs q.domain) in
         let rest = by_resource d (resource_at d.control.resources q.resource) fits refl used in
-        (get_low j.domains q.domain d is, rest.0, rest.1)
+        (slice_get_within j.domains q.domain d is, rest.0, rest.1)
 
 known_is_recorded : (r v : Option (List ℕ)) (t : Meta) → meta_of_record r v ≡ Some t → is_some r ≡ true
 known_is_recorded None v t is = absurd (cc)
@@ -115,12 +116,12 @@ roots_go_on b stream f j goes all s = by_domain (slice_get j.domains s.domain) r
     by_domain None is None at =
         no_root (j.memory.ledger.root s) (λ rooted. subst (λ (o : Option program.Domain). IsSomeAnd o (λ (d : program.Domain). IsInUse d.control.resources s.number)) is (goes.roots s rooted))
     by_domain (Some d) is None at =
-        let low = get_low j.domains s.domain d is in
+        let low = slice_get_within j.domains s.domain d is in
         let zeros : FrozenDomain = record { violation = None; roots = []; meta = record { iv = []; digest = [] }; page = [] } in
         let there = get_there f.domains s.domain zeros (let c = all.domains.count in omega (arith, low, c)) in
         absurd (let no : None ≡ Some (slice_index_or f.domains s.domain zeros) = sym at ∙ there in cc)
     by_domain None is (Some shown) at =
-        let low = get_low f.domains s.domain shown at in
+        let low = slice_get_within f.domains s.domain shown at in
         let inside : s.domain < length j.domains = (let c = all.domains.count in omega (arith, low, c)) in
         absurd (none_low j.domains s.domain inside is)
     by_domain (Some d) is (Some shown) at =
@@ -152,7 +153,7 @@ ends_go_on b stream f j ended goes all count are =
         None ≡ slice_index_or j.ended d None
     none_shown d None is at = no_end (slice_index_or j.ended d None) (goes.ended.taken d ∙ ap has_ended is)
     none_shown d (Some e) is at =
-        let low = get_low j.domains d e is in
+        let low = slice_get_within j.domains d e is in
         let zeros : FrozenDomain = record { violation = None; roots = []; meta = record { iv = []; digest = [] }; page = [] } in
         let there = get_there f.domains d zeros (let c = all.domains.count in omega (arith, low, c)) in
         absurd (let no : None ≡ Some (slice_index_or f.domains d zeros) = sym at ∙ there in cc)
@@ -166,7 +167,7 @@ ends_go_on b stream f j ended goes all count are =
         violation_shown x ≡ slice_index_or j.ended d None
     by_domain d None at = none_shown d (slice_get j.domains d) refl at
     by_domain d (Some shown) at =
-        let low = get_low f.domains d shown at in
+        let low = slice_get_within f.domains d shown at in
         let at_j = there_is j.domains d (let c = all.domains.count in omega (arith, low, c)) in
         shown_violation j d at_j.0 shown (domain_seen j f all d shown at_j.0 at at_j.1)
 

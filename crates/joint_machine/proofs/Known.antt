@@ -11,6 +11,7 @@ use Rattle.protect_meta.specs.Table.{MetaRow, meta_at}
 use Rattle.hypercalls.specs.declared.domain.Domain.{Domain}
 use Rattle.joint_machine.specs.Storing.{HasLowerNumber, known_file, known_files, known_pages, pages_at, places_of}
 use Rattle.joint_machine.specs.declared.storing.FilePlace.{FilePlace}
+use Rattle.std.proofs.lemmas.List.Elements.{All-append}
 
 -- One file.
 
@@ -131,12 +132,6 @@ known_is_file t d f n same domain number some few metas =
 
 -- Files of a domain.
 
-all_append : {A : Type 0} (P : A → Type 0) (xs ys : List A) → All P xs → All P ys → All P (xs ++ ys)
-all_append P [] ys first second i d low = second i d low
-all_append P (x ∷ xs) ys first second zero d low = first 0 d (omega arith)
-all_append P (x ∷ xs) ys first second (suc i) d low =
-    all_append P xs ys (λ k e less. first (suc k) e (omega (arith, less))) second i d (omega (arith, low))
-
 all_map : {A B : Type 0} (P : B → Type 0) (f : A → B) (xs : List A) → All (λ x. P (f x)) xs → All P (map f xs)
 all_map P f [] all i d low = absurd (omega (arith, low))
 all_map P f (x ∷ xs) all zero d low = all 0 x (omega arith)
@@ -162,7 +157,7 @@ pub all_precede : (t : MetaRow) (d : ℕ) (old : List StoredFile) (places : List
     f ≡ slice_index_or places i f →
     All (λ (g : StoredFile). Precedes g (known_file t d f)) (old ++ map (known_file t d) (take i places))
 all_precede t d old places i f below rise low is =
-    all_append (λ (g : StoredFile). Precedes g (known_file t d f)) old (map (known_file t d) (take i places))
+    All-append (λ (g : StoredFile). Precedes g (known_file t d f)) old (map (known_file t d) (take i places))
     (λ k e less. inl (below k e less))
     (all_map (λ (g : StoredFile). Precedes g (known_file t d f)) (known_file t d) (take i places)
     (λ k e less. inr (refl, lower_before places i f rise low is k e less)))
@@ -187,7 +182,7 @@ pub below_next : (t : MetaRow) (d : ℕ) (old : List StoredFile) (places : List 
     All (λ (g : StoredFile). g.domain < d) old →
     All (λ (g : StoredFile). g.domain < d + 1) (old ++ map (known_file t d) places)
 below_next t d old places below =
-    all_append (λ (g : StoredFile). g.domain < d + 1) old (map (known_file t d) places)
+    All-append (λ (g : StoredFile). g.domain < d + 1) old (map (known_file t d) places)
     (λ k e less. let h = below k e less in omega (arith, h))
     (all_map (λ (g : StoredFile). g.domain < d + 1) (known_file t d) places (λ k e less. omega arith))
 

@@ -28,6 +28,7 @@ use Rattle.shadow_law.specs.Agreeing.{present}
 use Rattle.cloaked_side.specs.Holding.{Holds}
 use Rattle.joint_machine.specs.Starting.{ArePages, HasFrames, IsReady}
 use Rattle.joint_machine.proofs.Backwards.{back_next}
+use Rattle.cloak_model.proofs.Opening.{length-with_bytes, length-with_segments}
 
 -- One byte.
 
@@ -121,16 +122,6 @@ stores_more old p p' address i place b bytes high so_far is more fits read low h
 
 -- Segments one after another.
 
-length-with_bytes : (ram : List (List ℕ)) (pa : ℕ) (bytes : List ℕ) → length (with_bytes ram pa bytes) ≡ length ram
-length-with_bytes ram pa [] = refl
-length-with_bytes ram pa (b ∷ bytes) = length-with_bytes (with_byte ram pa b) (pa + 1) bytes ∙ length-set ram _ _
-
-length-with_segments : (ram : List (List ℕ)) (segments : List Segment) →
-    length (with_segments ram segments) ≡ length ram
-length-with_segments ram [] = refl
-length-with_segments ram (s ∷ segments) =
-    length-with_segments (with_bytes ram s.address s.bytes) segments ∙ length-with_bytes ram s.address s.bytes
-
 pages_with_bytes : (ram : List (List ℕ)) (pa : ℕ) (bytes : List ℕ) → 0x80000000 ≤ pa →
     pa + length bytes ≤ 0x80000000 + 4096 * length ram → ArePages ram → ArePages (with_bytes ram pa bytes)
 pages_with_bytes ram pa [] high fits pages = pages
@@ -195,7 +186,7 @@ pub record LoadsBack (n : ℕ) (old p : PagerState) (back segments : List Segmen
   pub fits : All (IsSegmentIn n) (reverse back)
   pub loads : LoadsFrom old p (reverse back) segments
 
-new_count : (n domains : ℕ) (keys : Keys) (old : PagerState) → IsNewPager n domains keys old → length old.frames ≡ n
+pub new_count : (n domains : ℕ) (keys : Keys) (old : PagerState) → IsNewPager n domains keys old → length old.frames ≡ n
 new_count n domains keys old new = ap (λ (x : List (List ℕ)). length x) new.zeros ∙ length-replicate n zero_page
 
 -- the segment that is loaded next lies in RAM

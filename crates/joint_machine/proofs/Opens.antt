@@ -1,6 +1,5 @@
 -- The opening of a joint run, over plain variables.
-use Rattle.std.proofs.Common.{◌≡◌, ◌<◌, ◌≤◌, ℕ, get_or, zero, suc, true, false, List, [], ◌∷◌, length, Option, None, Some, Err, refl, ap, sym, ◌∙◌, subst, arith, map, replicate, All}
-use Rattle.std.proofs.lemmas.List.{length-append}
+use Rattle.std.proofs.Common.{◌≡◌, ◌<◌, ◌≤◌, ℕ, get_or, true, false, List, Option, None, Some, Err, refl, ap, sym, ◌∙◌, subst, arith, map, replicate, All}
 use Rattle.cloak_base.specs.declared.names.SpaceId.{SpaceId}
 use Rattle.cloak_base.specs.Random.{Random}
 use Rattle.cloak_model.specs.declared.image.Bundle.{Bundle}
@@ -8,7 +7,6 @@ use Rattle.cloak_model.specs.declared.image.Program.{Program}
 use Rattle.cloak_model.specs.Beginning.{stored_keys}
 use Rattle.cloak_model.specs.Bundle.{IsProgramIn}
 use Rattle.cloak_model.specs.Cloaking.{CloakedMemory}
-use Rattle.cloak_model.specs.Hart.{started}
 use Rattle.cloak_model.specs.Ledger.{Keys}
 use Rattle.cloak_model.specs.Opening.{NoKey, NoPageDraw, drawn_keys, filled_up, key_count, keys_for, opening, opened_by, opened_with, opening_items, started_domains, started_harts, started_joint, started_kernel, started_ledger, started_memory, place_programs}
 use Rattle.thread_context.specs.Recorded.{root_at}
@@ -22,13 +20,6 @@ use Rattle.joint_machine.specs.Standing.{AreDomains, OpensJoint, StandsForJoint}
 use Rattle.joint_machine.specs.Programs.{AreFreeUnused}
 use Rattle.joint_machine.specs.Starting.{DrawsKeys, IsOfParts, PlacesTo, StartsParts}
 use Rattle.joint_machine.proofs.Placed.{KeepsFixed, KeepsFixedIf, programs_fixed}
-
-pub length-started_harts : (entry n : ℕ) → length (started_harts entry n) ≡ n
-length-started_harts entry zero = refl
-length-started_harts entry (suc n) =
-    let before = length-started_harts entry n in
-    let more = length-append (started_harts entry n) (started entry n ∷ []) in
-    omega (arith, before, more)
 
 -- if no frame holds a page, none holds one of a free number
 pub free_unused : (domains : List Domain) (p : PagerState) → ((k : ℕ) → held_in p k ≡ None) → AreFreeUnused domains p

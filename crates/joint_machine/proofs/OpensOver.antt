@@ -32,6 +32,7 @@ use Rattle.joint_machine.specs.Starting.{IsReady, KeepsUnplaced, PlacesTo}
 use Rattle.joint_machine.proofs.Opens.{no_roots}
 use Rattle.joint_machine.proofs.Places.{domain_at}
 use Rattle.joint_machine.proofs.Placed.{KeepsFixed, KeepsFixedIf, programs_fixed}
+use Rattle.cloak_model.proofs.Opening.{joint_domains}
 
 -- What programs have as they begin.
 
@@ -98,10 +99,6 @@ keys_began : (b : Bundle) (keys : Keys) (stream : Random) → (started_memory b.
 unfolding started_memory started_ledger
 keys_began b keys stream = refl
 
-domains_began : (b : Bundle) (m : CloakedMemory) → (started_joint b m).domains ≡ started_domains 0 b.programs
-unfolding started_joint
-domains_began b m = refl
-
 memory_began : (b : Bundle) (m : CloakedMemory) → (started_joint b m).memory ≡ m
 unfolding started_joint
 memory_began b m = refl
@@ -126,10 +123,10 @@ unfolding opened_over
 no_room_by b keys stream contents d None fixed refused =
     let m = started_memory b.kernel keys stream in
     ap (and_then (lacks NoPageDraw))
-    (refused (started_joint b m) (keys_of b m keys (keys_began b keys stream)) (domains_began b m))
+    (refused (started_joint b m) (keys_of b m keys (keys_began b keys stream)) (joint_domains b m))
 no_room_by b keys stream contents d (Some m) fixed refused =
     ap (and_then (λ (j : Machine). Ok (record { joint = j; items = opening_items b.programs m.ram })))
-    (refused (started_joint b m) (keys_of b m keys (fixed.keys ∙ keys_began b keys stream)) (domains_began b m))
+    (refused (started_joint b m) (keys_of b m keys (fixed.keys ∙ keys_began b keys stream)) (joint_domains b m))
 
 pub no_room : (b : Bundle) (numbered : List (List ℕ)) (stream : Random) (contents : List FileContents) (d : ℕ) →
     OfEach b (stored_keys b numbered) (λ j. files_added contents j ≡ Err (NoRoom d)) →
@@ -153,7 +150,7 @@ unfolding opened_over
 no_draw_by b keys stream contents memory memory' domains None places adds =
     let m = started_memory b.kernel keys stream in
     after_all NoPageDraw _ memory memory' domains (started_joint b m)
-    (adds (started_joint b m) (keys_of b m keys (keys_began b keys stream)) (domains_began b m))
+    (adds (started_joint b m) (keys_of b m keys (keys_began b keys stream)) (joint_domains b m))
 no_draw_by b keys stream contents memory memory' domains (Some m) places adds = absurd places
 
 pub no_draw : (b : Bundle) (numbered : List (List ℕ)) (stream : Random) (contents : List FileContents)
@@ -221,7 +218,7 @@ unfolding opened_over
 opens_by joint b keys stream contents memory None places fixed filed = absurd places
 opens_by joint b keys stream contents memory (Some m) places fixed filed =
     with_files joint b keys stream contents memory m (opening_items b.programs m.ram) _ filed places fixed
-    (filed.adds (started_joint b m) (keys_of b m keys (fixed.keys ∙ keys_began b keys stream)) (domains_began b m))
+    (filed.adds (started_joint b m) (keys_of b m keys (fixed.keys ∙ keys_began b keys stream)) (joint_domains b m))
 
 pub opens_over : (joint : Joint) (b : Bundle) (numbered : List (List ℕ)) (stream : Random) (contents : List FileContents)
     (memory : Memory) → HasFiled joint b (stored_keys b numbered) stream contents memory →

@@ -41,12 +41,6 @@ domains_set (y ∷ xs) [] d x after are stands = absurd are
 domains_set (y ∷ xs) (a ∷ ds) zero x after are stands = (stands, are.1)
 domains_set (y ∷ xs) (a ∷ ds) (suc d) x after are stands = (are.0, domains_set xs ds d x after are.1 stands)
 
--- what was there, put in its place
-pub set_same : {A : Type 0} (xs : List A) (d : ℕ) (x : A) → slice_get xs d ≡ Some x → slice_set xs d x ≡ xs
-set_same [] d x there = refl
-set_same (y ∷ xs) zero x there = cc
-set_same (y ∷ xs) (suc d) x there = ap (λ (ys : List _). y ∷ ys) (set_same xs d x there)
-
 some_holds : {A : Type 0} (P : A → Type 0) (x z : A) → Some x ≡ Some z → P x → P z
 some_holds P x z same holds = subst (λ (o : Option _). IfSome o P) same holds
 

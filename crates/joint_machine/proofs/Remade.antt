@@ -2,8 +2,7 @@
 use Rattle.std.proofs.Common.{◌≡◌, ◌∙◌, ℕ, true, List, [], length, map, slice_get, slice_index_or, Option, Some, None, Result, Ok, Err, All, refl, ap, sym, subst, arith, inl, inr}
 use Rattle.std.specs.Prelude.{IfErr, IfOk, IfSome, IsSomeAnd, is_some, option_and_then, option_map}
 use Rattle.std.proofs.lemmas.Bool.{cases_lt}
-use Rattle.std.proofs.lemmas.List.{get_or_past, length-replicate}
-use Rattle.cloak_base.specs.Pages.{zero_page}
+use Rattle.std.proofs.lemmas.List.{get_or_past}
 use Rattle.cloak_base.specs.Random.{Random}
 use Rattle.cloak_base.specs.declared.names.PageId.{PageId}
 use Rattle.cloak_base.specs.declared.names.Meta.{Meta}
@@ -25,7 +24,6 @@ use Rattle.frozen_state.specs.declared.frozen.FrozenPage.{FrozenPage}
 use Rattle.io_traits.specs.Skipping.{skipped}
 use Rattle.cloak_pager.specs.State as pager
 use Rattle.cloak_pager.specs.State.{PagerState, IsFresh, IsWholePager, bytes_in, held_in, owed_at, page_of, right_at}
-use Rattle.cloak_pager.specs.Turns.{IsNewPager}
 use Rattle.cloak_pager.specs.declared.frame_right.FrameRight.TheVariants.{Spent}
 use Rattle.hypercalls.specs.declared.domain.Domain.{Domain}
 use Rattle.hypercalls.specs.Standing.{control_of}
@@ -36,8 +34,8 @@ use Rattle.joint_machine.specs.declared.thaw_fault.ThawFault.{ThawFault}
 use Rattle.joint_machine.specs.declared.thaw_fault.ThawFault.TheVariants as fault
 use Rattle.joint_machine.proofs.JointGoesOn.{IsMadeOf, joint_goes_on}
 use Rattle.joint_machine.proofs.Opens.{HasKeys}
-use Rattle.joint_machine.proofs.Shown.{same_some}
-use Rattle.joint_machine.proofs.Thaws.{get_low, get_there, some_there}
+use Rattle.joint_machine.proofs.Thaws.{get_there, some_there}
+use Rattle.std.proofs.lemmas.Option.{same_Some, slice_get_within}
 
 -- Ranges.
 
@@ -45,10 +43,6 @@ pub steady : (frames : ℕ) (hs : List FrozenHart) → All (IsFrozenHart frames)
 steady frames hs all = λ i h low. record { aligned = (all i h low).aligned; csrs = (all i h low).csrs }
 
 -- The pager.
-
-pub new_count : (frames domains : ℕ) (keys : Keys) (p : PagerState) → IsNewPager frames domains keys p →
-    length p.frames ≡ frames
-new_count frames domains keys p new = ap length new.zeros ∙ length-replicate frames zero_page
 
 pub thawed_settled : (p : PagerState) (keys : Keys) (domains : ℕ) (frames : List FrozenFrame) (recorded : List FrozenPage) →
     IsThawedPager p keys domains frames recorded → IsWholePager p → AreOwedOrOutside p
@@ -78,7 +72,7 @@ all_programs keys f xs thawed d = by_shown (slice_get f.domains d) refl
         IfSome o (λ shown. (control : program.Control) × IsProgramOf keys f d shown control)
     by_shown None is = tt
     by_shown (Some shown) is =
-        let low = get_low f.domains d shown is in
+        let low = slice_get_within f.domains d shown is in
         let at = some_there xs d (let c = thawed.count in omega (arith, low, c)) in
         (control_of at.0, (thawed.each d shown at.0 is at.1).is)
 
@@ -132,7 +126,7 @@ joint_thawed b s left keys f joint drawn domains under = record {
   stands = λ j goes.
       let here : Keys × Random = (j.memory.ledger.keys, j.memory.ledger.stream) in
       let there : Keys × Random = (keys, left) in
-      let same : here ≡ there = same_some here there (sym goes.keys ∙ drawn) in
+      let same : here ≡ there = same_Some here there (sym goes.keys ∙ drawn) in
       under.stands b s j goes (ap (λ (p : Keys × Random). p.0) same) (ap (λ (p : Keys × Random). p.1) same);
 }
 

@@ -17,7 +17,7 @@ use Rattle.cloak_model.specs.Resuming.{AfterResume, resume, space_of, violated}
 use Rattle.cloak_model.proofs.ResumeParts.{by_context, by_domain, by_root}
 use Rattle.cloaked_side.specs.Holding.{Holds}
 use Rattle.cloaked_side.specs.declared.memory.Memory.{Memory}
-use Rattle.cloaked_side.proofs.Emitting.{emits_none}
+use Rattle.cloak_model.proofs.Emitting.{emits_none}
 use Rattle.hypercalls.specs.declared.domain.Domain.{Domain}
 use Rattle.hypercalls.specs.Standing.{StandsFor, ResumesAs, control_of}
 use Rattle.thread_context.specs.Recorded.{root_at}
@@ -25,7 +25,8 @@ use Rattle.joint_machine.specs.declared.joint.Joint.{Joint}
 use Rattle.joint_machine.specs.Standing.{AreDomains, StandsForJoint}
 use Rattle.joint_machine.specs.Turning.{AreRoots, ResumesJoint, ResumesIn, idle_space}
 use Rattle.joint_machine.proofs.Gone.{holds_rooted}
-use Rattle.joint_machine.proofs.Places.{domain_at, domains_set, none_past, set_same}
+use Rattle.joint_machine.proofs.Places.{domain_at, domains_set, none_past}
+use Rattle.cloak_base.proofs.Lists.{set_itself}
 
 -- Whether a context may run.
 
@@ -143,7 +144,7 @@ refused_in gave e domain roots given j d was v r is met there stands are = subst
   violation = met;
   after = was;
   stands = stands;
-  domains = sym (set_same j.domains d was there);
+  domains = sym (set_itself j.domains d was there);
   roots_are = are;
   holds = λ memory holds. holds;
   harts = refl;

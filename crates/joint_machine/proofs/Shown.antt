@@ -20,17 +20,15 @@ use Rattle.cloak_pager.proofs.Pages.{same_or_not}
 use Rattle.joint_machine.specs.Freezing.{page_known}
 use Rattle.joint_machine.specs.Thawing.{meta_among}
 use Rattle.joint_machine.proofs.Freezes.{frame_showing}
+use Rattle.std.proofs.lemmas.Option.{same_Some}
 
 -- What was drawn.
-
-pub same_some : {A : Type 0} (a b : A) → Some a ≡ Some b → a ≡ b
-same_some a b is = cc
 
 pub same_drawn : {A : Type 0} (x y : A) (s t : Random) → ◌≡◌ {A = Option (A × Random)} (Some (x, s)) (Some (y, t)) → (x ≡ y) × (s ≡ t)
 same_drawn {A} x y s t is =
     let one : A × Random = (x, s) in
     let other : A × Random = (y, t) in
-    let both : one ≡ other = same_some one other is in
+    let both : one ≡ other = same_Some one other is in
     (ap (λ (p : A × Random). p.0) both, ap (λ (p : A × Random). p.1) both)
 
 -- one and then more

@@ -3,7 +3,7 @@ use Rattle.std.proofs.Common.{◌≡◌, ◌≢◌, ◌∙◌, ◌<◌, ◌≤�
 use Rattle.std.specs.Prelude.{is_some, IfSome, IsSomeAnd}
 use Rattle.std.specs.List.{flat_map}
 use Rattle.std.proofs.lemmas.Bool.{cases_lt}
-use Rattle.std.proofs.lemmas.Option.{slice_get_past}
+use Rattle.std.proofs.lemmas.Option.{slice_get_past, slice_get_within}
 use Rattle.std.proofs.lemmas.Bool.Decides.{Decides-and, Decides-eqb, Decides-like}
 use Rattle.std.specs.Bool.{Decides}
 use Rattle.std.proofs.lemmas.Grind.{flat_map-append}
@@ -39,7 +39,8 @@ use Rattle.joint_machine.specs.Programs.{AreFreeUnused, AreNumbered}
 use Rattle.joint_machine.specs.Thawing.{AreNumberedHarts, AreThawedDomains, IsThawedDomain, IsThawedPager, number_of_entry, root_shown, violation_shown}
 use Rattle.joint_machine.proofs.Shown.{ShowsAll}
 use Rattle.joint_machine.proofs.Started.{get_pushed}
-use Rattle.joint_machine.proofs.Thaws.{all_get, get_low, get_one, get_there, some_there, take_next, thawed_holds}
+use Rattle.joint_machine.proofs.Thaws.{get_one, get_there, some_there, take_next, thawed_holds}
+use Rattle.resource_map.proofs.Lists.{All-slice_get}
 
 -- Harts.
 
@@ -121,7 +122,7 @@ marks_next from marks marks' i h so_far is set = record {
             let own : h ≡ x =
             get_one from i h x is (subst (λ (n : ℕ). slice_get from n ≡ Some x) same there) in
             ap (λ (n : ℕ). slice_index_or (slice_set marks i h.mark) n None) same
-            ∙ (get_or-set_same marks i h.mark None (let a = get_low from i h is in let c = so_far.count in omega (arith, a, c))
+            ∙ (get_or-set_same marks i h.mark None (let a = slice_get_within from i h is in let c = so_far.count in omega (arith, a, c))
             ∙ ap (λ (o : FrozenHart). o.mark) own)
         | inr other ↦ get_or-set_other marks i k h.mark None other ∙ so_far.below k x (omega (arith, low, other)) there
       ];
@@ -380,7 +381,7 @@ offset_next f i x is iv digest page =
 pub domains_numbered : (keys : Keys) (f : Frozen) (xs : List Domain) → AreThawedDomains keys f xs → AreNumbered xs
 domains_numbered keys f xs thawed d x is =
     let zeros : FrozenDomain = record { violation = None; roots = []; meta = record { iv = []; digest = [] }; page = [] } in
-    let low = get_low xs d x is in
+    let low = slice_get_within xs d x is in
     let there = get_there f.domains d zeros (let c = thawed.count in omega (arith, low, c)) in
     (thawed.each d (slice_index_or f.domains d zeros) x there is).number
 
@@ -393,10 +394,10 @@ pages_unused keys f xs p domains thawed frozen whole d n few x is free k q held 
       let frame = slice_index_or f.frames k empty in
       let seen = get_there f.frames k empty low in
       let owes : owed_page frame ≡ Some q = sym (thawed_holds p k frame (frozen.each k frame seen)) ∙ held in
-      let inside = get_low xs d x is in
+      let inside = slice_get_within xs d x is in
       let there = get_there f.domains d zeros (let c = thawed.count in omega (arith, inside, c)) in
       let shown = slice_index_or f.domains d zeros in
-      let lies = all_get (λ (o : FrozenFrame). IfSome (owed_page o) (LiesIn (control_of x).resources d)) f.frames k frame
+      let lies = All-slice_get (λ (o : FrozenFrame). IfSome (owed_page o) (LiesIn (control_of x).resources d)) f.frames k frame
       (thawed.each d shown x there is).is.owed seen in
       let own : LiesIn (control_of x).resources d q = subst (λ (o : Option PageId). IfSome o (LiesIn (control_of x).resources d)) owes lies in
       is_of-other d n q (λ both.

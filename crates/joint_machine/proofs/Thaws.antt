@@ -25,13 +25,10 @@ use Rattle.cloak_pager.specs.declared.frame_right.FrameRight.{FrameRight}
 use Rattle.cloak_pager.specs.declared.frame_right.FrameRight.TheVariants.{Outside, Changed, Spent}
 use Rattle.cloak_pager.proofs.Pages.{same_or_not}
 use Rattle.joint_machine.specs.Thawing.{AreFilled, AreThawedFrames, FillsFrames, IsThawedFrame, Restores, meta_among}
+use Rattle.std.proofs.lemmas.Option.{slice_get_within}
+use Rattle.resource_map.proofs.Lists.{All-slice_get}
 
 -- Places in lists.
-
-pub get_low : {A : Type 0} (xs : List A) (k : ℕ) (x : A) → slice_get xs k ≡ Some x → k < length xs
-get_low [] k x is = absurd (cc)
-get_low (y ∷ xs) zero x is = omega arith
-get_low (y ∷ xs) (suc k) x is = (let low = get_low xs k x is in omega (arith, low))
 
 pub get_there : {A : Type 0} (xs : List A) (k : ℕ) (d : A) → k < length xs → slice_get xs k ≡ Some (slice_index_or xs k d)
 get_there [] k d low = absurd (omega (arith, low))
@@ -78,9 +75,6 @@ all_next P xs n x is all here = subst (All P) (sym (take_next xs n x is)) (all_p
     all_push P (y ∷ xs) x all here zero d low = all 0 d (omega arith)
     all_push P (y ∷ xs) x all here (suc i) d low =
         all_push P xs x (λ k e less. all (suc k) e (omega (arith, less))) here i d (omega (arith, low))
-
-pub all_get : {A : Type 0} (P : A → Type 0) (xs : List A) (k : ℕ) (x : A) → All P xs → slice_get xs k ≡ Some x → P x
-all_get P xs k x all is = subst P (get_is xs k x x is) (all k x (get_low xs k x is))
 
 -- Frames that are filled.
 
@@ -136,7 +130,7 @@ fills_all old p frames i so_far past = record {
   domains = so_far.domains;
   keys = so_far.keys;
   metas = so_far.metas;
-  bytes = λ f frame is. so_far.bytes f frame (let low = get_low frames f frame is in omega (arith, low, past)) is;
+  bytes = λ f frame is. so_far.bytes f frame (let low = slice_get_within frames f frame is in omega (arith, low, past)) is;
 }
 
 -- Pages that are restored.
@@ -212,7 +206,7 @@ pub next_unknown : (recorded : List FrozenPage) (i : ℕ) (x : FrozenPage) → A
     slice_get recorded i ≡ Some x → meta_among (take i recorded) x.page ≡ None
 next_unknown recorded i x rises is = among_none (take i recorded) x.page (λ k y there same.
     let at = get_taken recorded i k y there in
-    let pair = rises k i x at.1 (get_low recorded i x is) in
+    let pair = rises k i x at.1 (slice_get_within recorded i x is) in
     let first : slice_index_or recorded k x ≡ y = get_is recorded k y x at.0 in
     let second : slice_index_or recorded i x ≡ x = get_is recorded i x x is in
     let before : precedes y.page x.page ≡ true =
@@ -226,7 +220,7 @@ pub next_page : (old p : PagerState) (recorded : List FrozenPage) (i : ℕ) (x :
     IsIn (domains_of p.table) x.page
 next_page old p recorded i x so_far pages there =
     subst (λ (n : ℕ). IsIn n x.page) (sym so_far.domains)
-    (all_get (λ (o : FrozenPage). IsIn (domains_of old.table) o.page) recorded i x pages there)
+    (All-slice_get (λ (o : FrozenPage). IsIn (domains_of old.table) o.page) recorded i x pages there)
 
 pub next_fresh : (old p : PagerState) (recorded : List FrozenPage) (i : ℕ) (x : FrozenPage) → RestoresBelow old p recorded i →
     AllPairs Rises recorded → ((q : PageId) → IsFresh old q) → slice_get recorded i ≡ Some x → IsFresh p x.page
@@ -314,7 +308,7 @@ pub next_page_if : (old p : PagerState) (frames : List FrozenFrame) (i : ℕ) (f
     IfSome (owed_page frame) (IsIn (domains_of p.table))
 next_page_if old p frames i frame so_far pages there =
     subst (λ (n : ℕ). IfSome (owed_page frame) (IsIn n)) (sym so_far.domains)
-    (all_get (λ (o : FrozenFrame). IfSome (owed_page o) (IsIn (domains_of old.table))) frames i frame pages there)
+    (All-slice_get (λ (o : FrozenFrame). IfSome (owed_page o) (IsIn (domains_of old.table))) frames i frame pages there)
 
 pub next_bytes : (old p : PagerState) (frames : List FrozenFrame) (i : ℕ) (frame : FrozenFrame) → ThawsBelow old p frames i →
     AreFilled old frames → slice_get frames i ≡ Some frame → bytes_in p i ≡ frame.bytes
@@ -333,7 +327,7 @@ pub next_nowhere : (old p : PagerState) (frames : List FrozenFrame) (i : ℕ) (f
 next_nowhere old p frames i frame q so_far filled once is owed k held = elim (cases_lt k i) [
   | inl below ↦
       let none : FrozenFrame = frame in
-      let there = get_there frames k none (let low = get_low frames i frame is in omega (arith, low, below)) in
+      let there = get_there frames k none (let low = slice_get_within frames i frame is in omega (arith, low, below)) in
       let x = slice_index_or frames k none in
       let holds = thawed_holds p k x (so_far.below k x below there) in
       let same : k ≡ i =
@@ -382,7 +376,7 @@ thaws_all old p frames i so_far past = record {
   domains = so_far.domains;
   keys = so_far.keys;
   metas = so_far.metas;
-  each = λ f frame is. so_far.below f frame (let low = get_low frames f frame is in omega (arith, low, past)) is;
+  each = λ f frame is. so_far.below f frame (let low = slice_get_within frames f frame is in omega (arith, low, past)) is;
 }
 
 -- One frame.

@@ -22,7 +22,7 @@ use Rattle.cloak_model.specs.Parts as model
 use Rattle.cloak_model.specs.Resuming.{resume}
 use Rattle.cloak_model.specs.World.{items_of}
 use Rattle.cloaked_side.specs.Telling.{TellsSide}
-use Rattle.cloaked_side.proofs.Emitting.{emits_items}
+use Rattle.cloak_model.proofs.Emitting.{emits_items}
 use Rattle.hypercalls.specs.declared.domain.Domain.{Domain}
 use Rattle.hypercalls.specs.Standing.{StandsFor}
 use Rattle.settling_ahead.proofs.Laws.{keeps_rest}

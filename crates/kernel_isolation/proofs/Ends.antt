@@ -1,5 +1,6 @@
 -- The end of a domain: what the kernel is shown by it, in frames that were owed a page.
 use Rattle.std.proofs.Common.{◌≡◌, ◌≢◌, ◌∙◌, ℕ, zero, suc, ◌+◌, Bool, true, false, cond, List, [], ◌∷◌, ◌++◌, length, Option, None, Some, slice_index_or, refl, sym, ap, append_assoc, arith}
+use Rattle.std.specs.Prelude.{is_some}
 use Rattle.std.specs.List.{find, AllByRecursion, Contains}
 use Rattle.std.proofs.lemmas.Bool.{false≢true}
 use Rattle.std.proofs.lemmas.List.{append-nil, get_or-set_other, map-append}
@@ -9,7 +10,7 @@ use Rattle.cloak_model.specs.declared.item.Item.{Item}
 use Rattle.cloak_model.specs.declared.item.Item.TheVariants as item
 use Rattle.cloak_model.specs.Ahead.{is_owed, with_shown}
 use Rattle.cloak_model.specs.AskPages.{is_marked, settled_if_marked, ask_forget}
-use Rattle.cloak_model.specs.Cloaking.{CloakedMemory, owed_in, settle_owed, settle_if, settle}
+use Rattle.cloak_model.specs.Cloaking.{CloakedMemory, settle_owed, settle}
 use Rattle.cloak_model.specs.Events.{Drop}
 use Rattle.cloak_model.specs.PageMoves.{drop_pages}
 use Rattle.cloak_model.specs.Ending.{all_marked, settled_for, ask_end, cloak_for}
@@ -20,6 +21,7 @@ use Rattle.cloak_model.specs.Opening.{numbers_below}
 use Rattle.cloak_model.specs.World.{World, MidStep, Cloaked, settled_in, cipher_items}
 use Rattle.cloak_model.specs.Script.{played}
 use Rattle.settling_ahead.proofs.Settled.{still_owed}
+use Rattle.kernel_isolation.proofs.Showing.{AnyMemory, settle_shows}
 use Rattle.kernel_isolation.proofs.Settlings.{HasPlaces, ShownBy, ShownBy-none, ShownBy-append, settle_shown}
 
 -- each is shown in a frame that is owed a page
@@ -36,19 +38,10 @@ unfolding settle_owed
 owed_by f q None m is = (is, tt)
 owed_by f q (Some draw) m is = (is, tt)
 
-owed_if : (f : ℕ) (o : Option PageId) (m : CloakedMemory) → owed_in m f ≡ o → AreOwed m (settle_if f o m).ciphers
-unfolding settle_if
-owed_if f None m is = tt
-owed_if f (Some q) m is =
-    owed_by f q (vector_of m.ledger q) m (ap (λ (o : Option PageId). cond-some o) is)
-  where
-    cond-some : Option PageId → Bool
-    cond-some None = false
-    cond-some (Some p) = true
-
 settle_in_owed : (f : ℕ) (m : CloakedMemory) → AreOwed m (settle f m).ciphers
-unfolding settle
-settle_in_owed f m = owed_if f (owed_in m f) m refl
+settle_in_owed f m =
+    settle_shows AnyMemory (λ x ciphers n. AreOwed x ciphers) (λ x here. tt)
+    (λ g q x is here. owed_by g q (vector_of x.ledger q) x (ap (λ (o : Option PageId). is_some o) is)) f m tt
 
 -- what is owed later was owed before
 before_owed : (m after : CloakedMemory) (ciphers : List (ℕ × List ℕ)) →

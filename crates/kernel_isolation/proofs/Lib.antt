@@ -2,6 +2,8 @@ pub mod Ignoring
 pub mod Between
 pub mod Shown
 pub mod OutsideSteps
+pub mod Ahead
+pub mod Showing
 pub mod Settlings
 pub mod Items
 pub mod InsideSteps

@@ -1,5 +1,6 @@
 -- A program keeps its number, and what a context shows as it leaves has the number of the context.
 use Rattle.std.proofs.Common.{◌≡◌, ◌∙◌, ℕ, suc, zero, ◌+◌, List, [], ◌∷◌, Option, Some, None, Result, Ok, Err, slice_get, slice_set, refl, sym, ap, arith}
+use Rattle.cloak_model.proofs.ResumeParts.{answer_taken_number}
 use Rattle.cloak_model.specs.declared.context.Phase.{Phase}
 use Rattle.cloak_model.specs.declared.context.Phase.TheVariants.{Plain, CopyIn, Waiting, CopyOut}
 use Rattle.cloak_model.specs.declared.context.ResumeFault.{ResumeFault}
@@ -13,7 +14,7 @@ use Rattle.cloak_model.specs.declared.inside.Went.{Went}
 use Rattle.cloak_model.specs.declared.inside.Went.TheVariants as went
 use Rattle.cloak_model.specs.Contexts.{Context, context_number, domain_of, slot_of, shown}
 use Rattle.cloak_model.specs.DomainState.{Control, Domain}
-use Rattle.cloak_model.specs.DomainStep.{domain_script, DomainStepped, instruction_ended, copy_ended, phase_step, step_if, domain_step, interrupt_if, interrupt, answer_taken, resume_told, resume_slot, after_write}
+use Rattle.cloak_model.specs.DomainStep.{domain_script, DomainStepped, instruction_ended, copy_ended, phase_step, step_if, domain_step, interrupt_if, interrupt, resume_told, resume_slot, after_write}
 use Rattle.cloak_model.specs.Hypercalls.{Stepped, leaves, Hypercall, hypercall}
 use Rattle.cloak_model.specs.World.{World}
 use Rattle.hypercall_kinds.specs.Kinds.{CallKind, Calls, Ends, EndsSpace, after}
@@ -128,16 +129,11 @@ pub numbers_interrupt : (slot : ℕ) (d : Control) → Numbers slot d (interrupt
 unfolding interrupt
 numbers_interrupt slot d = interrupt_by _ slot d
 
-taken_number : (slot answer : ℕ) (c : Option Context) (d : Control) → (answer_taken slot answer c d).number ≡ d.number
-unfolding answer_taken
-taken_number slot answer None d = refl
-taken_number slot answer (Some c) d = refl
-
 told_number : (slot answer : ℕ) (r : Result (Unit {0}) ResumeFault) (d : Control) →
     (resume_told slot answer r d).control.number ≡ d.number
 unfolding resume_told
 told_number slot answer (Err f) d = refl
-told_number slot answer (Ok done) d = taken_number slot answer _ d
+told_number slot answer (Ok done) d = answer_taken_number slot answer _ d
 
 pub resume_number : (slot hart answer : ℕ) (d : Control) → (resume_slot slot hart answer d).control.number ≡ d.number
 unfolding resume_slot

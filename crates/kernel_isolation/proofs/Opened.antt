@@ -6,10 +6,10 @@ use Rattle.std.proofs.lemmas.List.{length-set, length-replicate, get_or-set_same
 use Rattle.std.proofs.lemmas.List.Elements.{filter-append}
 use Rattle.cloak_base.specs.Random.{Random}
 use Rattle.cloak_base.specs.declared.names.PageId.{PageId}
+use Rattle.cloak_model.proofs.Opening.{length-with_segments}
 use Rattle.cloak_model.specs.declared.image.Bundle.{Bundle}
 use Rattle.cloak_model.specs.declared.image.KernelImage.{KernelImage}
 use Rattle.cloak_model.specs.declared.image.Program.{Program}
-use Rattle.cloak_model.specs.declared.image.Segment.{Segment}
 use Rattle.cloak_model.specs.declared.item.Item.{Item}
 use Rattle.cloak_model.specs.declared.item.Item.TheVariants as item
 use Rattle.cloak_model.specs.Ahead.{with_shown}
@@ -17,19 +17,21 @@ use Rattle.cloak_model.specs.Beginning.{files_added, Beginning, opening_from}
 use Rattle.cloak_model.specs.Cloaking.{CloakedMemory, seen_in}
 use Rattle.cloak_model.specs.DomainState.{started_domain, started_control}
 use Rattle.cloak_model.specs.Ledger.{Keys, vector_of}
-use Rattle.cloak_model.specs.Memory.{zero_ram, with_bytes, with_byte, Seen, unless_written, filled}
-use Rattle.cloak_model.specs.Opening.{with_segments, numbers_below, started_ledger, started_kernel, started_memory, program_page, place_pages, place_programs, started_domains, started_joint, is_placed, opening_items, RunEdge}
+use Rattle.cloak_model.specs.Memory.{zero_ram, Seen, unless_written, filled}
+use Rattle.cloak_model.specs.Opening.{numbers_below, started_ledger, started_kernel, started_memory, program_page, place_pages, place_programs, started_domains, started_joint, is_placed, opening_items, RunEdge}
 use Rattle.cloak_model.specs.PageMoves.{place, place_with}
 use Rattle.cloak_model.specs.Parts.{Joint, KernelPart, kernel_part}
 use Rattle.cloak_model.specs.StoredFiles.{FileContents}
 use Rattle.cloak_model.specs.World.{cipher_items}
 use Rattle.kernel_isolation.proofs.FilesAdded.{added_keep, added_programs, same_part, files_of, opens_over}
 use Rattle.kernel_isolation.proofs.Shown.{AreFrames}
-use Rattle.kernel_isolation.proofs.Settlings.{HasPlaces, length-with_shown, with_shown-append}
+use Rattle.kernel_isolation.proofs.Settlings.{HasPlaces, length-with_shown}
 use Rattle.kernel_isolation.proofs.Numbers.{AreFrom}
 use Rattle.kernel_isolation.proofs.Turns.{IsSteady}
 use Rattle.cloak_model.specs.KernelAlone.{kernel_seen, with_kernel_seen}
 use Rattle.cloak_base.specs.Constants.{frame_of}
+use Rattle.cloak_model.proofs.Marks.{still_none}
+use Rattle.settling_ahead.proofs.Plans.{with_shown-append}
 
 -- the bytes of a frame
 abbrev pub frame_in : List (List ℕ) → ℕ → List ℕ
@@ -40,11 +42,6 @@ frame_in ram f = slice_index_or ram f []
 -- no hart has a reservation
 abbrev AreNone : ℕ → List (Option ℕ) → Type 0
 AreNone n marks = marks ≡ replicate n None
-
--- a write ends none if there is none
-still_none : (gone : ℕ → Bool) (n : ℕ) → map (unless_written gone) (replicate n None) ≡ replicate n None
-still_none gone zero = refl
-still_none gone (suc n) = ap (λ (l : List (Option ℕ)). None ∷ l) (still_none gone n)
 
 none_filled : (f : ℕ) (bytes : List ℕ) (n : ℕ) (seen : Seen) → AreNone n seen.marks →
     AreNone n (filled f bytes seen).marks
@@ -153,7 +150,7 @@ apart_by p programs f false is away = elim (cases_lt f p.place) [
   ]
 ]
 
-apart_of : (p : Program) (programs : List Program) (f : ℕ) → is_placed (p ∷ programs) f ≡ false →
+pub apart_of : (p : Program) (programs : List Program) (f : ℕ) → is_placed (p ∷ programs) f ≡ false →
     IsApart p p.start.pages f × (is_placed programs f ≡ false)
 apart_of p programs f away = apart_by p programs f _ refl away
 
@@ -255,20 +252,11 @@ items_by ram (f ∷ fs) = ap (λ (l : List Item). item.Cipher f (frame_in ram f)
 
 -- How a run begins.
 
-bytes_count : (ram : List (List ℕ)) (pa : ℕ) (bytes : List ℕ) → length (with_bytes ram pa bytes) ≡ length ram
-bytes_count ram pa [] = refl
-bytes_count ram pa (b ∷ bytes) = bytes_count (with_byte ram pa b) (pa + 1) bytes ∙ length-set ram _ _
-
-segments_count : (ram : List (List ℕ)) (segments : List Segment) → length (with_segments ram segments) ≡ length ram
-segments_count ram [] = refl
-segments_count ram (s ∷ segments) =
-    segments_count (with_bytes ram s.address s.bytes) segments ∙ bytes_count ram s.address s.bytes
-
 started_places : (k : KernelImage) (keys : Keys) (rest : Random) → HasPlaces (started_memory k keys rest)
 unfolding started_memory started_kernel started_ledger
 started_places k keys rest =
     length-replicate k.frames None
-    ∙ sym (segments_count (zero_ram k.frames) k.segments ∙ length-replicate k.frames _)
+    ∙ sym (length-with_segments (zero_ram k.frames) k.segments ∙ length-replicate k.frames _)
 
 started_from : (d : ℕ) (programs : List Program) → AreFrom d (started_domains d programs)
 unfolding started_domain started_control

@@ -310,7 +310,7 @@ made_keeps h disk =
     (keeps_none (ends disk (raised h 0x80000005 0)) (λ w. raised_none h 0x80000005 0)) (instruction_keeps h disk)
 
 -- it is told as it was made
-released_answer : (made : SteppedKernel) (w : World) → (released made w).answer ≡ made
+pub released_answer : (made : SteppedKernel) (w : World) → (released made w).answer ≡ made
 unfolding released ask_unmark
 released_answer made w =
     by (ends_reservation made.ending) (then_ask (ask_unmark made.hart.id) (λ done. answered made) w) (answered made w)

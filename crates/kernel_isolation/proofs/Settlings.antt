@@ -1,21 +1,20 @@
 -- What the kernel is shown by settling and by offers: RAM is then as it was shown, and a frame that was shown is there.
-use Rattle.std.proofs.Common.{◌≡◌, ◌∙◌, ℕ, zero, suc, ◌<◌, Bool, true, false, List, [], ◌∷◌, ◌++◌, length, Option, None, Some, slice_set, slice_index_or, refl, sym, ap, subst, inl, inr}
+use Rattle.std.proofs.Common.{◌≡◌, ◌∙◌, ℕ, ◌<◌, Bool, List, [], ◌∷◌, ◌++◌, length, Option, None, Some, slice_set, slice_index_or, refl, sym, ap, subst, inl, inr}
 use Rattle.std.specs.Prelude.{◌==◌}
-use Rattle.std.specs.List.{find}
-use Rattle.std.specs.Str.{bytes_eq}
 use Rattle.std.proofs.lemmas.Bool.{cases_lt}
 use Rattle.std.proofs.lemmas.List.{length-set, map-set, get_or_past}
 use Rattle.cloak_base.specs.declared.names.PageId.{PageId}
 use Rattle.cloak_base.specs.Constants.{frame_of}
 use Rattle.cloak_base.specs.Random.{Random}
-use Rattle.cloak_model.specs.Ahead.{is_owed, settle_found, settle_while, settle_touched, with_shown}
-use Rattle.cloak_model.specs.Cloaking.{CloakedMemory, AfterSettling, AfterOffer, owed_in, settle_owed, settle_if, settle, settle_frame_if, owing_frame, owes, with_owed, with_comparison, taken, compared, unless_missed, offer, seen_in}
+use Rattle.cloak_model.specs.Ahead.{settle_touched, with_shown}
+use Rattle.cloak_model.specs.Cloaking.{CloakedMemory, settle_owed, settle, offer, seen_in}
 use Rattle.cloak_model.specs.Hart.{Hart}
 use Rattle.cloak_model.specs.Ledger.{vector_of}
-use Rattle.cloak_model.specs.StepFrames.{step_frames}
-use Rattle.kernel_isolation.proofs.Shown.{AreFrames, either, frames_stay}
+use Rattle.kernel_isolation.proofs.Shown.{AreFrames, frames_stay}
+use Rattle.kernel_isolation.proofs.Showing.{settle_shows, Shows, touched_shows, offer_shows}
 use Rattle.cloak_model.specs.Memory.{Seen, filled, unless_written}
 use Rattle.settling_ahead.proofs.Planning.{unmarked}
+use Rattle.settling_ahead.proofs.Plans.{with_shown-append}
 
 -- each frame of RAM has its place among what is owed
 abbrev pub HasPlaces : CloakedMemory → Type 0
@@ -31,11 +30,6 @@ pub length-with_shown : (ciphers : List (ℕ × List ℕ)) (seen : Seen) →
     length (with_shown ciphers seen).ram ≡ length seen.ram
 length-with_shown [] seen = refl
 length-with_shown (c ∷ ciphers) seen = length-with_shown ciphers (filled c.0 c.1 seen) ∙ length-set seen.ram c.0 c.1
-
-pub with_shown-append : (a b : List (ℕ × List ℕ)) (seen : Seen) →
-    with_shown (a ++ b) seen ≡ with_shown b (with_shown a seen)
-with_shown-append [] b seen = refl
-with_shown-append (c ∷ a) b seen = with_shown-append a b (filled c.0 c.1 seen)
 
 filled_unmarked : (hart f : ℕ) (bytes : List ℕ) (seen : Seen) →
     filled f bytes (unmarked hart seen) ≡ unmarked hart (filled f bytes seen)
@@ -95,96 +89,32 @@ unfolding settle_owed
 owed_shown f q None m places lt = one_shown m _ f _ places lt refl refl
 owed_shown f q (Some draw) m places lt = one_shown m _ f _ places lt refl refl
 
-if_shown : (f : ℕ) (o : Option PageId) (m : CloakedMemory) → HasPlaces m → owed_in m f ≡ o →
-    let s = settle_if f o m in ShownBy m s.ciphers s.memory
-unfolding settle_if
-if_shown f None m places is = ShownBy-none m places
-if_shown f (Some q) m places is =
-    owed_shown f q (vector_of m.ledger q) m places
-    (subst (λ (n : ℕ). f < n) places (within m.ledger.owed f q is))
-
 pub settle_shown : (f : ℕ) (m : CloakedMemory) → HasPlaces m → ShownBy m (settle f m).ciphers (settle f m).memory
-unfolding settle
-settle_shown f m places = if_shown f (owed_in m f) m places refl
+settle_shown =
+    settle_shows HasPlaces ShownBy ShownBy-none (λ f q m is places.
+    owed_shown f q (vector_of m.ledger q) m places
+    (subst (λ (n : ℕ). f < n) places (within m.ledger.owed f q is)))
 
--- Settling ahead of a step.
+shows : Shows HasPlaces ShownBy
+shows = record {
+  none = ShownBy-none;
+  both = ShownBy-append;
+  after = λ m n a shown. shown.places;
+  settles = settle_shown;
+}
 
-found_shown : (o : Option ℕ) (next : CloakedMemory → AfterSettling) (m : CloakedMemory) → HasPlaces m →
-    ((n : CloakedMemory) → HasPlaces n → ShownBy n (next n).ciphers (next n).memory) →
-    let s = settle_found o next m in ShownBy m s.ciphers s.memory
-found_shown None next m places more = ShownBy-none m places
-found_shown (Some f) next m places more =
-    let first = settle_shown f m places in
-    ShownBy-append m (settle f m).memory _ _ _ first (more (settle f m).memory first.places)
-
-while_shown : (frames : List (List ℕ) → List ℕ) (n : ℕ) (m : CloakedMemory) → HasPlaces m →
-    let s = settle_while frames n m in ShownBy m s.ciphers s.memory
-unfolding settle_while
-while_shown frames zero m places = ShownBy-none m places
-while_shown frames (suc n) m places =
-    found_shown (find (is_owed m) (frames m.ram)) (settle_while frames n) m places
-    (λ x there. while_shown frames n x there)
-
+-- ahead of a step
 pub touched_shown : (h : Hart) (disk : List ℕ) (m : CloakedMemory) → HasPlaces m →
     let s = settle_touched h disk m in ShownBy m s.ciphers s.memory
-unfolding settle_touched
-touched_shown h disk m places = while_shown (λ ram. step_frames h ram disk) (length m.ledger.owed) m places
+touched_shown = touched_shows HasPlaces ShownBy shows
 
 -- Offers.
 
-abbrev OfferShown : CloakedMemory → AfterOffer → Type 0
-OfferShown m o = ShownBy m o.ciphers o.memory
-
-frame_if_shown : (f : Option ℕ) (m : CloakedMemory) → HasPlaces m →
-    let s = settle_frame_if f m in ShownBy m s.ciphers s.memory
-frame_if_shown None m places = ShownBy-none m places
-frame_if_shown (Some f) m places = settle_shown f m places
-
--- what is owed changes, and not in number
-owed_kept : (m after : CloakedMemory) (f : ℕ) (o : Option PageId) → HasPlaces m → seen_in after ≡ seen_in m →
-    after.ledger.owed ≡ slice_set m.ledger.owed f o → ShownBy m [] after
-owed_kept m after f o places seen owed = record {
-  frames = tt;
-  seen = seen;
-  places = ap length owed ∙ (length-set m.ledger.owed f o ∙ (places ∙ sym (ap (λ (x : Seen). length x.ram) seen)));
-}
-
-taken_shown : (q : PageId) (g : ℕ) (write : Bool) (m after : CloakedMemory) → HasPlaces m → seen_in after ≡ seen_in m →
-    after.ledger.owed ≡ m.ledger.owed → ShownBy m [] (taken q g write after)
-taken_shown q g true m after places seen owed =
-    owed_kept m (taken q g true after) g (Some q) places seen
-    (ap (λ (l : List (Option PageId)). slice_set l g (Some q)) owed)
-taken_shown q g false m after places seen owed = record {
-  frames = tt;
-  seen = seen;
-  places = ap length owed ∙ (places ∙ sym (ap (λ (x : Seen). length x.ram) seen));
-}
-
-compared_shown : (q : PageId) (g : ℕ) (write : Bool) (recorded : Option (List ℕ)) (m : CloakedMemory) → HasPlaces m →
-    OfferShown m (compared q g write recorded m)
-unfolding compared
-compared_shown q g write None m places = owed_kept m (with_owed g (Some q) m) g (Some q) places refl refl
-compared_shown q g write (Some c) m places =
-    let there : List ℕ = slice_index_or m.ram g [] in
-    let after : CloakedMemory = with_comparison there c m in
-    let same : AfterOffer = record { memory = taken q g write after; ciphers = []; granted = true } in
-    let other : AfterOffer = record { memory = after; ciphers = []; granted = false } in
-    either (OfferShown m) (bytes_eq there c) same other (taken_shown q g write m after places refl refl)
-    (record { frames = tt; seen = refl; places = places })
-
-unless_shown : (m : CloakedMemory) (s : AfterSettling) (next : CloakedMemory → AfterOffer) →
-    ShownBy m s.ciphers s.memory →
-    ((n : CloakedMemory) → HasPlaces n → OfferShown n (next n)) → OfferShown m (unless_missed s next)
-unfolding unless_missed
-unless_shown m s next shown more =
-    either (OfferShown m) s.missed _ _ shown
-    (ShownBy-append m s.memory _ _ _ shown (more s.memory shown.places))
-
 pub offer_shown : (q : PageId) (g : ℕ) (write : Bool) (m : CloakedMemory) → HasPlaces m →
-    OfferShown m (offer q g write m)
-unfolding offer
-offer_shown q g write m places =
-    either (OfferShown m) (owes q (owed_in m g)) _ _ (ShownBy-none m places)
-    (unless_shown m (settle g m) _ (settle_shown g m places)
-    (λ n there. unless_shown n (settle_frame_if (owing_frame n q) n) _ (frame_if_shown (owing_frame n q) n there)
-    (λ o last. compared_shown q g write (o.ledger.recorded q) o last)))
+    let o = offer q g write m in ShownBy m o.ciphers o.memory
+offer_shown q =
+    offer_shows HasPlaces ShownBy shows q (λ g m places. record {
+      frames = tt;
+      seen = refl;
+      places = length-set m.ledger.owed g (Some q) ∙ places;
+    }) (λ a b m places. record { frames = tt; seen = refl; places = places })

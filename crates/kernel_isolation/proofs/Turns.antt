@@ -42,7 +42,7 @@ use Rattle.settling_ahead.specs.Touching.{AgreesIn}
 use Rattle.kernel_isolation.proofs.Between.{KernelStepIsAlone, hart_behind}
 use Rattle.kernel_isolation.proofs.Shown.{AreFrames, frames_stay}
 use Rattle.kernel_isolation.proofs.OutsideSteps.{AreInward, HaltsAsStops, shown_part, plain_told, plain_part, outside_step_is_alone}
-use Rattle.kernel_isolation.proofs.Settlings.{HasPlaces, ShownBy, length-with_shown, with_shown-append, shown_unmarked, frames-append, touched_shown}
+use Rattle.kernel_isolation.proofs.Settlings.{HasPlaces, ShownBy, length-with_shown, shown_unmarked, frames-append, touched_shown}
 use Rattle.settling_ahead.proofs.Planning.{unmarked}
 use Rattle.kernel_isolation.proofs.Resumes.{is_resume, marked, resume_keeps}
 use Rattle.kernel_isolation.proofs.Ends.{AreOwed, with_shown-apart, find_none, EndsIn, end_shows}
@@ -53,6 +53,7 @@ use Rattle.kernel_isolation.proofs.Accounts.{IsJointWorld, is_joint, Account, ra
 use Rattle.kernel_isolation.proofs.StepAccounts.{accounts_domain_step}
 use Rattle.kernel_isolation.proofs.Numbers.{AreFrom, ShowsContext, number_of_context, number_at, set_number, numbers_step, numbers_interrupt, resume_number}
 use Rattle.cloak_model.specs.Memory.{Seen, with_mark}
+use Rattle.settling_ahead.proofs.Plans.{with_shown-append}
 
 -- What each step keeps of the joint machine.
 pub record IsSteady (j : Joint) : Type 0 where
@@ -538,11 +539,11 @@ domain_turn schedule n j j' number ctx d w (went.SpaceGone space s) items inside
 domain_turn schedule n j j' number ctx d w _ items inside reached written shows =
     staying schedule n j j' number ctx items _ inside reached written refl
 
-memory_ram : (w : World) (m : CloakedMemory) → is_joint w ≡ true → seen_in (memory_of w m) ≡ seen_of w
+pub memory_ram : (w : World) (m : CloakedMemory) → is_joint w ≡ true → seen_in (memory_of w m) ≡ seen_of w
 memory_ram (Alone h) m form = absurd (false≢true form)
 memory_ram _ m form = refl
 
-memory_places : (w : World) (m : CloakedMemory) → IsJointWorld w → HasPlaces (memory_of w m)
+pub memory_places : (w : World) (m : CloakedMemory) → IsJointWorld w → HasPlaces (memory_of w m)
 memory_places (Cloaked c) m joint = joint.places
 memory_places _ m joint = absurd (false≢true joint.form)
 

@@ -2,12 +2,12 @@
 use Rattle.std.proofs.Common.{◌≡◌, ◌≢◌, ◌∙◌, inl, inr, ℕ, zero, suc, ◌+◌, ◌<◌, nat_lt, Bool, true, false, cond, List, [], ◌∷◌, length, get_or, slice_get, slice_set, slice_index, Option, Some, None, Ok, refl, sym, ap, subst, arith, All, eq-eqb}
 use Rattle.std.specs.Prelude.{option_and_then, position, is_none, ◌==◌, is_some}
 use Rattle.std.specs.List.{position_or_len}
-use Rattle.std.proofs.lemmas.Bool.{false≢true, cases_eq, cases_lt, eqb-true, lt-ltb}
+use Rattle.std.proofs.lemmas.Bool.{false≢true, cases_eq, eqb-true, lt-ltb}
 use Rattle.std.proofs.lemmas.List.{length-set, get_or-set_same, get_or-set_other}
 use Rattle.std.proofs.lemmas.List.Elements.{All-nil, All-cons, All-head, All-tail}
 use Rattle.std.proofs.lemmas.List.Folds.{position_or_len-set}
 use Rattle.std.proofs.lemmas.List.Quantifiers.{position-Some}
-use Rattle.std.proofs.lemmas.List.Sums.{position_or_len_is, fails_before_first}
+use Rattle.std.proofs.lemmas.List.Sums.{position_or_len_is}
 use Rattle.cloak_base.proofs.Pages.{same_page-other}
 use Rattle.cloak_base.specs.declared.names.PageId.{PageId}
 use Rattle.cloak_model.specs.declared.resource.Owner.TheVariants.{File}
@@ -30,6 +30,7 @@ use Rattle.latest_store.proofs.Held.{Holds}
 use Rattle.latest_store.proofs.Moved.{Agrees, move_agrees}
 use Rattle.latest_store.proofs.Numbers.{MapsHeld, HasFew, ResourcesFollow, found_follows}
 use Rattle.latest_store.proofs.Turned.{set_same, set_other}
+use Rattle.cloak_base.proofs.Lists.{fails_all}
 
 -- The pages of a file.
 
@@ -52,7 +53,7 @@ contents_agree key d resource page (Some c ∷ contents) m history all agrees =
     (All-tail (IsSealedIfShown key) (Some c) contents all)
     (move_agrees d (Makes q c.plain) history m.plain (refl, whole) agrees)
 
-contents_loads : (e d resource page : ℕ) (contents : List (Option PageContent)) (history : List Move) →
+pub contents_loads : (e d resource page : ℕ) (contents : List (Option PageContent)) (history : List Move) →
     loads_of e (made_contents d resource page contents history) ≡ loads_of e history
 unfolding loads_of
 contents_loads e d resource page [] history = refl
@@ -85,20 +86,6 @@ place_is p xs n is less =
     ap (λ (b : Bool). cond b (Some (position_or_len p xs)) None)
     (lt-ltb (position_or_len p xs) (length xs) (omega (arith, is, less)))
     ∙ ap (λ (k : ℕ). Some k) is
-
-pub none_by : (test : Bool) (n : ℕ) → ◌≡◌ {A = Option ℕ} (cond test (Some n) None) None → test ≡ false
-none_by true n none = absurd cc
-none_by false n none = refl
-
--- if none passes, none does at any place
-pub fails_all : {A : Type 0} (p : A → Bool) (xs : List A) (k : ℕ) (d : A) → position p xs ≡ None → k < length xs →
-    p (get_or xs k d) ≡ false
-fails_all p xs k d none less = elim (cases_lt (position_or_len p xs) (length xs)) [
-  | inl inside ↦
-      absurd (false≢true (sym (none_by (nat_lt (position_or_len p xs) (length xs)) _ none)
-      ∙ lt-ltb (position_or_len p xs) (length xs) inside))
-  | inr past ↦ fails_before_first p xs k d (omega (arith, past, less))
-]
 
 -- the file is the resource that it was given
 pub given_place : (number pages n : ℕ) (r r' : Resources) → ComesBy number pages r n r' →

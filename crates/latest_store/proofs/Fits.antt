@@ -16,7 +16,7 @@ use Rattle.cloak_model.specs.Resources.{Resources, resource_at, drop_space}
 use Rattle.latest_store.specs.Moves.{Move, Makes, Stores, Combines, Copies, Zeros, Drops, Loads, covers, latest, latest_value, with_moves}
 use Rattle.latest_store.specs.Deeds.{made_moves}
 use Rattle.latest_store.proofs.Moved.{IsSound, AreSound}
-use Rattle.latest_store.proofs.Numbers.{MapsHeld, HasFew, ResourcesFollow, HeldPlace, dropped_free, drop_maps, drop_few, Enough, fork_maps, fork_few, fork_free, fork_apart}
+use Rattle.latest_store.proofs.Numbers.{MapsHeld, HasFew, ResourcesFollow, HeldPlace, dropped_free, drop_few, Enough, fork_maps, fork_few, fork_free, fork_apart, dropped_maps}
 
 -- the pages of a domain under its free numbers are zeros
 abbrev pub FreeZero : List Move → ℕ → Resources → Type 0
@@ -142,7 +142,7 @@ drops_zero d (n ∷ list) history q at own (inr listed) =
 pub fits_drop : (d space : ℕ) (r : Resources) →
     Fits d r (map (λ (n : ℕ). Drops d n) (private_numbers space r)) (drop_space space r)
 fits_drop d space r = record {
-  maps = drop_maps space r;
+  maps = dropped_maps space r;
   few = drop_few space r;
   free = λ maps history zero q own free at.
       drops_zero d (private_numbers space r) history q at own

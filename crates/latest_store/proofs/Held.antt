@@ -3,7 +3,7 @@
 use Rattle.std.proofs.Common.{◌≡◌, ◌≢◌, ◌∙◌, ℕ, zero, suc, ◌<◌, Bool, true, false, ◌||◌, cond, List, [], ◌∷◌, ◌++◌, length, slice_get, slice_set, Option, Some, None, inl, inr, refl, sym, ap, subst, arith, append-nil, eq-eqb}
 use Rattle.std.specs.Prelude.{◌==◌, is_some, nat_eq}
 use Rattle.std.specs.List.{list_any}
-use Rattle.std.proofs.lemmas.Bool.{false≢true, cases_lt}
+use Rattle.std.proofs.lemmas.Bool.{false≢true, cases_lt, or_parts}
 use Rattle.std.proofs.lemmas.Grind.{flat_map-append}
 use Rattle.std.proofs.lemmas.List.Elements.{filter-append}
 use Rattle.std.proofs.lemmas.List.Folds.{list_any-append}
@@ -184,14 +184,6 @@ abbrev pub HoldsAfter : List Move → Joint → Option ℕ → List Item → Joi
 HoldsAfter history j inside items j' =
     Holds (with_moves (end_moves items) (with_moves (step_moves history j.domains inside items) history)) j'
 
-left_false : (a b : Bool) → (a || b) ≡ false → a ≡ false
-left_false true b out = absurd (false≢true (sym out))
-left_false false b out = refl
-
-right_false : (a b : Bool) → (a || b) ≡ false → b ≡ false
-right_false true b out = absurd (false≢true (sym out))
-right_false false b out = out
-
 ends_nothing : (i : Item) → ((d : ℕ) → is_end_of d i ≡ false) → ending_moves i ≡ []
 ends_nothing (item.Ended e) ends = absurd (false≢true (sym (ends e) ∙ eq-eqb e e refl))
 ends_nothing _ ends = refl
@@ -199,8 +191,8 @@ ends_nothing _ ends = refl
 none_end : (items : List Item) → EndsNone items → end_moves items ≡ []
 none_end [] ends = refl
 none_end (i ∷ items) ends =
-    ap (λ (l : List Move). l ++ end_moves items) (ends_nothing i (λ d. left_false _ _ (ends d)))
-    ∙ none_end items (λ d. right_false (is_end_of d i) (ends_in d items) (ends d))
+    ap (λ (l : List Move). l ++ end_moves items) (ends_nothing i (λ d. (or_parts _ _ (ends d)).0))
+    ∙ none_end items (λ d. (or_parts (is_end_of d i) (ends_in d items) (ends d)).1)
 
 module _ (history : List Move) (j : Joint) where
   -- no domain ended

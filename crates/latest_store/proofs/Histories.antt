@@ -1,5 +1,5 @@
 -- A run from its opening on, and the law.
-use Rattle.std.proofs.Common.{◌≡◌, ◌≢◌, ◌∙◌, ℕ, zero, suc, ◌+◌, ◌-◌, ◌*◌, ◌%◌, true, ◌<◌, ◌≤◌, cond, List, [], ◌∷◌, length, take, drop, slice_get, slice_index, Option, Some, None, Ok, refl, sym, ap, subst, arith, length-drop, take_all, All, Bool, false}
+use Rattle.std.proofs.Common.{◌≡◌, ◌≢◌, ◌∙◌, ℕ, zero, suc, ◌+◌, ◌-◌, ◌*◌, ◌%◌, true, ◌<◌, ◌≤◌, cond, List, [], ◌∷◌, length, drop, slice_get, slice_index, Option, Some, None, Ok, refl, sym, ap, subst, arith, length-drop, take_all, All, Bool, false}
 use Rattle.std.proofs.lemmas.List.{length-take}
 use Rattle.std.proofs.lemmas.List.Elements.{All-nil, All-head, All-tail}
 use Rattle.cloak_base.specs.Random.{Random}
@@ -36,8 +36,9 @@ use Rattle.latest_store.proofs.Moved.{Agrees, move_agrees}
 use Rattle.latest_store.proofs.Numbers.{HasFew, MapsHeld, no_resources, started_few, started_maps, started_free}
 use Rattle.latest_store.proofs.Held.{Holds, HoldsAfter, step_holds}
 use Rattle.latest_store.proofs.Over.{IsOver, OverFrom, GoesOver, step_over, step_goes_over}
-use Rattle.page_law.proofs.Opened.{same_some}
 use Rattle.domain_isolation.proofs.Opened.{placed, before}
+use Rattle.std.proofs.lemmas.Option.{same_Some}
+use Rattle.cloak_model.proofs.Steps.{after_step}
 
 -- The opening.
 
@@ -50,7 +51,7 @@ pages_agree : (d : ℕ) (p : Program) (n : ℕ) (m m' : CloakedMemory) (history 
     length p.bytes ≡ 4096 * p.start.pages → n ≤ p.start.pages → place_pages d p n m ≡ Some m' →
     Agrees history m.plain → Agrees (made_pages d p n history) m'.plain
 pages_agree d p zero m m' history whole low is agrees =
-    subst (λ (x : CloakedMemory). Agrees history x.plain) (same_some m m' is) agrees
+    subst (λ (x : CloakedMemory). Agrees history x.plain) (same_Some m m' is) agrees
 pages_agree d p (suc n) m m' history whole low is agrees =
     let q : PageId = record { domain = d; resource = 0; page = n } in
     let bytes = program_page p.bytes n in
@@ -65,7 +66,7 @@ programs_agree : (frames d : ℕ) (programs : List Program) (m m' : CloakedMemor
     All (IsProgramIn frames) programs → place_programs d programs m ≡ Some m' → Agrees history m.plain →
     Agrees (made_programs d programs history) m'.plain
 programs_agree frames d [] m m' history all is agrees =
-    subst (λ (x : CloakedMemory). Agrees history x.plain) (same_some m m' is) agrees
+    subst (λ (x : CloakedMemory). Agrees history x.plain) (same_Some m m' is) agrees
 programs_agree frames d (p ∷ programs) m m' history all is agrees =
     let b = before (place_programs (d + 1) programs) (place_pages d p p.start.pages m) m' is in
     let fits = All-head (IsProgramIn frames) p programs all in
@@ -97,7 +98,7 @@ no_loads : (d e : ℕ) (programs : List Program) (program : Domain) →
 unfolding started_domain
 no_loads d e [] program is = absurd cc
 no_loads d zero (p ∷ programs) program is =
-    ap (λ (x : Domain). x.loads) (sym (same_some (started_domain d p.start) program is))
+    ap (λ (x : Domain). x.loads) (sym (same_Some (started_domain d p.start) program is))
 no_loads d (suc e) (p ∷ programs) program is = no_loads (d + 1) e programs program is
 
 -- a program begins with its regions in resource 0, and with the other numbers free
@@ -114,7 +115,7 @@ starts d e [] program is = absurd cc
 starts d zero (p ∷ programs) program is = record {
   pages = p.start.pages;
   base = p.start.base;
-  is = ap (λ (x : Domain). x.control.resources) (sym (same_some (started_domain d p.start) program is));
+  is = ap (λ (x : Domain). x.control.resources) (sym (same_Some (started_domain d p.start) program is));
 }
 starts d (suc e) (p ∷ programs) program is = starts (d + 1) e programs program is
 
@@ -204,14 +205,6 @@ has_step [] n less = absurd (omega (arith, less))
 has_step (t ∷ turns) zero less = record { turn = t; is = refl }
 has_step (t ∷ turns) (suc n) less =
     let rest = has_step turns n (omega (arith, less)) in record { turn = rest.turn; is = rest.is }
-
-pub after_step : (j : Joint) (turns : List Turn) (n : ℕ) (t : Turn) → slice_get turns n ≡ Some t →
-    joint_after j (take (suc n) turns) ≡ t.joint
-unfolding joint_after
-after_step j [] zero t is = absurd cc
-after_step j [] (suc n) t is = absurd cc
-after_step j (x ∷ turns) zero t is = ap (λ (y : Turn). y.joint) (same_some x t is)
-after_step j (x ∷ turns) (suc n) t is = after_step x.joint turns n t is
 
 run_holds : (b : Bundle) (from : Beginning) (budget : ℕ) (o : RunEdge) → opening_from b from ≡ Ok o → IsInGrammar b →
     IsBeginning b from → let r = run_of b budget o in

@@ -1,6 +1,6 @@
 -- Which numbers of resources are free, and that regions are of resources that are there.
 use Rattle.std.proofs.Common.{◌≡◌, ◌≢◌, ◌∙◌, ◌⊎◌, inl, inr, ℕ, zero, suc, ◌<◌, ◌≤◌, Bool, true, false, not, cond, List, [], ◌∷◌, length, map, replicate, find, filter, get_or, Option, Some, None, option_map, unwrap_or, Ok, refl, sym, ap, subst, arith, All, is_some, slice_index_or, slice_set, eq-eqb, zero-add}
-use Rattle.std.specs.Prelude.{is_none, nat_eq, nat_lt, nat_le}
+use Rattle.std.specs.Prelude.{nat_eq, nat_le}
 use Rattle.std.specs.List.{list_any}
 use Rattle.std.proofs.lemmas.Bool.{false≢true, eqb-true, cases_eq}
 use Rattle.std.proofs.lemmas.List.{get_or-set_other, get_or-set_same, get_or_past, length-map, length-replicate, length-set}
@@ -15,9 +15,11 @@ use Rattle.cloak_model.specs.declared.resource.Resource.{Resource}
 use Rattle.cloak_model.specs.Files.{file_found}
 use Rattle.cloak_model.specs.Fork.{private_numbers, free_numbers, copies, with_copy, with_copies, copied_region, forked_resources}
 use Rattle.cloak_model.specs.Resources.{Resources, Mapped, resource_at, regions_in, is_inside, place_in, lookup, page_id, page_at, started_resources, pages_of, first_free, refused, made_at, new_resource, is_shared_with, size_for, is_region, overlaps, with_region, with_regions, mapped, map_region, starts_at, unmap_region, is_space, is_private_to, without_space, drop_space}
-use Rattle.resource_map.proofs.Lists.{get_or-replicate_none, get_or-map_all, none_from_test, first_free-at, All-find, inside_from_some}
-use Rattle.resource_map.proofs.Places.{All-places, any-places}
-use Rattle.resource_map.proofs.Copies.{All-zip, Both, find-zip}
+use Rattle.resource_map.proofs.Lists.{get_or-replicate_none, get_or-map_all, first_free-at, All-find, inside_from_some}
+use Rattle.resource_map.proofs.Places.{any-places}
+use Rattle.resource_map.proofs.Copies.{All-zip, Both, find-zip, free_all}
+use Rattle.resource_map.proofs.RegionLists.{All-with_region}
+use Rattle.cloak_base.proofs.Lists.{free_before}
 
 -- a resource that is there, and that a space may map
 abbrev pub may_map : ℕ → Option Resource → Bool
@@ -126,14 +128,6 @@ put_maps r i x free maps space =
     (get_or-set_other r.held i g.resource (Some x) None (other_number r.held space i g.resource free may)) ∙ may)
     (regions_in r space) (maps space)
 
-pub put_free : {A : Type 0} (xs : List (Option A)) (i n : ℕ) (x : A) →
-    slice_index_or (slice_set xs i (Some x)) n None ≡ None → slice_index_or xs n None ≡ None
-put_free [] i n x free = free
-put_free (y ∷ xs) zero zero x free = cc
-put_free (y ∷ xs) zero (suc n) x free = free
-put_free (y ∷ xs) (suc i) zero x free = free
-put_free (y ∷ xs) (suc i) (suc n) x free = put_free xs i n x free
-
 made_follows : (owner : Owner) (pages : ℕ) (place : Option ℕ) (r : Resources) → first_free r.held ≡ place →
     ResourcesFollow r (made_at owner pages place r).resources
 unfolding made_at
@@ -141,7 +135,7 @@ made_follows owner pages None r is = follows_same r
 made_follows owner pages (Some n) r is = record {
   maps = put_maps r n (record { owner = owner; pages = pages }) (first_free-at r.held n is).1;
   few = λ few. subst (λ (k : ℕ). k ≤ 16) (sym (length-set r.held n _)) few;
-  free = λ m free. put_free r.held n m _ free;
+  free = λ m free. free_before r.held n m _ free;
 }
 
 follows_either : {A : Type 0} (b : Bool) (r : Resources) (m n : Mapped A) → ResourcesFollow r m.resources →
@@ -207,19 +201,6 @@ regions_follow space regions r all = record {
   free = λ n free. free;
 }
 
-insert_step : (b : Bool) (P : Region → Type 0) (xs ys : List Region) → All P xs → All P ys → All P (cond b xs ys)
-insert_step true P xs ys p q = p
-insert_step false P xs ys p q = q
-
-with_region_all : (P : Region → Type 0) (g : Region) (regions : List Region) → P g → All P regions →
-    All P (with_region g regions)
-with_region_all P g [] one all = All-cons P g [] one all
-with_region_all P g (h ∷ regions) one all =
-    insert_step (nat_lt g.start h.start) P (g ∷ (h ∷ regions)) (h ∷ with_region g regions)
-    (All-cons P g (h ∷ regions) one all)
-    (All-cons P h (with_region g regions) (All-head P h regions all)
-    (with_region_all P g regions one (All-tail P h regions all)))
-
 sized : (b : Bool) (pages size : ℕ) → cond b (Some pages) None ≡ Some size → b ≡ true
 sized true pages size is = refl
 sized false pages size is = absurd cc
@@ -246,7 +227,7 @@ mapped_follows space g (Some size) r is =
     mapped_by (not (is_region g size)) (list_any (overlaps g) regions) (nat_le 16 (length regions)) r
     (with_regions space (with_region g regions) r)
     (regions_follow space (with_region g regions) r (λ maps.
-    with_region_all (IsOf r space) g regions (map_from_size space (resource_at r g.resource) size is) (maps space)))
+    All-with_region (IsOf r space) g regions (map_from_size space (resource_at r g.resource) size is) (maps space)))
 
 pub map_follows : (space : ℕ) (g : Region) (r : Resources) → ResourcesFollow r (map_region space g r).resources
 unfolding map_region
@@ -282,7 +263,7 @@ unfolding drop_space
 at_dropped space r n = get_or-map_all (without_space space) None None r.held n refl
 
 -- the regions of another space
-dropped_maps : (space : ℕ) (r : Resources) → MapsHeld r → MapsHeld (drop_space space r)
+pub dropped_maps : (space : ℕ) (r : Resources) → MapsHeld r → MapsHeld (drop_space space r)
 unfolding drop_space
 dropped_maps space r maps s = elim (cases_eq s space) [
   | inl same ↦
@@ -332,9 +313,6 @@ dropped_free space r n free =
 pub drop_few : (space : ℕ) (r : Resources) → HasFew r → HasFew (drop_space space r)
 unfolding drop_space
 drop_few space r few = subst (λ (k : ℕ). k ≤ 16) (sym (length-map r.held (without_space space))) few
-
-pub drop_maps : (space : ℕ) (r : Resources) → MapsHeld r → MapsHeld (drop_space space r)
-drop_maps space r maps s = dropped_maps space r maps s
 
 -- A space is copied.
 
@@ -387,12 +365,6 @@ copies_owned new r (copy ∷ rest) held inside =
 -- the number of a copy was free
 abbrev Suits : Resources → ℕ × ℕ → Type 0
 Suits r copy = (copy.1 < length r.held) × (resource_at r copy.1 ≡ None)
-
-free_all : (r : Resources) → All (λ n. (n < length r.held) × (resource_at r n ≡ None)) (free_numbers r)
-free_all r =
-    All-places is_none (λ n. (n < length r.held) × (resource_at r n ≡ None)) None 0 r.held
-    (λ i less pass. subst (λ n. (n < length r.held) × (resource_at r n ≡ None)) (sym (zero-add i))
-    (less, none_from_test (resource_at r i) pass))
 
 copies_suit : (space : ℕ) (r : Resources) → All (Suits r) (copies space r)
 copies_suit space r =
@@ -487,7 +459,7 @@ module _ (space new : ℕ) (r : Resources) where
       get_or (with_copies new held list r) n None ≡ None → get_or held n None ≡ None
   copied_free [] held n free = free
   copied_free (copy ∷ rest) held n free =
-      put_free held copy.1 n _ (copied_free rest (with_copy new held copy r) n free)
+      free_before held copy.1 n _ (copied_free rest (with_copy new held copy r) n free)
 
   pub fork_free : (n : ℕ) → resource_at (forked_resources space new r) n ≡ None → resource_at r n ≡ None
   unfolding forked_resources

@@ -25,12 +25,14 @@ use Rattle.cloak_model.specs.Resuming.{resume}
 use Rattle.cloak_model.proofs.ResumeParts.{by_root, by_context, by_domain}
 use Rattle.cloak_model.specs.World.{World, items_of}
 use Rattle.domain_isolation.proofs.Endings.{end_world, end_leaves}
-use Rattle.domain_isolation.proofs.InOrder.{same_some, decided, get_set_same, get_set_other}
+use Rattle.domain_isolation.proofs.InOrder.{decided, get_set_same}
 use Rattle.kernel_isolation.proofs.Numbers.{AreFrom}
 use Rattle.resource_map.proofs.Lists.{get_or-replicate_none}
 use Rattle.page_law.specs.OwnPages.{is_end_of, ends_in}
 use Rattle.latest_store.proofs.Numbers.{no_resources}
 use Rattle.latest_store.proofs.Told.{EndsNone, unheard_ends, turn_told}
+use Rattle.std.proofs.lemmas.Option.{same_Some}
+use Rattle.cloak_base.proofs.Lists.{slice_get-set_other}
 
 -- Domain d is there, has completed these loads, and has neither a context nor a resource.
 pub record IsOver (d : ℕ) (loads : List (ℕ × ℕ)) (j : Joint) : Type 0 where
@@ -65,7 +67,7 @@ module _ (d : ℕ) where
       Same j (by_root j satp ctx reply w control a answer).joint
   unfolding by_root
   root_same j satp ctx reply w control a (Err fault) other = refl
-  root_same j satp ctx reply w control a (Ok done) other = get_set_other j.domains (domain_of ctx) d _ other
+  root_same j satp ctx reply w control a (Ok done) other = slice_get-set_other j.domains (domain_of ctx) d _ other
 
   context_same : (j : Joint) (satp ctx reply : ℕ) (w : Domain) (control : Control)
       (answer : Result (Unit {0}) ResumeFault) → d ≢ domain_of ctx →
@@ -98,9 +100,9 @@ module _ (d : ℕ) where
       Same j (by_interrupt due j number h e slot found).joint
   unfolding by_interrupt after_interrupt after_domain_step
   due_same true j number h e slot found other =
-      interrupt_same _ number h (item.Timer e ∷ []) _ ∙ get_set_other j.domains e d _ other
+      interrupt_same _ number h (item.Timer e ∷ []) _ ∙ slice_get-set_other j.domains e d _ other
   due_same false j number h e slot found other =
-      went_same _ number h e _ _ ∙ get_set_other j.domains e d _ other
+      went_same _ number h e _ _ ∙ slice_get-set_other j.domains e d _ other
 
   running_same : (runs : Bool) (j : Joint) (number : ℕ) (h : Hart) (ctx : ℕ) (found : Domain) → d ≢ domain_of ctx →
       Same j (by_running runs j number h ctx found).joint
@@ -121,7 +123,7 @@ module _ (d : ℕ) where
         context_at found.control.contexts slot ≡ None
     idle_at e found same is slot =
         let it : over.program ≡ found =
-        same_some over.program found (sym over.there ∙ ap (slice_get j.domains) same ∙ is) in
+        same_Some over.program found (sym over.there ∙ ap (slice_get j.domains) same ∙ is) in
         ap (λ (x : Domain). context_at x.control.contexts slot) (sym it) ∙ over.idle slot
 
     domain_same : (j' : Joint) (hart satp ctx reply : ℕ) (found : Option Domain) → j'.domains ≡ j.domains →
@@ -189,13 +191,13 @@ module _ (d : ℕ) where
   end_over loads t e old v over there = elim (decided d e) [
     | inl same ↦
         let here : slice_get t.joint.domains d ≡ Some old = ap (slice_get t.joint.domains) same ∙ there in
-        let it : old ≡ over.program = same_some old over.program (sym here ∙ over.there) in
+        let it : old ≡ over.program = same_Some old over.program (sym here ∙ over.there) in
         subst (λ (l : List (ℕ × ℕ)). IsOver d l (end_domain e old v t).joint)
         (ap (λ (x : Domain). x.loads) it ∙ over.completed)
         (subst (λ (k : ℕ). IsOver d old.loads (end_domain k old v t).joint) same (ends_own t old v here))
     | inr other ↦
         over_same loads t.joint (end_domain e old v t).joint over
-        (get_set_other t.joint.domains e d (ended_domain old) other)
+        (slice_get-set_other t.joint.domains e d (ended_domain old) other)
   ]
 
   once_over : (loads : List (ℕ × ℕ)) (ended : Bool) (e : ℕ) (old : Domain) (v : Violation) (t : Turn) →

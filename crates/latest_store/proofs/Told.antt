@@ -1,11 +1,9 @@
 -- What a step told programs: no domain ends in it, but for the end after it; and if it met a violation, the last
 -- answer of its context was that it stops. So the end of the domain takes nothing back that the step did.
-use Rattle.std.proofs.Common.{◌≡◌, ◌∙◌, ◌%◌, ℕ, Bool, true, false, ◌||◌, cond, List, [], ◌∷◌, ◌++◌, slice_get, Option, Some, None, Result, Ok, Err, refl, sym, ap, subst, append-nil, eq-eqb}
+use Rattle.std.proofs.Common.{◌≡◌, ◌∙◌, ◌%◌, ℕ, Bool, true, false, ◌||◌, cond, List, [], ◌∷◌, ◌++◌, slice_get, Option, Some, None, Result, Ok, Err, refl, sym, ap, subst, eq-eqb}
 use Rattle.std.specs.Prelude.{is_some, ◌==◌}
 use Rattle.std.proofs.lemmas.Bool.{false≢true}
-use Rattle.std.proofs.lemmas.List.Elements.{filter-append}
 use Rattle.std.proofs.lemmas.List.Folds.{list_any-append}
-use Rattle.cloak_base.specs.declared.causes.Shown.{Shown}
 use Rattle.cloak_base.specs.declared.names.PageId.{PageId}
 use Rattle.cloak_base.specs.Registers.{register}
 use Rattle.rv_isa.specs.declared.instr.Instr.{Instr}
@@ -43,7 +41,7 @@ use Rattle.cloak_model.specs.KernelStep.{ticked}
 use Rattle.cloak_model.specs.Parts.{Joint}
 use Rattle.cloak_model.specs.Resuming.{resume}
 use Rattle.cloak_model.proofs.ResumeParts.{by_root, by_context, by_domain}
-use Rattle.cloak_model.specs.World.{World, Cloaked, items_of, violation_of, cipher_items}
+use Rattle.cloak_model.specs.World.{World, Cloaked, items_of, cipher_items}
 use Rattle.domain_isolation.proofs.Answers.{IsServing}
 use Rattle.domain_isolation.proofs.Played.{answers_of, answer_items, last_stopped, played_items, played_met}
 use Rattle.cloak_model.specs.Script.{played}
@@ -53,6 +51,7 @@ use Rattle.kernel_isolation.proofs.Numbers.{AreFrom, number_at}
 use Rattle.page_law.specs.OwnPages.{is_end_of, ends_in}
 use Rattle.latest_store.specs.Moves.{Move, latest_value}
 use Rattle.latest_store.specs.Deeds.{first_granted, both_granted, page_for, hypercall_moves, ecall_moves, effect_moves, atomic_moves, word_moves, fetched_moves, byte_moves, phase_moves, context_moves, program_moves}
+use Rattle.domain_isolation.proofs.InsideSteps.{ended_items, ended_met}
 
 -- No domain ends in a step itself.
 
@@ -166,22 +165,6 @@ went_ends j number h e w (went.SpaceGone space s) ends =
     ends_append (items_of w) (item.Leave s ∷ []) ends (λ d. refl)
 went_ends j number h e w _ ends = ends
 
-leave_half : (d : ℕ) (items : List Item) (s : Shown) → inward_half d (items ++ item.Leave s ∷ []) ≡ inward_half d items
-leave_half d items s = filter-append (is_inward d) items (item.Leave s ∷ []) ∙ append-nil (inward_half d items)
-
-went_half : (d : ℕ) (j : Joint) (number : ℕ) (h : Hart) (e : ℕ) (w : World) (how : Went) →
-    inward_half d (domain_ended j number h e w how).items ≡ inward_half d (items_of w)
-unfolding domain_ended
-went_half d j number h e w (went.Leave s) = leave_half d (items_of w) s
-went_half d j number h e w (went.SpaceGone space s) = leave_half d (items_of w) s
-went_half d j number h e w _ = refl
-
-went_met : (j : Joint) (number : ℕ) (h : Hart) (e : ℕ) (w : World) (how : Went) →
-    is_some (domain_ended j number h e w how).violation ≡ true → is_some (violation_of w) ≡ true
-unfolding domain_ended
-went_met j number h e w went.Stopped some = some
-went_met j number h e w _ some = absurd (false≢true some)
-
 interrupt_told : (inside : Option ℕ) (j : Joint) (number : ℕ) (h : Hart) (e : ℕ) (how : Went) →
     TurnTold inside (interrupt_ended j number h (item.Timer e ∷ []) how)
 unfolding interrupt_ended
@@ -218,11 +201,11 @@ stepped_told j number h ctx found pages own =
       stopped = λ other is some. record {
         domain = n;
         answers = answers;
-        is = went_half (domain_of other) j' number h e t.world t.answer.went ∙ half (domain_of other)
+        is = ended_items (domain_of other) j' number h e t.world t.answer.went ∙ half (domain_of other)
             ∙ ap (λ (d : ℕ). inward_half d (answer_items n answers))
             (sym (own ∙ ap domain_of (same_context ctx other is))) ∙ own_items n answers;
         last = played_met n (of_domain (slot_of ctx) found) script s.own w s.ends serving refl
-            (went_met j' number h e t.world t.answer.went some);
+            (ended_met j' number h e t.world t.answer.went some);
       };
     }
 

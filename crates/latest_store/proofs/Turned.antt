@@ -18,14 +18,14 @@ use Rattle.cloak_model.specs.Ahead.{settled_step, made_after}
 use Rattle.cloak_model.specs.Asking.{Told}
 use Rattle.cloak_model.specs.Contexts.{Context, Admitted, context_at, domain_of, slot_of}
 use Rattle.cloak_model.specs.DomainState.{Control, Domain}
-use Rattle.cloak_model.specs.DomainStep.{DomainStepped, domain_step, answer_taken, resume_told, resume_slot, interrupt_if, interrupt}
+use Rattle.cloak_model.specs.DomainStep.{DomainStepped, domain_step, interrupt}
 use Rattle.cloak_model.specs.Halves.{is_inward, inward_half}
 use Rattle.cloak_model.specs.Hart.{Hart}
 use Rattle.cloak_model.specs.Joint.{Turn, cloak_of, memory_of, outside_ended, after_outside, outside_step, domain_ended, after_domain_step, pages_for, interrupt_ended, after_interrupt, by_interrupt, by_running, inside_step, turn_of}
 use Rattle.cloak_model.specs.KernelStep.{ticked}
 use Rattle.cloak_model.specs.Parts.{Joint}
 use Rattle.cloak_model.specs.Resuming.{resume}
-use Rattle.cloak_model.proofs.ResumeParts.{by_root, by_context, by_domain}
+use Rattle.cloak_model.proofs.ResumeParts.{by_root, by_context, by_domain, resume_slot_resources, interrupt_if_resources}
 use Rattle.cloak_model.specs.World.{World, MidStep, Cloaked, items_of}
 use Rattle.domain_isolation.proofs.InOrder.{decided}
 use Rattle.kernel_isolation.proofs.Numbers.{AreFrom, number_at}
@@ -140,22 +140,6 @@ set_none plain domains e found made there loads same d now is =
     (set_grows domains e found made [] plain there (loads ∙ sym (append-nil found.loads))
     (fits_none e _ [] _ refl (follows_equal _ _ same)) d now is)
 
-taken_same : (slot answer : ℕ) (o : Option Context) (d : Control) →
-    (answer_taken slot answer o d).resources ≡ d.resources
-unfolding answer_taken
-taken_same slot answer None d = refl
-taken_same slot answer (Some c) d = refl
-
-told_same : (slot answer : ℕ) (a : Result (Unit {0}) ResumeFault) (d : Control) →
-    (resume_told slot answer a d).control.resources ≡ d.resources
-unfolding resume_told
-told_same slot answer (Err fault) d = refl
-told_same slot answer (Ok done) d = taken_same slot answer _ d
-
-resume_same : (slot hart answer : ℕ) (d : Control) → (resume_slot slot hart answer d).control.resources ≡ d.resources
-unfolding resume_slot
-resume_same slot hart answer d = told_same slot answer _ _
-
 root_keeps : (j : Joint) (satp ctx reply : ℕ) (w : Domain) (control : Control) (a : Admitted)
     (answer : Result (Unit {0}) ResumeFault) → slice_get j.domains (domain_of ctx) ≡ Some w →
     control.resources ≡ w.control.resources → Keeps j (by_root j satp ctx reply w control a answer).joint
@@ -180,7 +164,7 @@ domain_keeps : (j : Joint) (hart satp ctx reply : ℕ) (found : Option Domain) �
 unfolding by_domain
 domain_keeps j hart satp ctx reply None there = kept j j refl refl
 domain_keeps j hart satp ctx reply (Some w) there =
-    context_keeps j satp ctx reply w _ _ there (resume_same (slot_of ctx) hart reply w.control)
+    context_keeps j satp ctx reply w _ _ there (resume_slot_resources (slot_of ctx) hart reply w.control)
 
 resume_keeps : (j : Joint) (hart satp ctx reply : ℕ) → Keeps j (resume j hart satp ctx reply).joint
 unfolding resume by_domain by_context by_root
@@ -274,15 +258,9 @@ silent_none (Some c) history d = silent_phase c.phase history d c
 pub timer_told : (e : ℕ) → inward_half e (item.Timer e ∷ []) ≡ item.Timer e ∷ []
 timer_told e = ap (λ (b : Bool). cond b (item.Timer e ∷ []) []) (eq-eqb e e refl)
 
-interrupt_if_same : (o : Option Context) (slot : ℕ) (d : Control) →
-    (interrupt_if o slot d).control.resources ≡ d.resources
-unfolding interrupt_if
-interrupt_if_same None slot d = refl
-interrupt_if_same (Some c) slot d = refl
-
 interrupt_same : (slot : ℕ) (d : Control) → (interrupt slot d).control.resources ≡ d.resources
 unfolding interrupt
-interrupt_same slot d = interrupt_if_same _ slot d
+interrupt_same slot d = interrupt_if_resources _ slot d
 
 -- a step of its context
 stepped_did : (history : List Move) (j : Joint) (number : ℕ) (h : Hart) (e slot : ℕ) (found : Domain)

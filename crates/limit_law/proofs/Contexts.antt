@@ -26,9 +26,9 @@ use Rattle.cloak_model.specs.InsideStep.{AfterInstruction, made, if_reached, if_
 use Rattle.cloak_model.specs.Resources.{Resources, page_at}
 use Rattle.cloak_model.specs.World.{World}
 use Rattle.cloak_model.specs.Script.{Script, Gives, Asks, Reads, Changes, played}
-use Rattle.kernel_isolation.proofs.Shown.{either}
 use Rattle.frozen_state.specs.Limits.{IsPageWord, IsPhase, IsSteady}
 use Rattle.limit_law.proofs.Pages.{IsPage, AreInPages, place_there}
+use Rattle.cloak_base.proofs.Choices.{either}
 
 -- A register is written.
 

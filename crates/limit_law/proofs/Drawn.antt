@@ -8,12 +8,12 @@ use Rattle.cloak_model.specs.Beginning.{Beginning, opening_from}
 use Rattle.cloak_model.specs.Cloaking.{CloakedMemory}
 use Rattle.cloak_model.specs.Joint.{stop_without_miss}
 use Rattle.cloak_model.specs.Ledger.{Keys}
-use Rattle.cloak_model.specs.Opening.{RunEdge, started_joint, started_ledger, started_memory}
+use Rattle.cloak_model.specs.Opening.{RunEdge, started_ledger, started_memory}
 use Rattle.cloak_model.specs.PageMoves.{place_with}
 use Rattle.cloak_model.specs.Parts.{Joint}
 use Rattle.cloak_model.specs.StoredFiles.{FileContents}
 use Rattle.kernel_isolation.proofs.FilesAdded.{IsGiven, given_keeps}
-use Rattle.limit_law.proofs.Openings.{begins_by_memory}
+use Rattle.limit_law.proofs.Openings.{begins_in_memory}
 
 pub stop_tells : (missed : Bool) (halt : Option ℕ) → cond missed (Some stop.NoRandom) (stop_without_miss halt) ≡ None →
     missed ≡ false
@@ -38,12 +38,8 @@ started_drawn b keys rest = refl
 abbrev pub JointDrawn : Joint → Type 0
 JointDrawn j = IsDrawn j.memory
 
-joint_drawn : (b : Bundle) (m : CloakedMemory) → IsDrawn m → JointDrawn (started_joint b m)
-unfolding started_joint
-joint_drawn b m drawn = drawn
-
 given_drawn : (f : FileContents) (x y : Joint) → IsGiven f x y → JointDrawn x → JointDrawn y
 given_drawn f x y given drawn = (given_keeps f x y given).memory.missed ∙ drawn
 
 pub opened_drawn : (b : Bundle) (from : Beginning) (o : RunEdge) → opening_from b from ≡ Ok o → JointDrawn o.joint
-opened_drawn b from = begins_by_memory IsDrawn JointDrawn b from place_drawn (started_drawn b) (joint_drawn b) given_drawn
+opened_drawn b from = begins_in_memory IsDrawn b from place_drawn (started_drawn b) given_drawn

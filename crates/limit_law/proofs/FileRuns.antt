@@ -26,13 +26,13 @@ use Rattle.resource_map.proofs.Lists.{get_or-replicate_none}
 use Rattle.frozen_state.specs.Words.{HasOwnerWord, AreFileWords}
 use Rattle.limit_law.specs.Files.{RunsHaveFileWords}
 use Rattle.limit_law.proofs.Files.{file_words, step_file_words}
-use Rattle.limit_law.proofs.RootRuns.{slot_same, interrupt_same}
 use Rattle.limit_law.proofs.Moments.{IsKept, at_every_moment}
 use Rattle.limit_law.proofs.Openings.{given_all}
 use Rattle.limit_law.proofs.Programs.{AllOf, KeptInside, step_all}
 use Rattle.limit_law.proofs.Runs.{JointKeeps, next_is_low, opened_keep, limits_are_kept}
 use Rattle.limit_law.proofs.Turns.{Keeps}
 use Rattle.limit_law.proofs.Words.{opened_words}
+use Rattle.cloak_model.proofs.ResumeParts.{resume_slot_resources, interrupt_if_resources}
 
 abbrev Words : Domain → Type 0
 Words d = AreFileWords d.control.resources
@@ -56,8 +56,8 @@ words_kept : KeptInside IsFit Words
 unfolding interrupt
 words_kept = record {
   step = λ slot d w known here. step_file_words slot d w known.limits (slot_fits d.control.contexts slot known.words.slots) here;
-  interrupted = λ slot d here. subst AreFileWords (sym (interrupt_same _ slot d.control)) here;
-  resumed = λ slot hart reply d low here. subst AreFileWords (sym (slot_same slot hart reply d.control)) here;
+  interrupted = λ slot d here. subst AreFileWords (sym (interrupt_if_resources _ slot d.control)) here;
+  resumed = λ slot hart reply d low here. subst AreFileWords (sym (resume_slot_resources slot hart reply d.control)) here;
   ended = λ d here. end_words d;
 }
 

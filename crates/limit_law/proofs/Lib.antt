@@ -12,6 +12,8 @@ pub mod Endings
 pub mod Programs
 pub mod Turns
 pub mod Runs
+pub mod Worlds
+pub mod Memories
 pub mod Owed
 pub mod OwedRuns
 pub mod Roots

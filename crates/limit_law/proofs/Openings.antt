@@ -21,24 +21,20 @@ use Rattle.limit_law.proofs.Programs.{AllOf, set_all, all_at}
 -- Of a memory: what holds before any page is placed, and is kept as one is placed.
 
 module _ (N : CloakedMemory → Type 0)
-    (one : (q : PageId) (f : ℕ) (bytes : List ℕ) (draw : Option (List ℕ × Random)) (m : CloakedMemory) → N m →
-    IfSome (place_with q f bytes draw m) N)
+    (one : (q : PageId) (f : ℕ) (bytes : List ℕ) (m : CloakedMemory) → N m → IfSome (place q f bytes m) N)
   where
     and_then : (f : CloakedMemory → Option CloakedMemory) (o : Option CloakedMemory) →
         ((m : CloakedMemory) → N m → IfSome (f m) N) → IfSome o N → IfSome (option_and_then f o) N
     and_then f None later here = tt
     and_then f (Some m) later here = later m here
 
-    placed : (q : PageId) (f : ℕ) (bytes : List ℕ) (m : CloakedMemory) → N m → IfSome (place q f bytes m) N
-    unfolding place
-    placed q f bytes m here = one q f bytes (vector_of m.ledger q) m here
-
     pages : (d : ℕ) (p : Program) (n : ℕ) (m : CloakedMemory) → N m → IfSome (place_pages d p n m) N
     pages d p zero m here = here
     pages d p (suc n) m here =
-        and_then (place _ _ _) (place_pages d p n m) (λ x there. placed _ _ _ x there) (pages d p n m here)
+        and_then (place _ _ _) (place_pages d p n m) (λ x there. one _ _ _ x there) (pages d p n m here)
 
-    programs_placed : (d : ℕ) (programs : List Program) (m : CloakedMemory) → N m → IfSome (place_programs d programs m) N
+    pub programs_placed : (d : ℕ) (programs : List Program) (m : CloakedMemory) → N m →
+        IfSome (place_programs d programs m) N
     programs_placed d [] m here = here
     programs_placed d (p ∷ programs) m here =
         and_then (place_programs (d + 1) programs) (place_pages d p p.start.pages m)
@@ -50,18 +46,19 @@ module _ (N : CloakedMemory → Type 0)
 abbrev pub KeepsFiles : (Joint → Type 0) → Type 0
 KeepsFiles P = (f : FileContents) (x y : Joint) → IsGiven f x y → P x → P y
 
--- by what holds of the memory
-pub begins_by_memory : (N : CloakedMemory → Type 0) (P : Joint → Type 0) (b : Bundle) (from : Beginning) →
+-- of the memory alone
+pub begins_in_memory : (N : CloakedMemory → Type 0) (b : Bundle) (from : Beginning) →
     ((q : PageId) (f : ℕ) (bytes : List ℕ) (draw : Option (List ℕ × Random)) (m : CloakedMemory) → N m →
     IfSome (place_with q f bytes draw m) N) →
-    ((keys : Keys) (rest : Random) → N (started_memory b.kernel keys rest)) →
-    ((m : CloakedMemory) → N m → P (started_joint b m)) → KeepsFiles P → (o : RunEdge) → opening_from b from ≡ Ok o →
-    P o.joint
-begins_by_memory N P b from one first gives keeps o opens =
+    ((keys : Keys) (rest : Random) → N (started_memory b.kernel keys rest)) → KeepsFiles (λ j. N j.memory) →
+    (o : RunEdge) → opening_from b from ≡ Ok o → N o.joint.memory
+unfolding place started_joint
+begins_in_memory N b from one first keeps o opens =
     let over = opens_over b from o opens in
     let placed = subst (λ (m : Option CloakedMemory). IfSome m N) over.placed
-    (programs_placed N one 0 b.programs _ (first over.keys over.stream)) in
-    files_keep P keeps (files_of from) (started_joint b over.memory) o.joint over.added (gives over.memory placed)
+    (programs_placed N (λ q f bytes m here. one q f bytes (vector_of m.ledger q) m here) 0 b.programs _
+    (first over.keys over.stream)) in
+    files_keep (λ j. N j.memory) keeps (files_of from) (started_joint b over.memory) o.joint over.added placed
 
 -- whatever the memory is
 pub begins : (P : Joint → Type 0) (b : Bundle) (from : Beginning) → ((m : CloakedMemory) → P (started_joint b m)) →

@@ -1,5 +1,5 @@
 -- Page tables are recorded of spaces in use alone: over each step of the joint machine, and in a run.
-use Rattle.std.proofs.Common.{◌≡◌, ◌∙◌, ℕ, zero, suc, Bool, true, false, cond, List, [], ◌∷◌, find, slice_get, slice_set, Option, Some, None, IfSome, Result, Ok, Err, refl, sym, ap, subst}
+use Rattle.std.proofs.Common.{◌≡◌, ◌∙◌, ℕ, zero, suc, Bool, true, false, cond, List, [], ◌∷◌, slice_get, slice_set, Option, Some, None, IfSome, Result, Ok, Err, refl, sym, ap, subst}
 use Rattle.std.specs.Prelude.{IsSomeAnd, is_some, nat_eq}
 use Rattle.std.proofs.lemmas.Bool.{false≢true, and_from, and_parts, eqb-true, eq-eqb}
 use Rattle.cloak_base.specs.Random.{Random}
@@ -14,26 +14,26 @@ use Rattle.cloak_model.specs.declared.inside.Went.TheVariants as went
 use Rattle.cloak_model.specs.declared.item.Item.{Item}
 use Rattle.cloak_model.specs.declared.outcome.Kernel.{Kernel}
 use Rattle.cloak_model.specs.declared.outcome.Kernel.TheVariants.{Resume}
-use Rattle.cloak_model.specs.Ahead.{settle_while, settle_found, settle_touched, settled_step, made_after, is_owed}
+use Rattle.cloak_model.specs.Ahead.{settle_touched, settled_step, made_after}
 use Rattle.cloak_model.specs.Asking.{Told}
 use Rattle.cloak_model.specs.Bundle.{IsInGrammar}
 use Rattle.cloak_model.specs.Beginning.{Beginning, opening_from}
-use Rattle.cloak_model.specs.Cloaking.{CloakedMemory, AfterSettling, settle}
+use Rattle.cloak_model.specs.Cloaking.{CloakedMemory, AfterSettling}
 use Rattle.cloak_model.specs.Contexts.{Context, Admitted, admit, is_root, context_at, domain_of, slot_of, same_space, with_space, resume_if, resume_at}
 use Rattle.cloak_model.specs.DomainState.{Control, Domain}
-use Rattle.cloak_model.specs.DomainStep.{DomainStepped, domain_step, interrupt_if, interrupt, answer_taken, resume_told, resume_slot}
+use Rattle.cloak_model.specs.DomainStep.{DomainStepped, domain_step, interrupt, resume_told, resume_slot}
 use Rattle.cloak_model.specs.Ending.{ask_end, cloak_for, without_roots, ended_domain}
 use Rattle.cloak_model.specs.Hart.{Hart}
 use Rattle.cloak_model.specs.Hypercalls.{Stepped}
-use Rattle.cloak_model.specs.Joint.{Moment, Turn, next_hart, cloak_of, cloak_outside, memory_of, outside_ended, after_outside, outside_step, domain_ended, after_domain_step, pages_for, interrupt_ended, after_interrupt, by_interrupt, by_running, inside_step, turn_of, end_domain, step_before_end, joint_step}
+use Rattle.cloak_model.specs.Joint.{Moment, Turn, next_hart, cloak_of, cloak_outside, outside_ended, after_outside, outside_step, domain_ended, after_domain_step, pages_for, interrupt_ended, after_interrupt, by_interrupt, by_running, inside_step, turn_of, end_domain, step_before_end, joint_step}
 use Rattle.cloak_model.specs.KernelStep.{ticked}
 use Rattle.cloak_model.specs.Ledger.{Keys}
-use Rattle.cloak_model.specs.Opening.{RunEdge, started_joint, started_ledger, started_memory}
+use Rattle.cloak_model.specs.Opening.{RunEdge, started_ledger, started_memory}
 use Rattle.cloak_model.specs.PageMoves.{place_with}
 use Rattle.cloak_model.specs.Parts.{Joint}
 use Rattle.cloak_model.specs.Resources.{Resources}
 use Rattle.cloak_model.specs.Resuming.{space_of, resume}
-use Rattle.cloak_model.proofs.ResumeParts.{by_root, by_context, by_domain}
+use Rattle.cloak_model.proofs.ResumeParts.{by_root, by_context, by_domain, resume_slot_resources, interrupt_if_resources}
 use Rattle.cloak_model.specs.StoredFiles.{FileContents}
 use Rattle.cloak_model.specs.World.{World, Cloaked}
 use Rattle.resource_map.specs.Kept.{IsInUse}
@@ -46,8 +46,10 @@ use Rattle.limit_law.proofs.Roots.{LeavesUsed, step_uses}
 use Rattle.limit_law.proofs.Endings.{answers_keep}
 use Rattle.limit_law.proofs.Turns.{Keeps, AllKeep}
 use Rattle.limit_law.proofs.Moments.{IsKept, at_every_moment}
-use Rattle.limit_law.proofs.Openings.{begins_by_memory}
+use Rattle.limit_law.proofs.Openings.{begins_in_memory}
+use Rattle.kernel_isolation.proofs.Ahead.{touched_keeps}
 use Rattle.limit_law.proofs.Runs.{JointKeeps, opened_keep, limits_are_kept}
+use Rattle.script_fold.proofs.Tables.{memory_root}
 
 abbrev HasSpace : ℕ → Domain → Type 0
 HasSpace k d = IsInUse d.control.resources k
@@ -113,22 +115,6 @@ unfolding by_root
 admit_by true root root' j satp ctx reply was control rooted here = here
 admit_by false root root' j satp ctx reply was control rooted here = rooted
 
-taken_same : (slot answer : ℕ) (o : Option Context) (d : Control) →
-    (answer_taken slot answer o d).resources ≡ d.resources
-unfolding answer_taken
-taken_same slot answer None d = refl
-taken_same slot answer (Some c) d = refl
-
-told_same : (slot answer : ℕ) (a : Result (Unit {0}) ResumeFault) (d : Control) →
-    (resume_told slot answer a d).control.resources ≡ d.resources
-unfolding resume_told
-told_same slot answer (Err f) d = refl
-told_same slot answer (Ok done) d = taken_same slot answer _ d
-
-pub slot_same : (slot hart answer : ℕ) (d : Control) → (resume_slot slot hart answer d).control.resources ≡ d.resources
-unfolding resume_slot
-slot_same slot hart answer d = told_same slot answer _ _
-
 -- if it went well, there is such a context
 resumes_there : (slot hart answer : ℕ) (d : Control) (u : Unit {0}) → KeepsLimits d →
     (resume_slot slot hart answer d).answer ≡ Ok u → IsInUse d.resources (space_of (context_at d.contexts slot))
@@ -163,7 +149,7 @@ domain_rooted : (j : Joint) (hart satp ctx reply : ℕ) (found : Option Domain) 
 unfolding by_domain
 domain_rooted j hart satp ctx reply None is keeps rooted = rooted
 domain_rooted j hart satp ctx reply (Some was) is keeps rooted =
-    context_rooted j satp ctx reply was _ _ is (slot_same (slot_of ctx) hart reply was.control)
+    context_rooted j satp ctx reply was _ _ is (resume_slot_resources (slot_of ctx) hart reply was.control)
     (λ u ok. resumes_there (slot_of ctx) hart reply was.control u keeps ok) rooted
 
 resume_rooted : (j : Joint) (hart satp ctx reply : ℕ) → AllKeep j.domains → JointRooted j →
@@ -180,22 +166,10 @@ unfolding outside_ended
 ended_rooted j number items (Resume ctx reply) all rooted = resume_rooted j number _ ctx reply all rooted
 ended_rooted j number items _ all rooted = rooted
 
-found_root : (o : Option ℕ) (next : CloakedMemory → AfterSettling) (m : CloakedMemory) →
-    ((x : CloakedMemory) → (next x).memory.ledger.root ≡ x.ledger.root) →
-    (settle_found o next m).memory.ledger.root ≡ m.ledger.root
-found_root None next m later = refl
-found_root (Some f) next m later = later (settle f m).memory ∙ settle_root f m
-
-while_root : (frames : List (List ℕ) → List ℕ) (n : ℕ) (m : CloakedMemory) →
-    (settle_while frames n m).memory.ledger.root ≡ m.ledger.root
-unfolding settle_while
-while_root frames zero m = refl
-while_root frames (suc n) m = found_root (find (is_owed m) (frames m.ram)) (settle_while frames n) m (while_root frames n)
-
 touched_root : (h : Hart) (disk : List ℕ) (m : CloakedMemory) →
     (settle_touched h disk m).memory.ledger.root ≡ m.ledger.root
-unfolding settle_touched
-touched_root h disk m = while_root _ _ m
+touched_root h disk m =
+    touched_keeps (λ x. x.ledger.root ≡ m.ledger.root) (λ f x same. settle_root f x ∙ same) h disk m refl
 
 outside_by : (j : Joint) (number : ℕ) (h : Hart) (s : AfterSettling) → s.memory.ledger.root ≡ j.memory.ledger.root →
     AllKeep j.domains → JointRooted j →
@@ -210,10 +184,6 @@ unfolding outside_step settled_step
 kernel_rooted j number h all rooted = outside_by j number h _ (touched_root h j.disk j.memory) all rooted
 
 -- A hart inside.
-
-memory_root : (w : World) (m : CloakedMemory) → recorded_tables w ≡ m.ledger.root → (memory_of w m).ledger.root ≡ m.ledger.root
-memory_root (Cloaked c) m same = same
-memory_root _ m same = refl
 
 forget_by : (t : Bool) (old : Option ℕ) (P : Type 0) → (t ≡ false → is_some old ≡ true → P) →
     is_some (cond t None old) ≡ true → P
@@ -252,11 +222,6 @@ unfolding interrupt_ended
 interrupted_rooted j number h items went.Stay rooted = rooted
 interrupted_rooted j number h items _ rooted = rooted
 
-pub interrupt_same : (o : Option Context) (slot : ℕ) (d : Control) → (interrupt_if o slot d).control.resources ≡ d.resources
-unfolding interrupt_if
-interrupt_same None slot d = refl
-interrupt_same (Some c) slot d = refl
-
 left_rooted : (j : Joint) (number : ℕ) (h : Hart) (d : ℕ) (was : Domain) (step : Stepped) →
     slice_get j.domains d ≡ Some was → step.control.resources ≡ was.control.resources → JointRooted j →
     JointRooted (after_interrupt j number h d was step).joint
@@ -271,7 +236,7 @@ due_rooted : (due : Bool) (j : Joint) (number : ℕ) (h : Hart) (d slot : ℕ) (
     JointRooted (by_interrupt due j number h d slot was).joint
 unfolding by_interrupt interrupt
 due_rooted true j number h d slot was is keeps rooted =
-    left_rooted j number h d was _ is (interrupt_same _ slot was.control) rooted
+    left_rooted j number h d was _ is (interrupt_if_resources _ slot was.control) rooted
 due_rooted false j number h d slot was is keeps rooted =
     let w = Cloaked (cloak_of j.memory h d (pages_for was (context_at was.control.contexts slot))) in
     stepped_rooted j number h d (domain_step slot was w) was is (step_uses slot was w keeps).used
@@ -337,20 +302,13 @@ started_none : (b : Bundle) (keys : Keys) (stream : Random) → NoRoot (started_
 unfolding started_memory started_ledger
 started_none b keys stream s = refl
 
-abbrev NoneRooted : Joint → Type 0
-NoneRooted j = NoRoot j.memory
-
-joint_none : (b : Bundle) (m : CloakedMemory) → NoRoot m → NoneRooted (started_joint b m)
-unfolding started_joint
-joint_none b m none = none
-
-given_none : (f : FileContents) (x y : Joint) → IsGiven f x y → NoneRooted x → NoneRooted y
+given_none : (f : FileContents) (x y : Joint) → IsGiven f x y → NoRoot x.memory → NoRoot y.memory
 given_none f x y given none s =
     ap (λ (root : SpaceId → Option ℕ). root s) (given_keeps f x y given).memory.root ∙ none s
 
 opened_rooted : (b : Bundle) (from : Beginning) (o : RunEdge) → opening_from b from ≡ Ok o → JointRooted o.joint
 opened_rooted b from o opens s some =
-    let none = begins_by_memory NoRoot NoneRooted b from place_none (started_none b) (joint_none b) given_none o opens in
+    let none = begins_in_memory NoRoot b from place_none (started_none b) given_none o opens in
     absurd (false≢true (ap is_some (sym (none s)) ∙ some))
 
 -- The run.

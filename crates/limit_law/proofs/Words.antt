@@ -1,6 +1,5 @@
 -- Harts and contexts hold words, at every moment of a run.
-use Rattle.std.proofs.Common.{◌≡◌, List, [], ◌∷◌, Option, Some, None, Ok}
-use Rattle.std.specs.List.{AllByRecursion}
+use Rattle.std.proofs.Common.{◌≡◌, Option, Some, None, Ok}
 use Rattle.cloak_model.specs.declared.image.Bundle.{Bundle}
 use Rattle.cloak_model.specs.Beginning.{Beginning, opening_from}
 use Rattle.cloak_model.specs.Bundle.{IsInGrammar}
@@ -17,10 +16,7 @@ use Rattle.range_law.proofs.Turns.{ProgramFits, JointFits, turn_fits}
 use Rattle.frozen_state.specs.Words.{HasSlotWords}
 use Rattle.limit_law.proofs.Moments.{at_every_moment}
 use Rattle.limit_law.specs.Words.{HasHartWords, HasProgramWords, HasWords, RunsHaveWords}
-
-each : {A : Type 0} (P Q : A → Type 0) (xs : List A) → ((a : A) → P a → Q a) → AllByRecursion P xs → AllByRecursion Q xs
-each P Q [] gives all = tt
-each P Q (x ∷ xs) gives all = (gives x all.0, each P Q xs gives all.1)
+use Rattle.cloak_base.proofs.Lists.{each_weaker}
 
 slot_words : (o : Option Context) → SlotFits o → HasSlotWords o
 slot_words None fits = tt
@@ -29,7 +25,7 @@ slot_words (Some c) fits = record { regs = fits.regs; pc = fits.pc }
 program_words : (d : Domain) → ProgramFits d → HasProgramWords d
 program_words d fits = record {
   number = fits.number;
-  contexts = each SlotFits HasSlotWords d.control.contexts slot_words fits.slots.each;
+  contexts = each_weaker SlotFits HasSlotWords d.control.contexts slot_words fits.slots.each;
 }
 
 hart_words : (h : Hart) → HartFits h → HasHartWords h
@@ -37,8 +33,8 @@ hart_words h fits = record { regs = fits.regs; csrs = fits.csrs; pc = fits.pc; i
 
 words : (j : Joint) → JointFits j → HasWords j
 words j fits = record {
-  harts = each HartFits HasHartWords j.harts hart_words fits.harts;
-  programs = each ProgramFits HasProgramWords j.domains program_words fits.programs;
+  harts = each_weaker HartFits HasHartWords j.harts hart_words fits.harts;
+  programs = each_weaker ProgramFits HasProgramWords j.domains program_words fits.programs;
 }
 
 pub opened_words : (b : Bundle) (from : Beginning) → IsInGrammar b → IsOfBytes b → IsBeginningOfBytes b from →

@@ -22,8 +22,9 @@ use Rattle.cause_law.proofs.Ends.{turn_leaves, answers_met}
 use Rattle.cause_law.proofs.Runs.{violation_has_cause, presented_is_refused}
 use Rattle.load_law.specs.Outcomes.{ListedStay}
 use Rattle.page_law.proofs.OwnDraws.{is_step}
-use Rattle.latest_store.proofs.Histories.{has_step, after_step}
+use Rattle.latest_store.proofs.Histories.{has_step}
 use Rattle.load_law.proofs.Runs.{steps_made}
+use Rattle.cloak_model.proofs.Steps.{after_step}
 
 abbrev Lists : Joint → ℕ → Violation → Type 0
 Lists j d v = slice_index_or j.ended d None ≡ Some v

@@ -29,6 +29,7 @@ use Rattle.cloak_model.specs.Walk.{Walk, FirstWord, Ends, GoesOn, access_fault, 
 use Rattle.cloak_model.specs.World.{World, MidStep, Flat, Cloaked, Alone, noted, stored_at, settled, written, cipher_items, is_missed, items_of, violation_of, regime_of, ram_of}
 use Rattle.domain_isolation.proofs.Steady.{is_cloaked}
 use Rattle.load_law.specs.Outcomes.{left_by, left_in, IsFaultOf}
+use Rattle.cloak_base.proofs.Choices.{either}
 
 -- Leaves among items.
 
@@ -45,10 +46,6 @@ pub record IsQuiet (w : World) : Type 0 where
   pub form : is_cloaked w ≡ true
   pub left : left_in (items_of w) ≡ []
   pub met : violation_of w ≡ None
-
-either : {A : Type 0} (P : A → Type 0) (b : Bool) (x y : A) → P x → P y → P (cond b x y)
-either P true x y here there = here
-either P false x y here there = there
 
 pub quiet_settled : (f : ℕ) (w : World) → IsQuiet w → IsQuiet (settled f w)
 quiet_settled f (Cloaked c) q = record {

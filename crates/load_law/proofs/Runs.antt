@@ -1,7 +1,7 @@
 -- The steps of a run.
 use Rattle.std.proofs.Common.{◌≡◌, ◌∙◌, ℕ, zero, suc, ◌<◌, Bool, true, false, cond, List, ◌∷◌, length, filter, take, slice_get, slice_index_or, Option, Some, None, Ok, refl, sym, ap, subst, arith}
 use Rattle.std.specs.Prelude.{is_some, unwrap_or}
-use Rattle.std.proofs.lemmas.Bool.{false≢true}
+use Rattle.std.proofs.lemmas.Bool.{false≢true, false_from_ne_true}
 use Rattle.cloak_base.specs.declared.causes.Stop.{Stop}
 use Rattle.cloak_base.specs.declared.causes.Stop.TheVariants as stop
 use Rattle.cloak_model.specs.declared.image.Bundle.{Bundle}
@@ -26,12 +26,13 @@ use Rattle.page_law.proofs.OwnPages.{moment_behind, step_is}
 use Rattle.latest_store.specs.Moves.{Move}
 use Rattle.latest_store.specs.Deeds.{program_moves, step_moves}
 use Rattle.latest_store.specs.LatestStore.{history_until}
-use Rattle.latest_store.proofs.Histories.{after_step, runs_give_latest}
+use Rattle.latest_store.proofs.Histories.{runs_give_latest}
 use Rattle.cause_law.specs.Causes.{moment_at, context_running}
 use Rattle.load_law.specs.Outcomes.{is_load, left_in, moves_in, LoadEnds, DueLoadsEnd, MissesAreLast, MissingDrawsStop, OnlyDueLoads}
 use Rattle.load_law.proofs.Moves.{load_if, step_loads}
 use Rattle.load_law.proofs.Turns.{EndsSo, moment_ends}
 use Rattle.load_law.proofs.Were.{Makes, program_makes}
+use Rattle.cloak_model.proofs.Steps.{after_step}
 
 -- A step of a run is that of its moment.
 
@@ -97,10 +98,6 @@ not_some : {A : Type 0} (o : Option A) → is_some o ≡ false → o ≡ None
 not_some None is = refl
 not_some (Some x) is = absurd (false≢true (sym is))
 
-never : (b : Bool) → (b ≡ true → ⊥) → b ≡ false
-never true denied = absurd (denied refl)
-never false denied = refl
-
 none_there : (o : Option Context) (c : Context) → o ≡ None → o ≡ Some c → ⊥
 none_there None c none some = absurd cc
 none_there (Some x) c none some = absurd cc
@@ -116,7 +113,7 @@ due_loads_end b from budget r grammar begins runs n t is s due wants =
     let history : List Move = history_until b from n r in
     let gives = runs_give_latest b from budget r grammar begins runs in
     let lives : s.domain.control.ended ≡ false =
-    never s.domain.control.ended (λ over.
+    false_from_ne_true s.domain.control.ended (λ over.
     let gone = ended_are_gone b from budget r grammar runs n d s.domain s.program over in
     none_there (context_at s.domain.control.contexts (slot_of s.ctx)) s.context
     (gone.nothing.contexts (slot_of s.ctx)) s.there) in

@@ -1,5 +1,5 @@
 -- The step of a hart whose context is to make a load: how its domain's step ended, and then a violation.
-use Rattle.std.proofs.Common.{◌≡◌, ◌∙◌, ℕ, zero, suc, ◌<◌, Bool, true, false, cond, List, [], ◌∷◌, ◌++◌, length, Option, Some, None, refl, sym, ap, subst, arith, append_assoc, append-nil, eq-eqb}
+use Rattle.std.proofs.Common.{◌≡◌, ◌∙◌, ℕ, zero, suc, ◌<◌, Bool, true, false, cond, List, [], ◌∷◌, ◌++◌, length, Option, Some, None, refl, sym, ap, subst, arith, append_assoc, eq-eqb}
 use Rattle.std.specs.Prelude.{is_some, option_and_then, slice_get, slice_set, slice_index_or}
 use Rattle.std.proofs.lemmas.Bool.{false≢true}
 use Rattle.std.proofs.lemmas.Grind.{flat_map-append}
@@ -17,15 +17,13 @@ use Rattle.cloak_model.specs.declared.item.Item.{Item}
 use Rattle.cloak_model.specs.declared.item.Item.TheVariants as item
 use Rattle.cloak_model.specs.Asking.{Told}
 use Rattle.cloak_model.specs.AskPages.{ask_forget}
-use Rattle.cloak_model.specs.Cloaking.{CloakedMemory}
 use Rattle.cloak_model.specs.Contexts.{Context, context_at, context_number, domain_of, slot_of, suspended, shown}
-use Rattle.cloak_model.specs.DomainAlone.{runs_on}
 use Rattle.cloak_model.specs.DomainState.{Domain}
 use Rattle.cloak_model.specs.DomainStep.{DomainStepped, domain_step}
 use Rattle.cloak_model.specs.Ending.{ask_end, cloak_for, ended_domain}
 use Rattle.cloak_model.specs.Halves.{is_inward, inward_half}
 use Rattle.cloak_model.specs.Hart.{Hart}
-use Rattle.cloak_model.specs.Joint.{Moment, Turn, next_hart, cloak_of, pages_for, memory_of, domain_ended, with_domain, after_domain_step, by_interrupt, by_running, inside_step, turn_of, end_domain, ends_asked, answers_violation, step_before_end, joint_step, stop_of, stop_without_miss}
+use Rattle.cloak_model.specs.Joint.{Moment, Turn, next_hart, memory_of, domain_ended, with_domain, after_domain_step, end_domain, ends_asked, answers_violation, step_before_end, joint_step, stop_of, stop_without_miss}
 use Rattle.cloak_model.specs.KernelStep.{ticked}
 use Rattle.cloak_model.specs.Parts.{Joint}
 use Rattle.cloak_model.specs.World.{World, Cloaked, items_of, is_missed}
@@ -45,6 +43,8 @@ use Rattle.load_law.specs.Outcomes.{SeenOfStep, left_by, left_in, Asks, First, S
 use Rattle.load_law.proofs.Questions.{left_append, IsQuiet, IsFine, IsRefused, IsMissing, quiet_settled}
 use Rattle.load_law.proofs.Steps.{Goes, GoesOn, Leaves, Refused, Misses, step_goes}
 use Rattle.load_law.proofs.Moves.{load_if}
+use Rattle.domain_isolation.proofs.InsideSteps.{memory_missed, with_leave}
+use Rattle.cause_law.proofs.Presented.{context_turn}
 
 -- What is seen of a turn.
 abbrev pub seen_of : DueLoad → ℕ → Turn → SeenOfStep
@@ -123,10 +123,6 @@ goes_on c ctx due j number h w x told fine stands =
     seen_so c ctx due t _ refl told fine.quiet.left stands.listed refl
     (drawn_stop t refl (stands.missed fine.quiet.form ∙ fine.drawn)) (Completed (context_running t.joint ctx))
 
-pub left_half : (d : ℕ) (items : List Item) (s : Shown) →
-    inward_half d (items ++ item.Leave s ∷ []) ≡ inward_half d items
-left_half d items s = filter-append (is_inward d) items (item.Leave s ∷ []) ∙ append-nil (inward_half d items)
-
 leave_last : (items : List Item) (s : Shown) → left_in items ≡ [] → left_in (items ++ item.Leave s ∷ []) ≡ s ∷ []
 leave_last items s none =
     flat_map-append left_by items (item.Leave s ∷ []) ∙ ap (λ (l : List Shown). l ++ s ∷ []) none
@@ -141,7 +137,7 @@ leaves c ctx due j number h w x earlier q cause asks fault told fine stands rest
     let s = shown c ctx (Trap cause q.address) in
     let t = after_went j number h ctx w (went.Leave s) in
     seen_so c ctx due t _ (fault_loads (domain_of ctx) due earlier q cause asks)
-    (left_half (domain_of ctx) (items_of w) s ∙ told) (leave_last (items_of w) s fine.quiet.left) stands.listed
+    (with_leave (domain_of ctx) (items_of w) s ∙ told) (leave_last (items_of w) s fine.quiet.left) stands.listed
     (running_is j ctx x stands.there ∙ rests) (drawn_stop t refl (stands.missed fine.quiet.form ∙ fine.drawn))
     (Absent earlier q asks cause fault)
 
@@ -254,25 +250,6 @@ refuses c ctx due j number h w x earlier q asks told own refused stands =
     (domain_ends c ctx due x t earlier q refused.found refused.frame asks refused.is
     (subst (IsOwnPage d) refused.is own) refl told refused.left stands.there)
 
--- The step of the hart is that of its context.
-context_turn : (m : Moment) (s : StepsInside m) →
-    step_before_end m
-    ≡ after_domain_step m.joint (next_hart m) (ticked (hart_of_step m)) (domain_of s.ctx)
-    (domain_step (slot_of s.ctx) s.domain (world_inside m s))
-unfolding turn_of inside_step by_running by_interrupt
-context_turn m s =
-    let j = m.joint in
-    let number = next_hart m in
-    let h = ticked (hart_of_step m) in
-    let e = domain_of s.ctx in
-    let slot = slot_of s.ctx in
-    ap (λ (o : Option ℕ). turn_of j number (hart_of_step m) o) s.runs
-    ∙ (ap (λ (o : Option Domain). inside_step j number h s.ctx o) s.program
-    ∙ (ap (λ (b : Bool). by_running b j number h s.ctx s.domain) (ap (runs_on number) s.there ∙ s.here)
-    ∙ (ap (λ (b : Bool). by_interrupt b j number h e slot s.domain) s.goes
-    ∙ ap (λ (o : Option Context). after_domain_step j number h e
-    (domain_step slot s.domain (Cloaked (cloak_of j.memory h e (pages_for s.domain o))))) s.there)))
-
 -- what the step of its domain told
 abbrev pub told_in : (m : Moment) → StepsInside m → Told DomainStepped
 told_in m s = domain_step (slot_of s.ctx) s.domain (world_inside m s)
@@ -291,11 +268,6 @@ unfolding joint_step after_domain_step
 whole_step m s =
     ap (λ (o : Option ℕ). let t = step_before_end m in answers_violation o t.violation t) s.runs
     ∙ ap (λ (t : Turn). answers_violation (Some s.ctx) t.violation t) (context_turn m s)
-
-memory_missed : (w : World) (m : CloakedMemory) → is_cloaked w ≡ true →
-    (memory_of w m).ledger.missed ≡ is_missed w
-memory_missed (Cloaked c) m form = refl
-memory_missed _ m form = absurd (false≢true form)
 
 whole_number : (n ctx : ℕ) → n ≡ domain_of ctx → context_number n (slot_of ctx) ≡ ctx
 whole_number n ctx own = omega (arith, own)

@@ -49,7 +49,8 @@ use Rattle.cause_law.specs.Presented.{hart_of_step, StepsInside, world_inside}
 use Rattle.load_law.specs.Due.{DueLoad, load_of, instruction_load, atomic_load, effect_due, atomic_due, word_due, fetched_due, byte_load, copy_due, load_due}
 use Rattle.load_law.specs.Outcomes.{is_load}
 use Rattle.load_law.proofs.Steps.{load_by, copied, byte_by}
-use Rattle.load_law.proofs.Turns.{after_went, left_half, told_in, joint_in, whole_step}
+use Rattle.load_law.proofs.Turns.{after_went, told_in, joint_in, whole_step}
+use Rattle.domain_isolation.proofs.InsideSteps.{with_leave}
 
 -- The first load among these moves.
 abbrev Loaded : Move → List Move → List Move → Type 0
@@ -279,8 +280,8 @@ went_half : (j : Joint) (number : ℕ) (h : Hart) (ctx : ℕ) (w : World) (g : W
 unfolding domain_ended answers_violation
 went_half j number h ctx w went.Stay none = refl
 went_half j number h ctx w (went.Remapped space) none = refl
-went_half j number h ctx w (went.Leave s) none = left_half (domain_of ctx) (items_of w) s
-went_half j number h ctx w (went.SpaceGone space s) none = left_half (domain_of ctx) (items_of w) s
+went_half j number h ctx w (went.Leave s) none = with_leave (domain_of ctx) (items_of w) s
+went_half j number h ctx w (went.SpaceGone space s) none = with_leave (domain_of ctx) (items_of w) s
 went_half j number h ctx w went.Stopped none =
     ap (λ (o : Option Violation). inward_half (domain_of ctx)
     (answers_violation (Some ctx) o (domain_ended j number h (domain_of ctx) w went.Stopped)).items) none

@@ -18,8 +18,8 @@ use Rattle.shadow_fold.specs.Table.{Table, born, emptied, ending, is_known, kill
 use Rattle.shadow_fold.specs.declared.entry.Entry.{Entry}
 use Rattle.shadow_fold.specs.declared.entry.Regime.{Regime}
 use Rattle.look_law.specs.Looks.{CountsAreFew}
-use Rattle.look_law.proofs.Questions.{looks_then}
 use Rattle.look_law.proofs.Steps.{step_looks_twice}
+use Rattle.shadow_fold.proofs.Looks.{looks_then}
 
 -- From one table to the other both counts rose by at most n.
 record Rises (n : ℕ) (t u : Table) : Type 0 where

@@ -1,6 +1,5 @@
 -- How often questions ask where an access leads: once, or not at all.
-use Rattle.std.proofs.Common.{◌≡◌, ◌≤◌, ℕ, zero, suc, ◌+◌, Bool, true, false, cond, List, [], ◌∷◌, ◌++◌, length, Option, Some, None, Ok, Err, arith}
-use Rattle.std.proofs.lemmas.List.Sums.{sum_by-append}
+use Rattle.std.proofs.Common.{◌≤◌, ℕ, zero, suc, ◌+◌, Bool, true, false, cond, List, [], ◌∷◌, ◌++◌, length, Option, Some, None, Ok, Err, arith}
 use Rattle.cloak_base.specs.Constants.{frame_of}
 use Rattle.cloak_base.specs.declared.names.Kind.{Kind}
 use Rattle.cloak_base.specs.declared.names.Kind.TheVariants.{Load, Store}
@@ -23,7 +22,8 @@ use Rattle.cloak_model.specs.Walk.{Walk, FirstWord, Ends, GoesOn, first_entry}
 use Rattle.cloak_model.specs.World.{World, Handed, Flat, Cloaked, Alone, regime_of, events_of, noted, settled, stored_at, filled_frame, written, with_plain, with_marks, cipher_items}
 use Rattle.cloak_model.specs.Script.{played}
 use Rattle.script_fold.proofs.Endings.{keeps_forgets}
-use Rattle.shadow_fold.specs.Reads.{is_look, looks_in}
+use Rattle.shadow_fold.specs.Reads.{looks_in}
+use Rattle.shadow_fold.proofs.Looks.{looks_then}
 
 -- From one world to the other there were at most n looks.
 pub record Looks (n : ℕ) (w v : World) : Type 0 where
@@ -53,10 +53,6 @@ pub either : {A : Type 0} {n : ℕ} (b : Bool) (m o : Told A) (w : World) → Lo
     Looks n w (cond b m o).world
 either true m o w p q = p
 either false m o w p q = q
-
--- looks go on with events
-pub looks_then : (es fs : List Event) → looks_in (es ++ fs) ≡ looks_in es + looks_in fs
-looks_then es fs = sum_by-append (λ e. cond (is_look e) 1 0) es fs
 
 few_then : (n : ℕ) (es fs : List Event) → looks_in fs ≤ n → looks_in (es ++ fs) ≤ looks_in es + n
 few_then n es fs few = let both = looks_then es fs in omega (arith, both, few)

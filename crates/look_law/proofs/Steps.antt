@@ -17,9 +17,10 @@ use Rattle.shadow_fold.specs.Events.{asked_if, asked_running, asked_inside, aske
 use Rattle.shadow_fold.specs.Reads.{AskedByStep, looks_in}
 use Rattle.look_law.specs.Looks.{StepLooksTwice}
 use Rattle.script_fold.proofs.Endings.{keeps_end}
-use Rattle.look_law.proofs.Questions.{Looks, still, still_then, still_settled, still_forget, looks_then}
+use Rattle.look_law.proofs.Questions.{Looks, still, still_then, still_settled, still_forget}
 use Rattle.look_law.proofs.Inside.{looks_domain}
 use Rattle.look_law.proofs.Outside as outside
+use Rattle.shadow_fold.proofs.Looks.{looks_then}
 
 -- what was asked has at most two looks
 abbrev pub FewLooks : AskedByStep → Type 0

@@ -1,7 +1,5 @@
 -- A bundle that leaves some room in the largest file.
-use Rattle.std.proofs.Common.{◌≡◌, ◌+◌, ◌≤◌, ◌<◌, ℕ, Bool, true, false, not, List, length, get_or, take, Option, Some, None, is_some, MatchOption, Result, Ok, Err, refl, arith}
-use Rattle.std.specs.List.{flat_map}
-use Rattle.std.proofs.lemmas.List.Folds.{length-flat_map-take}
+use Rattle.std.proofs.Common.{◌≡◌, ◌+◌, ◌≤◌, ◌<◌, ℕ, Bool, true, false, not, length, Option, Some, None, is_some, MatchOption, Result, Ok, Err, refl, arith}
 use Rattle.cloak_base.specs.Constants.{largest_bundle}
 use Rattle.cloak_model.specs.declared.image.Bundle.{Bundle}
 use Rattle.cloak_model.specs.Bundle.{bundle_bytes}
@@ -11,11 +9,7 @@ use Rattle.manifest.specs.declared.fault.KeyFault.TheVariants.{TooLarge}
 use Rattle.manifest.specs.Fields.{wrong_at}
 use Rattle.manifest.specs.Parts.{fitting}
 use Rattle.manifest.proofs.Files.{larger, not_larger}
-
--- one more part than those before it is not longer than all
-pub flat_map_front : {X Y : Type 0} (f : X → List Y) (xs : List X) (i : ℕ) (d : X) → i < length xs →
-    length (flat_map f (take i xs)) + length (f (get_or xs i d)) ≤ length (flat_map f xs)
-flat_map_front f xs i d inside = length-flat_map-take f xs i d inside
+use Rattle.std.proofs.lemmas.List.Folds.{length-flat_map-take}
 
 -- something is left
 pub fits : (room : Option ℕ) (size most : ℕ) (none : Bool) → MatchOption room (most < size) (λ left. size + left ≡ most) →
@@ -39,3 +33,6 @@ pub not_fitting : (b : Bundle) → largest_bundle < length (bundle_bytes 2 b) �
     fitting b ≡ Err (wrong_at Image Segment TooLarge)
 unfolding fitting
 not_fitting b large = rw (larger (length (bundle_bytes 2 b)) largest_bundle large) refl
+
+-- what a front of elements and the next one come to
+pub ruleset fronts = (length-flat_map-take)

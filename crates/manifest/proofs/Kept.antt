@@ -4,7 +4,6 @@ use Rattle.io_traits.specs.Told.{SameFiles}
 use Rattle.command_parts.specs.Outside.{FilesOutside, OnlyRead}
 use Rattle.asm_text.specs.Making.{FailsToRead}
 use Rattle.manifest.specs.Reading.{IsNoReadFault, IsWant, ReadsParts}
-use Rattle.manifest.specs.declared.fault.PackFault.{PackFault}
 use Rattle.manifest.specs.declared.fault.PackError.{PackError}
 use Rattle.manifest.specs.declared.fault.PackError.TheVariants.{ReadFault, NoMemory, Faulty}
 
@@ -40,13 +39,6 @@ handed_on {S} {B} A first mid last NoMemory (Err f) one two is =
 handed_on {S} {B} A first mid last (Faulty fault) (Err f) one two is =
     subst (λ (x : PackError). ReadsParts {A = B} first last (Err x)) (sym is) (read_more first mid last one two)
 
--- a fault of a manifest, or want of memory
-pub only_read : {S B : Type 0} (first last : FilesOutside S) (fault : PackFault) (r : Result B PackError) →
-    OnlyRead first last → IsErrAnd r (λ f. f ≡ Faulty fault) → ReadsParts first last r
-only_read first last fault (Ok x) one is = absurd is
-only_read {S} {B} first last fault (Err f) one is =
-    subst (λ (x : PackError). ReadsParts {A = B} first last (Err x)) (sym is) one
-
 pub only_lacks : {S B : Type 0} (first last : FilesOutside S) (r : Result B PackError) →
     OnlyRead first last → IsErrAnd r (λ f. f ≡ NoMemory) → ReadsParts first last r
 only_lacks first last (Ok x) one is = absurd is
@@ -76,11 +68,3 @@ pub want_unread : (e : PackError) → IsWant e → IsNoReadFault e
 want_unread ReadFault want = absurd want
 want_unread NoMemory want = tt
 want_unread (Faulty fault) want = absurd want
-
--- files were only read, and then a function read more of them
-pub reads_later : {S B : Type 0} (first mid last : FilesOutside S) (r : Result B PackError) → OnlyRead first mid →
-    ReadsParts mid last r → ReadsParts first last r
-reads_later first mid last (Ok x) one two = read_more first mid last one two
-reads_later first mid last (Err ReadFault) one two = fails_later first mid last one two
-reads_later first mid last (Err NoMemory) one two = read_more first mid last one two
-reads_later first mid last (Err (Faulty fault)) one two = read_more first mid last one two

@@ -13,5 +13,4 @@ pub mod Spans
 pub mod Steps
 pub mod Tables
 pub mod Texts
-pub mod Told
 pub mod Turns

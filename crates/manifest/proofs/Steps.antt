@@ -5,7 +5,7 @@ use Rattle.manifest.specs.declared.fault.PackFault.{PackFault}
 use Rattle.manifest.specs.declared.fault.PackFault.TheVariants.{AtKey}
 use Rattle.manifest.specs.declared.fault.PackError.{PackError}
 use Rattle.manifest.specs.declared.fault.PackError.TheVariants.{ReadFault, NoMemory, Faulty}
-use Rattle.manifest.specs.Faults.{Fault, at_key, fault_of, by_keys, After, Then, ReturnsRead}
+use Rattle.manifest.specs.Faults.{Fault, at_key, fault_of, After, ReturnsRead}
 use Rattle.manifest.specs.Fields.{Shows}
 use Rattle.manifest.specs.Reading.{IsNoFault, IsWant}
 
@@ -16,24 +16,6 @@ after_ok {A} m x Rest r is rest = subst (λ (w : Result A Fault). After w Rest r
 pub after_err : {A B : Type 0} (m : Result A Fault) (fault : Fault) (Rest : A → Result B Fault → Type 0) →
     m ≡ Err fault → After m Rest (Err fault)
 after_err {A} m fault Rest is = subst (λ (w : Result A Fault). After w Rest (Err fault)) (sym is) refl
-
--- what keys say
-pub keys_ok : {A B : Type 0} (m : Result A FaultyKey) (x : A) (Rest : A → Result B Fault → Type 0) (r : Result B Fault) →
-    m ≡ Ok x → Rest x r → After (by_keys m) Rest r
-keys_ok {A} m x Rest r is rest = subst (λ (w : Result A FaultyKey). After (by_keys w) Rest r) (sym is) rest
-
-pub keys_err : {A B : Type 0} (m : Result A FaultyKey) (fault : FaultyKey) (Rest : A → Result B Fault → Type 0) →
-    m ≡ Err fault → After (by_keys m) Rest (Err (at_key fault))
-keys_err {A} m fault Rest is =
-    subst (λ (w : Result A FaultyKey). After (by_keys w) Rest (Err (at_key fault))) (sym is) refl
-
-pub then_ok : {A B : Type 0} (First : Result A Fault → Type 0) (x : A) (Rest : A → Result B Fault → Type 0)
-    (r : Result B Fault) → First (Ok x) → Rest x r → Then First Rest r
-then_ok First x Rest r first rest = (Ok x, first, rest)
-
-pub then_err : {A B : Type 0} (First : Result A Fault → Type 0) (fault : Fault) (Rest : A → Result B Fault → Type 0) →
-    First (Err fault) → Then First Rest (Err fault)
-then_err First fault Rest first = (Err fault, first, refl)
 
 -- A function hands on why another one returned nothing.
 pub hands_on : {X Y A B : Type 0} (view : X → A) (see : Y → B) (First : Result A Fault → Type 0)

@@ -27,7 +27,7 @@ fn behind_bytes(room: u64, bytes: &[u8]) -> Option<u64>
 }
 
 /// What segments leave of some room, if there is enough.
-#[tactic(auto, using(crate::proofs::Fitting::flat_map_front))]
+#[tactic(auto, using(crate::proofs::Fitting::fronts))]
 fn behind_segments(room: u64, segments: &[Segment]) -> Option<u64>
     ensures { MatchOption result (room < length (flat_map segment_bytes segments.now))
         (λ left. length (flat_map segment_bytes segments.now) + left ≡ room) }
@@ -46,7 +46,7 @@ fn behind_segments(room: u64, segments: &[Segment]) -> Option<u64>
 }
 
 /// What programs leave of some room, if there is enough.
-#[tactic(auto, using(crate::proofs::Fitting::flat_map_front))]
+#[tactic(auto, using(crate::proofs::Fitting::fronts))]
 fn behind_programs(room: u64, programs: &[Program]) -> Option<u64>
     ensures { MatchOption result (room < length (flat_map (program_bytes 2) programs.now))
         (λ left. length (flat_map (program_bytes 2) programs.now) + left ≡ room) }

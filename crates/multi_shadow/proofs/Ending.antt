@@ -1,14 +1,12 @@
 -- A table of recent entries and those in an arena, as entries end.
-use Rattle.std.proofs.Common.{◌≡◌, ◌≤◌, ◌<◌, ℕ, zero, suc, Bool, true, false, List, [], ◌∷◌, length, slice_get, replicate, get_or, filter, not, ◌||◌, Option, Some, None, refl, sym, ap, subst, arith, ◌∙◌}
+use Rattle.std.proofs.Common.{◌≡◌, ◌≤◌, ◌<◌, ℕ, zero, suc, Bool, true, false, List, [], ◌∷◌, length, slice_get, replicate, filter, not, ◌||◌, Option, Some, None, refl, sym, ap, subst, arith, ◌∙◌}
 use Rattle.std.specs.Prelude.{IfSome}
 use Rattle.std.proofs.lemmas.List.{length-replicate}
 use Rattle.std.proofs.lemmas.Bool.{true≢false}
 use Rattle.std.proofs.lemmas.Option.{none-some, same_Some}
-use Rattle.chain_arena.specs.declared.chain.Chain.{Chain}
 use Rattle.chain_arena.specs.declared.chain.Chain.TheVariants as chain
-use Rattle.chain_arena.specs.Chains.{IsMemberOf}
 use Rattle.chain_arena.proofs.Counts.{none_lying}
-use Rattle.chain_arena.specs.Arena.{Arena, IsTidyArena, chain_at, empty_arena}
+use Rattle.chain_arena.specs.Arena.{Arena, IsTidyArena, empty_arena}
 use Rattle.cloak_base.specs.declared.names.Frame.{Frame}
 use Rattle.cloak_base.specs.declared.names.Kind.TheVariants.{Fetch, Load, Store}
 use Rattle.shadow_fold.specs.declared.entry.Entry.{Entry}
@@ -130,17 +128,6 @@ nothing_lies : (n s : ℕ) (e : Entry) → slice_get (replicate n None) s ≡ So
 nothing_lies zero s e is = none-some (Some e) is
 nothing_lies (suc n) zero e is = none-some e (same_Some _ _ is)
 nothing_lies (suc n) (suc s) e is = nothing_lies n s e is
-
-nothing_stands : (m h s : ℕ) → IsMemberOf s (get_or (replicate m []) h []) → ⊥
-nothing_stands zero h s p = p
-nothing_stands (suc m) zero s p = p
-nothing_stands (suc m) (suc h) s p = nothing_stands m h s p
-
-no_chain : (n m : ℕ) (c : Chain) (s h : ℕ) → (let A : Arena Entry = empty_arena n m in IsMemberOf s (chain_at A c h)) → ⊥
-no_chain n m chain.Bucket s h p = nothing_stands m h s p
-no_chain n m chain.Target s h p = nothing_stands m h s p
-no_chain n m chain.First s h p = nothing_stands m h s p
-no_chain n m chain.Second s h p = nothing_stands m h s p
 
 pub empty_live : (n m : ℕ) (A : Arena Entry) → A ≡ empty_arena n m → live_in A.payloads ≡ []
 empty_live n m A is = ap (λ (B : Arena Entry). live_in B.payloads) is ∙ none_lying n

@@ -13,7 +13,7 @@ use Rattle.shadow_fold.specs.declared.entry.Entry.{Entry}
 use Rattle.shadow_fold.specs.Entries.{IsWithin}
 use Rattle.shadow_fold.proofs.Keys.{eqb_equal}
 use Rattle.multi_shadow.specs.Placed.{ArePlaced, LiesAt, bucket_of, number_of, head_of, is_head, entered, all_entered}
-use Rattle.multi_shadow.proofs.Removing.{slice_get-set_same, slice_get-set_other}
+use Rattle.cloak_base.proofs.Lists.{slice_get-set_same, slice_get-set_other}
 
 abbrev Not : Type 0 → Type 0
 Not A = A → ⊥

@@ -1,6 +1,6 @@
 -- One step of a walk over a chain that ends entries.
 use Rattle.std.proofs.Common.{◌≡◌, ℕ, ◌+◌, ◌<◌, ◌≤◌, inl, inr, Bool, true, false, ◌&&◌, ◌∷◌, length, slice_get, Option, Some, None, refl, sym, ap, ◌∙◌, subst, arith}
-use Rattle.std.proofs.lemmas.Bool.{false≢true, cases_eq, eq-eqb}
+use Rattle.std.proofs.lemmas.Bool.{false≢true, cases_eq, eq-eqb, and_parts}
 use Rattle.std.proofs.lemmas.Option.{same_Some}
 use Rattle.chain_arena.specs.declared.chain.Chain.{Chain}
 use Rattle.chain_arena.specs.declared.chain.Chain.TheVariants as chain
@@ -9,7 +9,7 @@ use Rattle.chain_arena.specs.Chains.{IsMemberOf, IsOnce}
 use Rattle.chain_arena.proofs.Callers.{behind_in_list, rest_more}
 use Rattle.cloak_base.specs.declared.names.SpaceId.{SpaceId}
 use Rattle.shadow_fold.specs.declared.entry.Entry.{Entry}
-use Rattle.shadow_fold.proofs.Keys.{eqb_equal, and_true}
+use Rattle.shadow_fold.proofs.Keys.{eqb_equal}
 use Rattle.multi_shadow.specs.Placed.{ArePlaced, LiesAt, bucket_of, head_of, is_head, hangs_on, is_wanted, is_hit, without_if, emptied_if}
 use Rattle.multi_shadow.proofs.Placing.{same_is_head}
 use Rattle.multi_shadow.proofs.Removing.{emptied_left, emptied_stays, without_stays}
@@ -123,7 +123,7 @@ past_head n h space e later miss wanted =
 pub not_yet : (n h : ℕ) (space : Option SpaceId) (e : Entry) → (is_wanted space e ≡ true → h + 1 ≤ bucket_of n e.regime e.page e.kind)
     → is_hit n chain.Bucket h space e ≡ false
 not_yet n h space e later = not_true _ (λ hit.
-    let both = and_true (is_wanted space e) (hangs_on n chain.Bucket h e) hit in
+    let both = and_parts (is_wanted space e) (hangs_on n chain.Bucket h e) hit in
     let more = later both.0 in let same = eqb_equal _ h both.1 in
     omega (arith, more, same))
 

@@ -1,9 +1,10 @@
 -- An arena after an entry was taken out of all its chains.
-use Rattle.std.proofs.Common.{◌≡◌, ℕ, zero, suc, ◌<◌, inl, inr, Bool, true, false, List, [], ◌∷◌, map, length, get_or, slice_get, slice_set, Option, Some, None, refl, sym, ap, ◌∙◌, subst, arith}
+use Rattle.std.proofs.Common.{◌≡◌, ℕ, zero, suc, inl, inr, Bool, true, false, List, [], ◌∷◌, map, length, get_or, slice_get, slice_set, Option, Some, None, refl, sym, ap, ◌∙◌, subst}
 use Rattle.std.specs.Option.{is_some}
 use Rattle.std.proofs.lemmas.Bool.{cases_eq, false≢true}
 use Rattle.std.proofs.lemmas.List.{length-set}
 use Rattle.std.proofs.lemmas.Option.{none-some, same_Some}
+use Rattle.cloak_base.proofs.Lists.{slice_get-set_other}
 use Rattle.chain_arena.specs.declared.chain.Chain.{Chain}
 use Rattle.chain_arena.specs.declared.chain.Chain.TheVariants as chain
 use Rattle.chain_arena.specs.Chains.{IsMemberOf, without}
@@ -16,20 +17,6 @@ use Rattle.multi_shadow.specs.Placed.{ArePlaced, LiesAt, bucket_of, number_of, w
 
 abbrev Not : Type 0 → Type 0
 Not A = A → ⊥
-
-pub slice_get-set_same : {X : Type 0} (xs : List X) (k : ℕ) (y : X) → k < length xs
-    → slice_get (slice_set xs k y) k ≡ Some y
-slice_get-set_same [] k y h = absurd (omega arith)
-slice_get-set_same (x ∷ xs) zero y h = refl
-slice_get-set_same (x ∷ xs) (suc k) y h = slice_get-set_same xs k y (omega arith)
-
-pub slice_get-set_other : {X : Type 0} (xs : List X) (k j : ℕ) (y : X) → Not (j ≡ k)
-    → slice_get (slice_set xs k y) j ≡ slice_get xs j
-slice_get-set_other [] k j y d = refl
-slice_get-set_other (x ∷ xs) zero zero y d = absurd (d refl)
-slice_get-set_other (x ∷ xs) zero (suc j) y d = refl
-slice_get-set_other (x ∷ xs) (suc k) zero y d = refl
-slice_get-set_other (x ∷ xs) (suc k) (suc j) y d = slice_get-set_other xs k j y (λ e. d (ap suc e))
 
 some_number : (f : Option Frame) → is_some f ≡ true → (h : ℕ) × (number_of f ≡ Some h)
 some_number None e = absurd (false≢true e)

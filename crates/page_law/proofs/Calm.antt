@@ -13,7 +13,7 @@ use Rattle.cloak_model.specs.Contexts.{Admitted, domain_of, slot_of}
 use Rattle.cloak_model.specs.DomainState.{Control, Domain}
 use Rattle.cloak_model.specs.DomainStep.{domain_script, domain_step}
 use Rattle.cloak_model.specs.Hart.{Hart}
-use Rattle.cloak_model.specs.Joint.{cloak_of, memory_of, outside_ended, after_outside, outside_step, domain_ended, after_domain_step, interrupt_ended, after_interrupt, by_interrupt, by_running, inside_step, turn_of}
+use Rattle.cloak_model.specs.Joint.{cloak_of, memory_of, outside_ended, after_outside, outside_step, after_domain_step, interrupt_ended, after_interrupt, by_interrupt, by_running, inside_step, turn_of}
 use Rattle.cloak_model.specs.KernelStep.{ticked}
 use Rattle.cloak_model.specs.Parts.{Joint}
 use Rattle.cloak_model.specs.Resuming.{resume}
@@ -27,7 +27,7 @@ use Rattle.cloak_model.specs.World.{MidStep, violation_of}
 use Rattle.script_fold.proofs.StepScripts.{of_domain}
 use Rattle.page_law.proofs.Steps.{ends_domain_step}
 use Rattle.domain_isolation.proofs.Played.{met_stops}
-use Rattle.domain_isolation.proofs.InsideSteps.{ended_met}
+use Rattle.domain_isolation.proofs.InsideSteps.{ended_met, ended_plain}
 
 -- A hart outside.
 
@@ -68,12 +68,6 @@ outside_keeps j number h = ended_keeps _ number _ _ ∙ (touched_draws {count = 
 
 -- A hart inside.
 
-domain_ended_plain : (j : Joint) (number : ℕ) (h : Hart) (e : ℕ) (w : World) (how : Went) →
-    (domain_ended j number h e w how).joint.memory.plain ≡ j.memory.plain
-unfolding domain_ended
-domain_ended_plain j number h e w went.Stay = refl
-domain_ended_plain j number h e w _ = refl
-
 interrupt_ended_plain : (j : Joint) (number : ℕ) (h : Hart) (items : List Item) (how : Went) →
     (interrupt_ended j number h items how).joint.memory.plain ≡ j.memory.plain
 unfolding interrupt_ended
@@ -97,7 +91,7 @@ step_calm slot was j number h e pages some =
     let stopped = told_stopped slot was (Cloaked c) refl refl (ended_met _ number h e t.world t.answer.went some) in
     let steps = ends_domain_step {count = suc was.control.number} slot was (Cloaked c) (omega arith) in
     let only = (steps.stops stopped).by c refl in
-    domain_ended_plain _ number h e t.world t.answer.went
+    ended_plain _ number h e t.world t.answer.went
     ∙ (ap (λ (x : World). (memory_of x j.memory).plain) only.ended.is ∙ only.plain)
 
 due_calm : (due : Bool) (j : Joint) (number : ℕ) (h : Hart) (e slot : ℕ) (was : Domain) →

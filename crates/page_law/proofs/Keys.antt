@@ -16,17 +16,7 @@ use Rattle.cloak_model.specs.Bundle.{key_numbers, IsProgramIn}
 use Rattle.cloak_model.specs.Ledger.{key_in}
 use Rattle.cloak_model.specs.Opening.{key_count, drawn_keys, filled_up, keys_for}
 use Rattle.page_law.specs.Ciphers.{numbered_draw, draw_at}
-
--- What was there before a later part that there is.
-pub record Before {A B : Type 0} (next : A → Option B) (o : Option A) (y : B) : Type 0 where
-  pub value : A
-  pub was : o ≡ Some value
-  pub then : next value ≡ Some y
-
-pub before : {A B : Type 0} (next : A → Option B) (o : Option A) (y : B) → option_and_then next o ≡ Some y →
-    Before next o y
-before next None y is = absurd cc
-before next (Some x) y is = record { value = x; was = refl; then = is }
+use Rattle.domain_isolation.proofs.Opened.{before}
 
 -- These are the first draws of a stream, and what follows them.
 pub record AreDrawn (n : ℕ) (stream : Random) (draw : List (List ℕ) × Random) : Type 0 where
@@ -69,7 +59,7 @@ are_drawn zero stream draw is =
 are_drawn (suc n) stream draw is =
     let b = before (λ (keys : List (List ℕ) × Random).
     option_map (λ (d : List ℕ × Random). (keys.0 ++ d.0 ∷ [], d.1)) (next_draw keys.1)) (drawn_keys n stream) draw is in
-    one_more n stream b.value (next_draw b.value.1) draw (are_drawn n stream b.value b.was) refl b.then
+    one_more n stream b.value (next_draw b.value.1) draw (are_drawn n stream b.value b.was) refl b.next
 
 -- The numbers of programs' keys.
 

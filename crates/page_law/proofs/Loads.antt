@@ -10,8 +10,6 @@ use Rattle.cloak_model.specs.declared.inside.Copied.{Copied}
 use Rattle.cloak_model.specs.declared.inside.Copied.TheVariants as copied
 use Rattle.cloak_model.specs.declared.inside.Ran.{Ran}
 use Rattle.cloak_model.specs.declared.inside.Ran.TheVariants as ran
-use Rattle.cloak_model.specs.declared.inside.Went.{Went}
-use Rattle.cloak_model.specs.declared.inside.Went.TheVariants as went
 use Rattle.cloak_model.specs.declared.item.Item.{Item}
 use Rattle.cloak_model.specs.declared.outcome.Kernel.{Kernel}
 use Rattle.cloak_model.specs.declared.outcome.Kernel.TheVariants.{Resume}
@@ -26,7 +24,7 @@ use Rattle.cloak_model.specs.InsideStep.{AfterInstruction, instruction_inside}
 use Rattle.cloak_base.specs.declared.causes.Violation.{Violation}
 use Rattle.cloak_model.specs.Ending.{ended_domain}
 use Rattle.cloak_model.specs.Joint.{next_hart, hart_in, end_domain, ends_once, ends_resumed, ends_asked, answers_violation}
-use Rattle.cloak_model.specs.Joint.{Moment, Turn, cloak_of, outside_ended, after_outside, outside_step, domain_ended, after_domain_step, pages_for, interrupt_ended, after_interrupt, by_interrupt, by_running, inside_step, turn_of, joint_step}
+use Rattle.cloak_model.specs.Joint.{Moment, Turn, cloak_of, outside_ended, after_outside, outside_step, after_domain_step, pages_for, after_interrupt, by_interrupt, by_running, inside_step, turn_of, joint_step}
 use Rattle.cloak_model.specs.KernelStep.{ticked}
 use Rattle.cloak_model.specs.Opening.{RunEdge}
 use Rattle.cloak_model.specs.Parts.{Joint}
@@ -43,6 +41,7 @@ use Rattle.kernel_isolation.proofs.Isolated.{of_opened}
 use Rattle.page_law.proofs.Given.{after_set}
 use Rattle.page_law.proofs.OwnPages.{moment_behind, step_is}
 use Rattle.page_law.proofs.StepLoads.{HasPlain, LoadsIn, CopiesIn, loads_instruction, copies_in, copies_out}
+use Rattle.domain_isolation.proofs.InsideSteps.{ended_domains, interrupt_ended_domains}
 
 -- A step of a program.
 
@@ -177,28 +176,16 @@ outside_load : (j : Joint) (plain : PageId → List ℕ) (number : ℕ) (h : Har
 unfolding outside_step after_outside
 outside_load j plain number h = ended_load _ plain number _ _
 
-domain_ended_same : (j : Joint) (number : ℕ) (h : Hart) (e : ℕ) (w : World) (how : Went) →
-    (domain_ended j number h e w how).joint.domains ≡ j.domains
-unfolding domain_ended
-domain_ended_same j number h e w went.Stay = refl
-domain_ended_same j number h e w _ = refl
-
-interrupt_ended_same : (j : Joint) (number : ℕ) (h : Hart) (items : List Item) (how : Went) →
-    (interrupt_ended j number h items how).joint.domains ≡ j.domains
-unfolding interrupt_ended
-interrupt_ended_same j number h items went.Stay = refl
-interrupt_ended_same j number h items _ = refl
-
 by_load : (due : Bool) (j : Joint) (number : ℕ) (h : Hart) (e slot : ℕ) (found : Domain) →
     slice_get j.domains e ≡ Some found →
     DomainsLoad j.domains j.memory.plain (by_interrupt due j number h e slot found).joint.domains
 unfolding by_interrupt after_interrupt after_domain_step
 by_load true j number h e slot found there =
-    subst (DomainsLoad j.domains j.memory.plain) (sym (interrupt_ended_same _ number h _ _))
+    subst (DomainsLoad j.domains j.memory.plain) (sym (interrupt_ended_domains _ number h _ _))
     (set_load j.domains j.memory.plain e found (record found { control = _ }) there (NoLoad refl))
 by_load false j number h e slot found there =
     let c : MidStep = cloak_of j.memory h e (pages_for found (context_at found.control.contexts slot)) in
-    subst (DomainsLoad j.domains j.memory.plain) (sym (domain_ended_same _ number h e _ _))
+    subst (DomainsLoad j.domains j.memory.plain) (sym (ended_domains _ number h e _ _))
     (set_load j.domains j.memory.plain e found _ there
     (step_loads j.memory.plain slot found (Cloaked c) (record { cloak = c; is = refl; same = refl })))
 

@@ -16,21 +16,21 @@ use Rattle.cloak_model.specs.Beginning.{Beginning, Fresh, Stored, opening_from}
 use Rattle.cloak_model.specs.Bundle.{IsInGrammar}
 use Rattle.cloak_model.specs.Cloaking.{CloakedMemory}
 use Rattle.cloak_model.specs.Ledger.{Keys, key_in, key_of, vector_of}
-use Rattle.cloak_model.specs.Opening.{key_count, started_domains, numbers_below, started_ledger, started_memory, program_page, place_pages, place_programs, started_joint, is_placed, opening_items, RunEdge}
+use Rattle.cloak_model.specs.Opening.{key_count, numbers_below, started_ledger, started_memory, program_page, place_pages, place_programs, started_joint, is_placed, opening_items, RunEdge}
 use Rattle.cloak_model.specs.PageMoves.{place, place_with}
 use Rattle.kernel_isolation.proofs.FilesAdded.{added_keep, HasKeys, files_of, opens_over}
 use Rattle.page_law.specs.Ciphers.{draw_at, stream_of, keys_drawn, shown_under, ShowsPage, pages_of_programs, placing_draw}
 use Rattle.page_law.proofs.Draws.{OwesPagesOf, HasDrawn, draw_made, draws_stay}
 use Rattle.page_law.proofs.Given.{added_own}
-use Rattle.page_law.proofs.Keys.{before, are_drawn, programs_have_keys, handed_keys, program_at}
-use Rattle.kernel_isolation.proofs.Opened.{frame_in, IsApart, apart_less, apart_last}
+use Rattle.page_law.proofs.Keys.{are_drawn, programs_have_keys, handed_keys, program_at}
+use Rattle.kernel_isolation.proofs.Opened.{frame_in, IsApart, apart_less, apart_last, apart_of}
+use Rattle.cloak_model.proofs.Opening.{length-started_domains}
+use Rattle.std.proofs.lemmas.Option.{same_Some}
+use Rattle.domain_isolation.proofs.Opened.{before}
 
 -- a page of a program as it begins
 abbrev first_page : ℕ → ℕ → PageId
 first_page d n = record { domain = d; resource = 0; page = n }
-
-pub same_some : {A : Type 0} (x y : A) → Some x ≡ Some y → x ≡ y
-same_some x y is = cc
 
 -- One page.
 
@@ -48,7 +48,7 @@ placed_by : (q : PageId) (f : ℕ) (bytes : List ℕ) (draw : Option (List ℕ �
 unfolding place_with
 placed_by q f bytes None m m' found is = absurd cc
 placed_by q f bytes (Some draw) m m' found is =
-    let same = sym (same_some _ m' is) in
+    let same = sym (same_Some _ m' is) in
     record {
       draw = draw;
       is = found;
@@ -144,7 +144,7 @@ pages_show : (all : List Program) (from : Beginning) (d k : ℕ) (p : Program) (
     HasDrawn (length all) all from k m.ledger → place_pages d p n m ≡ Some m' → PagesShow all from d k p n m m'
 pages_show all from d k p zero m m' has is =
     let number : k ≡ k + 0 = omega arith in
-    subst (λ (x : CloakedMemory). PagesShow all from d k p zero m x) (same_some m m' is) (record {
+    subst (λ (x : CloakedMemory). PagesShow all from d k p zero m x) (same_Some m m' is) (record {
       count = refl;
       drawn = subst (λ (x : ℕ). HasDrawn (length all) all from x m.ledger) number has;
       keys = refl;
@@ -155,7 +155,7 @@ pages_show all from d k p zero m m' has is =
 pages_show all from d k p (suc n) m m' has is =
     let b = before (place (first_page d n) (p.place + n) (program_page p.bytes n)) (place_pages d p n m) m' is in
     let first = pages_show all from d k p n m b.value has b.was in
-    let one = one_placed (first_page d n) (p.place + n) (program_page p.bytes n) b.value m' b.then in
+    let one = one_placed (first_page d n) (p.place + n) (program_page p.bytes n) b.value m' b.next in
     let number : suc (k + n) ≡ k + suc n = omega arith in
     let count = first.count in
     record {
@@ -248,15 +248,6 @@ pub apart_later : (p : Program) (programs : List Program) (f : ℕ) → IsApart 
     is_placed (p ∷ programs) f ≡ is_placed programs f
 apart_later p programs f away = ap (λ (b : Bool). cond b true (is_placed programs f)) (not_inside p f away)
 
-away_of : (p : Program) (programs : List Program) (f : ℕ) → is_placed (p ∷ programs) f ≡ false →
-    IsApart p p.start.pages f × (is_placed programs f ≡ false)
-away_of p programs f away = elim (inside_or_apart p f) [
-  | inl there ↦
-      let clash : true ≡ false =
-      sym (ap (λ (b : Bool). cond b true (is_placed programs f)) (is_inside p f there.0 there.1)) ∙ away in absurd cc
-  | inr apart ↦ (apart, sym (apart_later p programs f apart) ∙ away)
-]
-
 -- a frame in which no later program was placed
 here_shows : (all : List Program) (from : Beginning) (d k : ℕ) (p : Program) (programs : List Program)
     (m m' m'' : CloakedMemory) → slice_get all d ≡ Some p → PagesShow all from d k p p.start.pages m m' →
@@ -310,7 +301,7 @@ programs_show : (all : List Program) (from : Beginning) (d k : ℕ) (programs : 
     ProgramsShow all from d k programs m m'
 programs_show all from d k [] m m' lies has is =
     let number : k ≡ k + 0 = omega arith in
-    subst (λ (x : CloakedMemory). ProgramsShow all from d k [] m x) (same_some m m' is) (record {
+    subst (λ (x : CloakedMemory). ProgramsShow all from d k [] m x) (same_Some m m' is) (record {
       count = refl;
       drawn = subst (λ (x : ℕ). HasDrawn (length all) all from x m.ledger) number has;
       keys = refl;
@@ -322,7 +313,7 @@ programs_show all from d k (p ∷ programs) m m' lies has is =
     let b = before (place_programs (d + 1) programs) (place_pages d p p.start.pages m) m' is in
     let first = pages_show all from d k p p.start.pages m b.value has b.was in
     let later : AreLater all (d + 1) programs = λ i. lies (suc i) ∙ ap (slice_get all) (omega arith) in
-    let rest = programs_show all from (d + 1) (k + p.start.pages) programs b.value m' later first.drawn b.then in
+    let rest = programs_show all from (d + 1) (k + p.start.pages) programs b.value m' later first.drawn b.next in
     let found : slice_get all d ≡ Some p = ap (slice_get all) (omega arith) ∙ sym (lies 0) in
     let number : (k + p.start.pages) + pages_of_programs programs ≡ k + pages_of_programs (p ∷ programs) =
     omega arith in
@@ -333,7 +324,7 @@ programs_show all from d k (p ∷ programs) m m' lies has is =
       below = λ q less.
           rest.below q (omega (arith, less)) ∙ first.others q (λ same. absurd (omega (arith, same, less)));
       away = λ f apart.
-          let both = away_of p programs f apart in rest.away f both.1 ∙ first.apart f both.0;
+          let both = apart_of p programs f apart in rest.away f both.1 ∙ first.apart f both.0;
       own = λ f placed lt. frame_shows all from d k p programs m b.value m' found first rest f _ refl placed lt;
     }
 
@@ -423,10 +414,10 @@ once_in [] low high rises zero at' f is is' = absurd cc
 once_in [] low high rises (suc at) at' f is is' = absurd cc
 once_in (g ∷ fs) low high rises zero zero f is is' = refl
 once_in (g ∷ fs) low high rises zero (suc at') f is is' =
-    let same : g ≡ f = same_some g f is in
+    let same : g ≡ f = same_Some g f is in
     let above = at_least fs (suc g) high at' f rises.1 is' in absurd (omega (arith, same, above))
 once_in (g ∷ fs) low high rises (suc at) zero f is is' =
-    let same : g ≡ f = same_some g f is' in
+    let same : g ≡ f = same_Some g f is' in
     let above = at_least fs (suc g) high at f rises.1 is in absurd (omega (arith, same, above))
 once_in (g ∷ fs) low high rises (suc at) (suc at') f is is' =
     ap (λ (x : ℕ). suc x) (once_in fs (suc g) high rises.1 at at' f is is')
@@ -472,10 +463,6 @@ items_place b ram = record {
       (filter_rises (is_placed b.programs) (numbers_below (length ram)) 0 (length ram) (numbers_rise (length ram)))
       at at' f (frame_at ram fs at f bytes there) (frame_at ram fs at' f bytes' there');
 }
-
-started_count : (d : ℕ) (programs : List Program) → length (started_domains d programs) ≡ length programs
-started_count d [] = refl
-started_count d (p ∷ programs) = ap suc (started_count (d + 1) programs)
 
 -- The memory in which the programs' pages were placed.
 record MemoryShows (b : Bundle) (from : Beginning) (m : CloakedMemory) : Type 0 where
@@ -547,7 +534,7 @@ opening_shows b from o grammar opens =
     record {
       drawn = draws_stay from _ m.ledger o.joint.memory.ledger shows.drawn keeps.memory.keys
           (subst (OwesPagesOf (length b.programs)) (sym keeps.memory.owed) shows.drawn.owed) keeps.memory.stream;
-      count = keeps.count ∙ started_count 0 b.programs;
+      count = keeps.count ∙ length-started_domains 0 b.programs;
       shown = λ at f bytes there.
           still_shown b.programs from m.plain o.joint.memory.plain _ bytes
           (shows.shown at f bytes (ap (λ (items : List Item). slice_get items at) (sym over.items) ∙ there)) own.plain;

@@ -1,24 +1,21 @@
 -- Settling a frame, and offering a page, show pages under draws one after another.
-use Rattle.std.proofs.Common.{◌≡◌, ◌∙◌, ℕ, zero, suc, ◌<◌, Bool, true, false, List, [], ◌∷◌, ◌++◌, length, slice_get, slice_set, Option, Some, None, IfSome, slice_index_or, refl, sym, ap, subst, arith}
-use Rattle.std.specs.List.{find}
+use Rattle.std.proofs.Common.{◌≡◌, ◌∙◌, ℕ, zero, suc, ◌<◌, Bool, List, [], ◌∷◌, ◌++◌, length, slice_get, slice_set, Option, Some, None, IfSome, refl, sym, ap, subst, arith}
 use Rattle.std.specs.Prelude.{option_map}
-use Rattle.std.specs.Str.{bytes_eq}
 use Rattle.std.proofs.lemmas.List.{map-append}
 use Rattle.cloak_base.specs.Random.{Random}
 use Rattle.cloak_base.specs.declared.names.PageId.{PageId}
 use Rattle.cloak_model.specs.declared.image.Program.{Program}
 use Rattle.cloak_model.specs.declared.item.Item.{Item}
 use Rattle.cloak_model.specs.declared.item.Item.TheVariants as item
-use Rattle.cloak_model.specs.Ahead.{is_owed, settle_found, settle_while, settle_touched}
+use Rattle.cloak_model.specs.Ahead.{settle_touched}
 use Rattle.cloak_model.specs.Beginning.{Beginning}
-use Rattle.cloak_model.specs.Cloaking.{CloakedMemory, AfterSettling, AfterOffer, owed_in, settle_owed, settle_if, settle, settle_frame_if, owing_frame, owes, with_owed, with_comparison, taken, compared, unless_missed, offer}
+use Rattle.cloak_model.specs.Cloaking.{CloakedMemory, AfterSettling, AfterOffer, owed_in, settle_owed, settle, owes, with_owed, with_comparison, offer}
 use Rattle.cloak_model.specs.Hart.{Hart}
 use Rattle.cloak_model.specs.Ledger.{key_of, vector_of}
-use Rattle.cloak_model.specs.StepFrames.{step_frames}
 use Rattle.cloak_model.specs.World.{cipher_items}
+use Rattle.kernel_isolation.proofs.Showing.{Showing, AnyMemory, settle_shows, Shows, touched_shows, offer_shows}
 use Rattle.page_law.specs.Ciphers.{shown_under, ShowsPage}
 use Rattle.page_law.proofs.Draws.{OwesPagesOf, owed_at, owed_set, HasDrawn, draw_made, draw_missed, Draws, draws_none, draws_same, draws_then}
-use Rattle.kernel_isolation.proofs.Shown.{either}
 
 abbrev pub SettlingDraws : ℕ → CloakedMemory → AfterSettling → Type 0
 SettlingDraws count m s = Draws count m (cipher_items s.ciphers) s.memory
@@ -83,41 +80,28 @@ owed_draws f q (Some draw) m owed is = record {
   shown = λ programs from n has. (owed_shown f q (Some draw) from n m owed is has, tt);
 }
 
-if_draws : {count : ℕ} (f : ℕ) (o : Option PageId) (m : CloakedMemory) → owed_in m f ≡ o →
-    SettlingDraws count m (settle_if f o m)
-unfolding settle_if
-if_draws f None m owed = draws_same m m refl refl
-if_draws f (Some q) m owed = owed_draws f q (vector_of m.ledger q) m owed refl
+abbrev DrawsFor : ℕ → Showing
+DrawsFor count m ciphers n = Draws count m (cipher_items ciphers) n
 
 pub settle_draws : {count : ℕ} (f : ℕ) (m : CloakedMemory) → SettlingDraws count m (settle f m)
-unfolding settle
-settle_draws f m = if_draws f (owed_in m f) m refl
+settle_draws {count} f m =
+    settle_shows AnyMemory (DrawsFor count) (λ x here. draws_same x x refl refl)
+    (λ g q x is here. owed_draws g q (vector_of x.ledger q) x is refl) f m tt
 
--- Settling ahead of a step.
+shows : (count : ℕ) → Shows AnyMemory (DrawsFor count)
+shows count = record {
+  none = λ m here. draws_same m m refl refl;
+  both = λ l m n a b first second. ciphers_then l m n a b first second;
+  after = λ m n a here. tt;
+  settles = λ f m here. settle_draws f m;
+}
 
-found_draws : {count : ℕ} (o : Option ℕ) (next : CloakedMemory → AfterSettling) (m : CloakedMemory) →
-    ((n : CloakedMemory) → SettlingDraws count n (next n)) → SettlingDraws count m (settle_found o next m)
-found_draws None next m more = draws_same m m refl refl
-found_draws (Some f) next m more =
-    ciphers_then m (settle f m).memory _ _ _ (settle_draws f m) (more (settle f m).memory)
-
-while_draws : {count : ℕ} (frames : List (List ℕ) → List ℕ) (n : ℕ) (m : CloakedMemory) →
-    SettlingDraws count m (settle_while frames n m)
-unfolding settle_while
-while_draws frames zero m = draws_same m m refl refl
-while_draws frames (suc n) m =
-    found_draws (find (is_owed m) (frames m.ram)) (settle_while frames n) m (λ x. while_draws frames n x)
-
+-- ahead of a step
 pub touched_draws : {count : ℕ} (h : Hart) (disk : List ℕ) (m : CloakedMemory) →
     SettlingDraws count m (settle_touched h disk m)
-unfolding settle_touched
-touched_draws h disk m = while_draws (λ ram. step_frames h ram disk) (length m.ledger.owed) m
+touched_draws {count} h disk m = touched_shows AnyMemory (DrawsFor count) (shows count) h disk m tt
 
 -- Offers, of pages of programs that there are.
-
-frame_if_draws : {count : ℕ} (f : Option ℕ) (m : CloakedMemory) → SettlingDraws count m (settle_frame_if f m)
-frame_if_draws None m = draws_same m m refl refl
-frame_if_draws (Some f) m = settle_draws f m
 
 owes_draws : {count : ℕ} (q : PageId) (g : ℕ) (m : CloakedMemory) → q.domain < count →
     Draws count m [] (with_owed g (Some q) m)
@@ -125,36 +109,8 @@ owes_draws q g m low =
     draws_none m (with_owed g (Some q) m) refl refl
     (λ all enough owes. owed_set all m.ledger.owed g (Some q) owes (omega (arith, low, enough))) refl
 
-taken_draws : {count : ℕ} (q : PageId) (g : ℕ) (write : Bool) (m after : CloakedMemory) → q.domain < count →
-    Draws count m [] after → Draws count m [] (taken q g write after)
-taken_draws q g true m after low d = draws_then m after (taken q g true after) [] [] d (owes_draws q g after low)
-taken_draws q g false m after low d = d
-
-compared_draws : {count : ℕ} (q : PageId) (g : ℕ) (write : Bool) (recorded : Option (List ℕ)) (m : CloakedMemory) →
-    q.domain < count → OfferDraws count m (compared q g write recorded m)
-unfolding compared
-compared_draws q g write None m low = owes_draws q g m low
-compared_draws {count} q g write (Some c) m low =
-    let there : List ℕ = slice_index_or m.ram g [] in
-    let after : CloakedMemory = with_comparison there c m in
-    let same : AfterOffer = record { memory = taken q g write after; ciphers = []; granted = true } in
-    let other : AfterOffer = record { memory = after; ciphers = []; granted = false } in
-    let marked : Draws count m [] after = draws_none m after refl refl (λ all enough owes. owes) refl in
-    either (OfferDraws count m) (bytes_eq there c) same other (taken_draws q g write m after low marked) marked
-
-unless_draws : {count : ℕ} (m : CloakedMemory) (s : AfterSettling) (next : CloakedMemory → AfterOffer) →
-    SettlingDraws count m s → ((n : CloakedMemory) → OfferDraws count n (next n)) →
-    OfferDraws count m (unless_missed s next)
-unfolding unless_missed
-unless_draws {count} m s next draws more =
-    either (OfferDraws count m) s.missed _ _ draws
-    (ciphers_then m s.memory _ _ _ draws (more s.memory))
-
 pub offer_draws : {count : ℕ} (q : PageId) (g : ℕ) (write : Bool) (m : CloakedMemory) → q.domain < count →
     OfferDraws count m (offer q g write m)
-unfolding offer
 offer_draws {count} q g write m low =
-    either (OfferDraws count m) (owes q (owed_in m g)) _ _ (draws_same m m refl refl)
-    (unless_draws m (settle g m) _ (settle_draws g m)
-    (λ n. unless_draws n (settle_frame_if (owing_frame n q) n) _ (frame_if_draws (owing_frame n q) n)
-    (λ o. compared_draws q g write (o.ledger.recorded q) o low)))
+    offer_shows AnyMemory (DrawsFor count) (shows count) q (λ f x here. owes_draws q f x low)
+    (λ a b x here. draws_none x (with_comparison a b x) refl refl (λ all enough owes. owes) refl) g write m tt

@@ -30,9 +30,9 @@ use Rattle.script_fold.proofs.Scripts.{IsOwn, ChangesOnly, ChangesLast}
 use Rattle.script_fold.proofs.InstructionScripts.{of_instruction, instruction_scripted}
 use Rattle.script_fold.proofs.CopyScripts.{of_copy, copy_in_scripted, copy_out_scripted}
 use Rattle.page_law.specs.Loads.{IsLoadOf}
-use Rattle.kernel_isolation.proofs.Shown.{either}
 use Rattle.page_law.proofs.Worlds.{OnlyShows}
 use Rattle.page_law.proofs.Steps.{shows_asked}
+use Rattle.cloak_base.proofs.Choices.{either}
 
 -- A world of the joint machine in which pages have these bytes.
 pub record HasPlain (plain : PageId → List ℕ) (w : World) : Type 0 where

@@ -15,10 +15,6 @@ length_reached : (kept : List (List ℕ)) (f : ℕ) → length (pages_to kept (f
 length_reached kept f =
     omega (arith, length-append kept (replicate (f + 1 - length kept) zero_page), length-replicate (f + 1 - length kept) zero_page)
 
--- no more pages are kept than there are
-pub still_few : (kept : List (List ℕ)) (f count : ℕ) → f < count → length kept ≤ count → length (pages_to kept (f + 1)) ≤ count
-still_few kept f count h few = omega (arith, length_reached kept f)
-
 -- more pages are kept, and all are as they were
 pub all_reached : (kept : List (List ℕ)) (f count : ℕ) → f < count → length kept ≤ count →
     pages_to (pages_to kept (f + 1)) count ≡ pages_to kept count

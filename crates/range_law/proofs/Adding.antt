@@ -13,11 +13,11 @@ use Rattle.cloak_model.specs.Ledger.{Keys, domain_key}
 use Rattle.kernel_isolation.proofs.FilesAdded.{IsGiven, files_carry, file_made}
 use Rattle.range_law.specs.Writing.{AreBytes}
 use Rattle.range_law.proofs.Bounds.{all_get, all_set}
-use Rattle.kernel_isolation.proofs.Shown.{either}
 use Rattle.range_law.proofs.Ciphers.{block_bytes}
 use Rattle.range_law.proofs.Controls.{file_fits}
 use Rattle.range_law.proofs.Memories.{MemoryFits}
 use Rattle.range_law.proofs.Turns.{ProgramFits, JointFits}
+use Rattle.cloak_base.proofs.Choices.{either}
 
 -- what each file with a property keeps all of them keep
 pub all_files_keep : (P : Joint → Type 0) (Q : FileContents → Type 0) →

@@ -1,6 +1,6 @@
 -- Lists all of whose elements are words, or bytes.
-use Rattle.std.proofs.Common.{◌≡◌, ℕ, zero, suc, ◌+◌, ◌-◌, ◌*◌, ◌%◌, ◌^◌, ◌<◌, Bool, true, false, List, [], ◌∷◌, ◌++◌, map, take, drop, replicate, slice_get, slice_set, slice_index_or, Some, refl, subst, arith}
-use Rattle.std.specs.Prelude.{◌&&◌, All}
+use Rattle.std.proofs.Common.{◌≡◌, ℕ, zero, suc, ◌+◌, ◌-◌, ◌*◌, ◌%◌, ◌^◌, ◌<◌, Bool, List, [], ◌∷◌, map, take, drop, replicate, slice_get, slice_set, slice_index_or, Some, subst, arith}
+use Rattle.std.specs.Prelude.{All}
 use Rattle.std.specs.Int.{w32, from_le_bytes, to_le_bytes}
 use Rattle.std.specs.List.{AllByRecursion}
 use Rattle.cloak_base.specs.Pages.{zero_page}
@@ -8,15 +8,11 @@ use Rattle.cloak_model.specs.Memory.{value_in, with_value_in}
 use Rattle.cloak_model.specs.KernelStep.{extended}
 use Rattle.cloak_model.specs.Record.{IsWord}
 use Rattle.range_law.specs.Writing.{AreBytes}
-use Rattle.kernel_isolation.proofs.Shown.{either}
+use Rattle.cloak_base.proofs.Choices.{either}
+use Rattle.cloak_base.proofs.Lists.{each_append}
 
 abbrev pub AreWords : List ℕ → Type 0
 AreWords words = AllByRecursion IsWord words
-
-pub all_append : {A : Type 0} (P : A → Type 0) (xs ys : List A) → AllByRecursion P xs → AllByRecursion P ys →
-    AllByRecursion P (xs ++ ys)
-all_append P [] ys here there = there
-all_append P (x ∷ xs) ys here there = (here.0, all_append P xs ys here.1 there)
 
 pub all_take : {A : Type 0} (P : A → Type 0) (n : ℕ) (xs : List A) → AllByRecursion P xs → AllByRecursion P (take n xs)
 all_take P zero [] all = tt
@@ -95,14 +91,14 @@ value_below bytes all =
 pub value_in_below : (page : List ℕ) (at width : ℕ) → AreBytes page → IsWord (value_in page at width)
 value_in_below page at width all =
     let P : ℕ → Type 0 = λ b. b < 256 in
-    value_below _ (all_append P _ _ (all_take P width _ (all_drop P at page all)) (all_replicate P (4 - width) 0 (omega arith)))
+    value_below _ (each_append P _ _ (all_take P width _ (all_drop P at page all)) (all_replicate P (4 - width) 0 (omega arith)))
 
 pub bytes_with_value : (page : List ℕ) (at width value : ℕ) → AreBytes page →
     AreBytes (with_value_in page at width value)
 bytes_with_value page at width value all =
     let P : ℕ → Type 0 = λ b. b < 256 in
-    all_append P _ _ (all_take P at page all)
-    (all_append P _ _ (all_take P width _ (cells value)) (all_drop P (at + width) page all))
+    each_append P _ _ (all_take P at page all)
+    (each_append P _ _ (all_take P width _ (cells value)) (all_drop P (at + width) page all))
 
 pub extended_below : (is_signed : Bool) (width value : ℕ) → IsWord value → IsWord (extended is_signed width value)
 extended_below is_signed width value below = either IsWord _ _ _ (rest_below _) below
@@ -111,8 +107,3 @@ pub by_place : {A : Type 0} (P : A → Type 0) (xs : List A) → AllByRecursion 
 by_place P [] all k d low = absurd (omega (arith, low))
 by_place P (x ∷ xs) all zero d low = all.0
 by_place P (x ∷ xs) all (suc k) d low = by_place P xs all.1 k d (omega (arith, low))
-
-pub both_true : (a b : Bool) → (a && b) ≡ true → (a ≡ true) × (b ≡ true)
-both_true true true is = (refl, refl)
-both_true true false is = absurd cc
-both_true false b is = absurd cc

@@ -10,14 +10,16 @@ use Rattle.rand_core.specs.Steps.{word_bytes}
 use Rattle.rand_chacha.specs.ChaCha.{ChaCha, next_word}
 use Rattle.aes_block.specs.Bytes.{IsBytes}
 use Rattle.aes_block.specs.Cipher.{after_rounds, encrypted}
-use Rattle.aes_block.specs.State.{block_sum, from_places, sub_bytes, shift_rows}
+use Rattle.aes_block.specs.State.{block_sum, sub_bytes, shift_rows}
 use Rattle.aes_block.specs.RoundKey.{round_key}
 use Rattle.aes_block.proofs.Blocks.{IsBytes-from_places, IsBytes-sub_bytes, IsBytes-shift_rows, IsBytes-block_sum, IsBytes-round_key}
 use Rattle.aes_block.proofs.Rounds.{IsBytes-after_rounds}
 use Rattle.cloak_base.specs.Random.{Random, handed, keyed, next_draw}
 use Rattle.cloak_model.specs.Chain.{chained, blocks_of, cbc}
 use Rattle.range_law.specs.Writing.{AreBytes, IsStreamOfBytes}
-use Rattle.range_law.proofs.Bounds.{all_append, all_take, all_drop, byte_at, by_recursion, by_place, cells}
+use Rattle.range_law.proofs.Bounds.{all_take, all_drop, byte_at, by_recursion, by_place, cells}
+use Rattle.cloak_base.proofs.Lists.{each_append}
+use Rattle.aes_block.proofs.Lengths.{length-encrypted}
 
 -- Blocks.
 
@@ -40,7 +42,7 @@ MayDraw (Some draw) = DrawFits draw
 words_fit : (k : ℕ) (g : ChaCha) → AreBytes (word_bytes (to_le_bytes w32) (next_word 10) k g).0
 unfolding word_bytes
 words_fit zero g = tt
-words_fit (suc k) g = all_append (λ b. b < 256) _ _ (words_fit k g) (cells _)
+words_fit (suc k) g = each_append (λ b. b < 256) _ _ (words_fit k g) (cells _)
 
 words_long : (k : ℕ) (g : ChaCha) → length (word_bytes (to_le_bytes w32) (next_word 10) k g).0 ≡ 4 * k
 unfolding word_bytes
@@ -90,11 +92,7 @@ chained_fits key iv [] k v all = tt
 chained_fits key iv (p ∷ ps) k v all =
     let c : List ℕ = encrypted key (block_sum p iv) in
     let here = block_bytes 16 c (encrypted_fits key (block_sum p iv) k (block_sum_fits p iv all.0 v)) in
-    all_append (λ b. b < 256) c _ here (chained_fits key c ps k here all.1)
-
-length-encrypted : (key s : List ℕ) → length (encrypted key s) ≡ 16
-unfolding encrypted block_sum from_places
-length-encrypted key s = refl
+    each_append (λ b. b < 256) c _ here (chained_fits key c ps k here all.1)
 
 chained_long : (key iv : List ℕ) (n : ℕ) (s : List ℕ) → length (concat (chained key iv (blocks_of n s))) ≡ 16 * n
 unfolding chained blocks_of
@@ -107,6 +105,10 @@ chained_long key iv (suc n) s =
     let others = chained_long key c n (drop 16 s) in
     omega (arith, both, first, others)
 
+pub cbc_long : (key iv page : List ℕ) → length (cbc key iv page) ≡ 4096
+unfolding cbc
+cbc_long key iv page = chained_long key iv 256 page
+
 pub record SealedFits (page : List ℕ) : Type 0 where
   pub bytes : AreBytes page
   pub long : length page ≡ 4096
@@ -115,5 +117,5 @@ pub sealed_fits : (key iv page : List ℕ) → IsBytes 16 key → AreBytes iv �
 unfolding cbc
 sealed_fits key iv page k v all = record {
   bytes = chained_fits key iv (blocks_of 256 page) k v (blocks_fit 256 page all);
-  long = chained_long key iv 256 page;
+  long = cbc_long key iv page;
 }

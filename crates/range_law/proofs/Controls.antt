@@ -1,8 +1,7 @@
 -- Contexts and resources of a program over its step: contexts fit, and there are not more than there may be.
-use Rattle.std.proofs.Common.{◌≡◌, ◌∙◌, ℕ, ◌+◌, ◌<◌, ◌≤◌, nat_le, nat_lt, Bool, not, List, [], ◌∷◌, length, slice_set, Option, Some, None, IfSome, Result, Ok, Err, refl, sym, subst, arith}
-use Rattle.std.specs.Prelude.{◌==◌, ◌||◌, position, is_none, is_some}
-use Rattle.std.specs.List.{AllByRecursion, position_or_len, list_any}
-use Rattle.std.proofs.lemmas.Bool.{cond_both, ltb-true}
+use Rattle.std.proofs.Common.{◌≡◌, ◌∙◌, ℕ, ◌+◌, ◌<◌, ◌≤◌, nat_le, nat_lt, not, List, [], ◌∷◌, length, slice_set, Option, Some, None, IfSome, Result, Ok, Err, refl, sym, subst, arith}
+use Rattle.std.specs.Prelude.{◌==◌, ◌||◌, is_none, is_some}
+use Rattle.std.specs.List.{AllByRecursion, list_any}
 use Rattle.std.proofs.lemmas.List.{length-set, length-map}
 use Rattle.cloak_base.specs.Registers.{register}
 use Rattle.cloak_model.specs.declared.context.Phase.{Phase}
@@ -41,9 +40,10 @@ use Rattle.cloak_model.proofs.Playing.{by_plain, by_copy_in, by_copy_out, by_eca
 use Rattle.hypercall_kinds.specs.Kinds.{cleared, CallKind, Answers, MakesNew, MakesFile, Maps, Unmaps, Starts, BeginsCopy, Calls, Stops, Forks, Ends, EndsSpace, remaps, after}
 use Rattle.hypercall_kinds.proofs.ByKinds.{by_kinds}
 use Rattle.range_law.proofs.Bounds.{all_set, all_or, all_map}
-use Rattle.kernel_isolation.proofs.Shown.{either}
 use Rattle.range_law.proofs.Programs.{ContextFits, set_word_fits, moved_on_fits, in_phase_fits, register_fits, new_context_fits, WhyFits, shown_fits, RanFits, instruction_told, CopiedFits, copy_in_told, copy_out_told, finish_call_fits}
 use Rattle.range_law.proofs.Worlds.{WorldFits, ToldFits, clear_told, copy_told, forget_told}
+use Rattle.cloak_base.proofs.Choices.{either}
+use Rattle.cloak_base.proofs.Lists.{place_below}
 
 abbrev pub SlotFits : Option Context → Type 0
 SlotFits None = Unit {0}
@@ -121,11 +121,6 @@ word_fits slot c value d fits here below = stays_fits slot _ d fits (answer_fits
 
 -- Resources.
 
-pub found_low : {A : Type 0} (test : A → Bool) (xs : List A) → IfSome (position test xs) (λ n. n < length xs)
-found_low test xs =
-    cond_both (nat_lt (position_or_len test xs) (length xs)) (Some (position_or_len test xs)) None
-    (λ o. IfSome o (λ n. n < length xs)) (λ low. ltb-true _ _ low) (λ past. tt)
-
 abbrev NumberFits : Result ℕ MapFault → Type 0
 NumberFits (Ok n) = IsWord n
 NumberFits (Err f) = Unit {0}
@@ -150,7 +145,7 @@ unfolding new_resource
 new_fits owner pages r few =
     either MadeFits ((pages == 0) || nat_lt 1024 pages) _ _ (refused_fits fault.BadArg r few)
     (either MadeFits (nat_lt 1024 (all_pages r + pages)) _ _ (refused_fits fault.Full r few)
-    (made_at_fits owner pages (first_free r.held) r few (found_low is_none r.held)))
+    (made_at_fits owner pages (first_free r.held) r few (place_below is_none r.held)))
 
 file_found_fits : (number pages : ℕ) (o : Option ℕ) (r : Resources) → NumbersFit r →
     IfSome o (λ n. n < length r.held) → MadeFits (file_found number pages o r)
@@ -164,7 +159,7 @@ file_found_fits number pages (Some n) r few low =
 
 pub file_fits : (number pages : ℕ) (r : Resources) → NumbersFit r → MadeFits (file_resource number pages r)
 unfolding file_resource
-file_fits number pages r few = file_found_fits number pages _ r few (found_low (holds_file number) r.held)
+file_fits number pages r few = file_found_fits number pages _ r few (place_below (holds_file number) r.held)
 
 abbrev KeepsNumbers : Resources → Mapped (Unit {0}) → Type 0
 KeepsNumbers r m = m.resources.held ≡ r.held
@@ -217,7 +212,7 @@ free_low : (contexts : List (Option Context)) (free : ℕ) → SlotsFit contexts
     free < 8
 free_low contexts free fits is =
     let few = fits.few in
-    let low = subst (λ (o : Option ℕ). IfSome o (λ n. n < length contexts)) is (found_low is_none contexts) in
+    let low = subst (λ (o : Option ℕ). IfSome o (λ n. n < length contexts)) is (place_below is_none contexts) in
     omega (arith, few, low)
 
 -- Forking.

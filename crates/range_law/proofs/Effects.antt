@@ -15,7 +15,7 @@ use Rattle.cloak_model.specs.declared.outcome.Effect.{Effect}
 use Rattle.cloak_model.specs.declared.outcome.Effect.TheVariants as does
 use Rattle.cloak_model.specs.Record.{IsWord}
 use Rattle.range_law.proofs.Bounds.{AreWords, rest_below, word_at}
-use Rattle.kernel_isolation.proofs.Shown.{either}
+use Rattle.cloak_base.proofs.Choices.{either}
 
 -- The fields of an instruction that a register or a control and status register may take as they are.
 

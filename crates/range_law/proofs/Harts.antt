@@ -21,8 +21,8 @@ use Rattle.cloak_model.specs.KernelStep.{ticked}
 use Rattle.cloak_model.specs.Leaving.{with_registers, shown_registers, leave}
 use Rattle.cloak_model.specs.Record.{IsWord}
 use Rattle.range_law.proofs.Bounds.{AreWords, rest_below, word_at, all_set, all_replicate}
-use Rattle.kernel_isolation.proofs.Shown.{either}
 use Rattle.range_law.proofs.Effects.{FieldsFit}
+use Rattle.cloak_base.proofs.Choices.{either}
 
 -- Registers.
 

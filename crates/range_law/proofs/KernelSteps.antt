@@ -25,10 +25,11 @@ use Rattle.cloak_base.specs.Constants.{frame_of}
 use Rattle.cloak_model.specs.Record.{IsWord}
 use Rattle.cloak_model.specs.World.{World}
 use Rattle.range_law.specs.Writing.{AreBytes}
-use Rattle.range_law.proofs.Bounds.{all_append, all_take, all_drop, extended_below}
+use Rattle.range_law.proofs.Bounds.{all_take, all_drop, extended_below}
 use Rattle.range_law.proofs.Effects.{FieldsFit, EffectFits, instruction_fits, flag_fits, effect_fits}
 use Rattle.range_law.proofs.Harts.{HartFits, EndingFits, MadeFits, zero_registers_fit, with_pending_fits, register_fits, with_word_fits, gone_on_fits, with_pc_fits, ticked_fits, stays_fits, raised_fits, illegal_fits, system_fits}
 use Rattle.range_law.proofs.Worlds.{WorldFits, ToldFits, Anything, FoundFits, then_fits, either_told, count_told, load_told, store_at_told, unmark_told, reserve_told, store_conditional_told, combine_told, frame_told, fill_told}
+use Rattle.cloak_base.proofs.Lists.{each_append}
 
 pub record AfterFits (a : SteppedKernel) : Type 0 where
   pub hart : HartFits a.hart
@@ -55,8 +56,8 @@ with_block_fits : (disk : List ℕ) (block : ℕ) (bytes : List ℕ) → AreByte
     AreBytes (with_block disk block bytes)
 with_block_fits disk block bytes all here =
     let P : ℕ → Type 0 = λ b. b < 256 in
-    all_append P _ _ (all_take P (4096 * block) disk all)
-    (all_append P bytes _ here (all_drop P (4096 * block + 4096) disk all))
+    each_append P _ _ (all_take P (4096 * block) disk all)
+    (each_append P bytes _ here (all_drop P (4096 * block + 4096) disk all))
 
 answers_fit : (h : Hart) (value : ℕ) → HartFits h → IsWord value → MadeFits (host_answers h value)
 answers_fit h value fits here = stays_fits _ (gone_on_fits _ (with_word_fits h 10 value fits here))

@@ -11,3 +11,4 @@ pub mod Turns
 pub mod Adding
 pub mod Opened
 pub mod Runs
+pub mod Beginnings

@@ -29,14 +29,15 @@ use Rattle.cloak_model.specs.Resources.{started_resources}
 use Rattle.kernel_isolation.proofs.FilesAdded.{HasKeys, files_of, opens_over}
 use Rattle.range_law.specs.Writing.{AreBytes, IsOfBytes, IsStreamOfBytes, IsBeginningOfBytes}
 use Rattle.range_law.proofs.Adding.{HasPageBytes, all_bytes, added_fit}
-use Rattle.range_law.proofs.Bounds.{all_append, all_take, all_drop, all_set, all_replicate, all_or, all_map, by_recursion, by_place, zero_bytes}
-use Rattle.kernel_isolation.proofs.Shown.{either}
+use Rattle.range_law.proofs.Bounds.{all_take, all_drop, all_set, all_replicate, all_or, all_map, by_recursion, by_place, zero_bytes}
 use Rattle.range_law.proofs.Ciphers.{MayDraw, draw_fits, as_block, block_bytes, SealedFits, sealed_fits}
 use Rattle.range_law.proofs.Controls.{SlotFits}
 use Rattle.range_law.proofs.Harts.{HartFits, started_fits}
 use Rattle.range_law.proofs.Memories.{MemoryFits, frame_set, zero_page_fits}
 use Rattle.range_law.proofs.Programs.{new_context_fits}
 use Rattle.range_law.proofs.Turns.{ProgramFits, JointFits}
+use Rattle.cloak_base.proofs.Choices.{either}
+use Rattle.cloak_base.proofs.Lists.{each_append}
 
 -- RAM before any page is placed.
 
@@ -94,7 +95,7 @@ one_key : (keys : List (List ℕ) × Random) (draw : Option (List ℕ × Random)
     MayDrawKeys (option_map (λ (d : List ℕ × Random). (keys.0 ++ d.0 ∷ [], d.1)) draw)
 one_key keys None fits draws = tt
 one_key keys (Some d) fits draws =
-    record { keys = all_append (IsBytes 16) keys.0 (d.0 ∷ []) fits.keys (draws.bytes, tt); rest = draws.rest }
+    record { keys = each_append (IsBytes 16) keys.0 (d.0 ∷ []) fits.keys (draws.bytes, tt); rest = draws.rest }
 
 next_key : (drawn : Option (List (List ℕ) × Random)) → MayDrawKeys drawn →
     MayDrawKeys (option_and_then (λ (keys : List (List ℕ) × Random).
@@ -109,7 +110,7 @@ drawn_fit (suc n) stream all = next_key (drawn_keys n stream) (drawn_fit n strea
 
 filled_fits : {A : Type 0} (P : A → Type 0) (x : A) (xs : List A) → AllByRecursion P xs → P x →
     AllByRecursion P (filled_up x xs)
-filled_fits P x xs all here = all_take P 4 _ (all_append P xs _ all (all_replicate P 4 x here))
+filled_fits P x xs all here = all_take P 4 _ (each_append P xs _ all (all_replicate P 4 x here))
 
 filled_long : {A : Type 0} (x : A) (xs : List A) → length (filled_up x xs) ≡ 4
 filled_long x xs =
@@ -255,7 +256,7 @@ programs_fit d (p ∷ programs) m fits all =
 harts_fit : (entry n : ℕ) → IsWord entry → n ≤ 4 → AllByRecursion HartFits (started_harts entry n)
 harts_fit entry zero e few = tt
 harts_fit entry (suc n) e few =
-    all_append HartFits (started_harts entry n) _ (harts_fit entry n e (omega (arith, few)))
+    each_append HartFits (started_harts entry n) _ (harts_fit entry n e (omega (arith, few)))
     (started_fits entry n e (omega (arith, few)), tt)
 
 program_fits : (frames d : ℕ) (p : Program) → d < 4 → IsProgramIn frames p → ProgramFits (started_domain d p.start)
@@ -288,7 +289,7 @@ domains_fit frames d (p ∷ programs) few all = (
 below_fits : (n most : ℕ) → n ≤ most → AllByRecursion (λ f. f < most) (numbers_below n)
 below_fits zero most le = tt
 below_fits (suc n) most le =
-    all_append (λ f. f < most) (numbers_below n) _ (below_fits n most (omega (arith, le))) (omega (arith, le), tt)
+    each_append (λ f. f < most) (numbers_below n) _ (below_fits n most (omega (arith, le))) (omega (arith, le), tt)
 
 all_filter : {A : Type 0} (P : A → Type 0) (test : A → Bool) (xs : List A) → AllByRecursion P xs →
     AllByRecursion P (filter test xs)

@@ -36,11 +36,11 @@ use Rattle.cloak_model.specs.World.{World}
 use Rattle.cloak_model.specs.Script as script
 use Rattle.cloak_model.specs.Script.{Question, Reach, Get, Put, Clear, Change, Write, Forget, Script, Gives, Asks, Reads, Changes, asked, changed, played}
 use Rattle.range_law.proofs.Bounds.{AreWords, rest_below, word_at, all_replicate, extended_below}
-use Rattle.kernel_isolation.proofs.Shown.{either}
 use Rattle.range_law.proofs.Effects.{FieldsFit, EffectFits, instruction_fits, effect_fits}
 use Rattle.range_law.proofs.Harts.{with_register_fits, zero_registers_fit}
 use Rattle.range_law.proofs.Worlds.{WorldFits, ToldFits, Anything, AnswerFits, reach_told, read_told, write_told, get_told, put_told, clear_told, copy_told, forget_told}
 use Rattle.range_law.proofs.KernelSteps.{misaligned_fits}
+use Rattle.cloak_base.proofs.Choices.{either}
 
 pub record ContextFits (c : Context) : Type 0 where
   pub regs : AreWords c.regs

@@ -19,10 +19,10 @@ use Rattle.kernel_isolation.specs.Isolation.{items_by_step}
 use Rattle.kernel_isolation.proofs.Isolated.{of_opened}
 use Rattle.kernel_isolation.proofs.TwoRuns.{writes_an_exchange}
 use Rattle.range_law.specs.Writing.{IsOfBytes, IsBeginningOfBytes, WritesARecord}
-use Rattle.range_law.proofs.Bounds.{all_append}
 use Rattle.range_law.proofs.Opened.{opened_fits}
 use Rattle.range_law.proofs.Turns.{JointFits, turn_fits}
 use Rattle.range_law.proofs.Worlds.{CloakFits, settled_cloak}
+use Rattle.cloak_base.proofs.Lists.{each_append}
 
 abbrev AreItems : List Item → Type 0
 AreItems items = AllByRecursion IsItem items
@@ -93,7 +93,7 @@ unfolding steps_items
 steps_items_fit number [] few all = tt
 steps_items_fit number (x ∷ steps) few all = (
   omega (arith, few),
-  all_append IsItem x (steps_items (suc number) steps) all.0
+  each_append IsItem x (steps_items (suc number) steps) all.0
       (steps_items_fit (suc number) steps (omega (arith, few)) all.1),
 )
 
@@ -106,9 +106,9 @@ writes_a_record b from budget r grammar bytes all least is =
     let count : length steps ≡ length r.turns = length-map r.turns (λ (t : Turn). t.items) in
     record {
       spells = refl;
-      fields = all_append IsItem r.opened.items _ fits.opening
-          (all_append IsItem (steps_items 1 steps) _
+      fields = each_append IsItem r.opened.items _ fits.opening
+          (each_append IsItem (steps_items 1 steps) _
           (steps_items_fit 1 steps (omega (arith, count, few, least)) fits.steps)
-          (omega (arith, count, few, least), all_append IsItem r.closed.items (item.End ∷ []) fits.closing (tt, tt)));
+          (omega (arith, count, few, least), each_append IsItem r.closed.items (item.End ∷ []) fits.closing (tt, tt)));
       exchange = writes_an_exchange b from budget r is;
     }

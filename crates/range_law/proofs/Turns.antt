@@ -38,12 +38,13 @@ use Rattle.settling_ahead.proofs.Touching.{writes_touched_alone}
 use Rattle.kernel_isolation.proofs.Accounts.{is_joint, ram_seen}
 use Rattle.kernel_isolation.proofs.StepAccounts.{accounts_domain_step}
 use Rattle.range_law.specs.Writing.{AreBytes}
-use Rattle.range_law.proofs.Bounds.{AreWords, all_append, all_or, all_set}
+use Rattle.range_law.proofs.Bounds.{AreWords, all_or, all_set}
 use Rattle.range_law.proofs.Harts.{HartFits, EndingFits, started_fits, ticked_fits, leave_fits}
 use Rattle.range_law.proofs.Memories.{FramesFit, MemoryFits, ShowsFit, touched_fits}
 use Rattle.range_law.proofs.Worlds.{CloakFits, WorldFits, ToldFits, frames_of, marked_fits}
 use Rattle.range_law.proofs.KernelSteps.{kernel_step_told}
 use Rattle.range_law.proofs.Controls.{ControlFits, WentFits, SteppedFits, DomainStepFits, domain_step_told, interrupt_fits, resume_slot_fits, forgets_fit}
+use Rattle.cloak_base.proofs.Lists.{each_append}
 
 abbrev pub ProgramFits : Domain → Type 0
 ProgramFits d = ControlFits d.control
@@ -149,7 +150,7 @@ ended_fits j number items (Put b) fits all e = record {
 ended_fits j number items (Halt value) fits all e = record { joint = fits; items = all }
 ended_fits j number items (Resume ctx reply) fits all e =
     let r = resume_fits j number (satp_of (hart_in j number).csrs) ctx reply fits e.0 e.1 in
-    record { joint = r.joint; items = all_append IsItem items _ all r.items }
+    record { joint = r.joint; items = each_append IsItem items _ all r.items }
 
 outside_by : (j : Joint) (number : ℕ) (h : Hart) (s : AfterSettling) → JointFits j → HartFits h →
     ShowsFit s.ciphers s.memory → TurnFits (after_outside j number (made_after h j.disk (cloak_outside j.memory h) s))
@@ -181,7 +182,7 @@ outside_fits j number h fits here =
 
 left_fits : (j : Joint) (number : ℕ) (h : Hart) (items : List Item) (s : Shown) → JointFits j → HartFits h →
     AllByRecursion IsItem items → IsItem (item.Leave s) → AllByRecursion IsItem (items ++ item.Leave s ∷ [])
-left_fits j number h items s fits here all shown = all_append IsItem items (item.Leave s ∷ []) all (shown, tt)
+left_fits j number h items s fits here all shown = each_append IsItem items (item.Leave s ∷ []) all (shown, tt)
 
 unmarked_fits : (number : ℕ) (m : CloakedMemory) → MemoryFits m → MemoryFits (without_mark number m)
 unmarked_fits number m fits =
@@ -344,8 +345,8 @@ end_domain_fits d domain v t fits program =
         programs = all_set ProgramFits t.joint.domains d (ended_domain domain) fits.joint.programs
             (ended_program_fits domain program);
       };
-      items = all_append IsItem t.items _ fits.items
-          (all_append IsItem (items_of w) (item.Ended d ∷ []) (items_of_fits w world) (tt, tt));
+      items = each_append IsItem t.items _ fits.items
+          (each_append IsItem (items_of w) (item.Ended d ∷ []) (items_of_fits w world) (tt, tt));
     }
 
 refuses_fits : (t : Turn) → TurnFits t → TurnFits (refuses t)

@@ -2,7 +2,7 @@
 use Rattle.std.proofs.Common.{◌≡◌, ◌∙◌, inl, inr, ℕ, zero, suc, ◌+◌, ◌-◌, ◌*◌, ◌/◌, ◌%◌, ◌^◌, ◌<◌, nat_le, nat_lt, Bool, true, false, cond, not, ◌&&◌, List, [], ◌∷◌, length, slice_index_or, Option, Some, None, Result, Ok, Err, sym, subst, arith}
 use Rattle.std.specs.Prelude.{◌==◌}
 use Rattle.std.specs.List.{AllByRecursion}
-use Rattle.std.proofs.lemmas.Bool.{cond_both, ltb-true}
+use Rattle.std.proofs.lemmas.Bool.{cond_both, ltb-true, and_parts}
 use Rattle.std.proofs.lemmas.List.{length-set}
 use Rattle.rv_isa.specs.Fields.{bits}
 use Rattle.rv_atomic.specs.Combine.{combined}
@@ -30,9 +30,10 @@ use Rattle.cloak_model.specs.Record.{IsItem, IsWord}
 use Rattle.cloak_model.specs.Walk.{Walk, FirstWord, Ends, GoesOn, access_fault, page_fault, first_entry, has_paging, is_valid, is_pointer, is_plain_pointer, allows, frame_at, first_leaf, second_leaf, first_word, second_word}
 use Rattle.cloak_model.specs.World.{World, MidStep, Flat, Cloaked, Alone, ram_of, settled, settled_in, with_marks, stored_at, filled_frame, written, noted, regime_of, plain_of, is_missed}
 use Rattle.range_law.specs.Writing.{AreBytes}
-use Rattle.range_law.proofs.Bounds.{all_append, all_or, both_true, zero_bytes, value_in_below, bytes_with_value}
-use Rattle.kernel_isolation.proofs.Shown.{either}
+use Rattle.range_law.proofs.Bounds.{all_or, zero_bytes, value_in_below, bytes_with_value}
 use Rattle.range_law.proofs.Memories.{FramesFit, MemoryFits, frame_set, settle_fits, offer_fits}
+use Rattle.cloak_base.proofs.Choices.{either}
+use Rattle.cloak_base.proofs.Lists.{each_append}
 
 -- The world of a step: its bytes are bytes, and what was written fits. A program alone is none.
 
@@ -67,7 +68,7 @@ frames_of (Alone h) fits = absurd fits
 pub settled_cloak : (f : ℕ) (c : MidStep) → CloakFits c → CloakFits (settled_in f c)
 settled_cloak f c fits =
     let shows = settle_fits f c.memory fits.memory in
-    record { memory = shows.memory; items = all_append IsItem c.items _ fits.items shows.items }
+    record { memory = shows.memory; items = each_append IsItem c.items _ fits.items shows.items }
 
 pub settled_fits : (f : ℕ) (w : World) → WorldFits w → WorldFits (settled f w)
 settled_fits f (Flat ram) fits = fits
@@ -130,7 +131,7 @@ noted_fits events (Alone h) fits = absurd fits
 pub written_fits : (i : Item) (w : World) → WorldFits w → IsItem i → WorldFits (written i w)
 written_fits i (Flat ram) fits here = fits
 written_fits i (Cloaked c) fits here =
-    record { memory = fits.memory; items = all_append IsItem c.items (i ∷ []) fits.items (here, tt) }
+    record { memory = fits.memory; items = each_append IsItem c.items (i ∷ []) fits.items (here, tt) }
 written_fits i (Alone h) fits here = absurd fits
 
 -- Walks.
@@ -216,7 +217,7 @@ LeadFits (Err cause) = IsWord cause
 
 in_ram_fits : (ram : List (List ℕ)) (pa : ℕ) → FramesFit ram → is_in_ram ram pa ≡ true → IsWord pa
 in_ram_fits ram pa fits is =
-    let both = both_true (nat_le 0x80000000 pa) (nat_lt (frame_of pa) (length ram)) is in
+    let both = and_parts (nat_le 0x80000000 pa) (nat_lt (frame_of pa) (length ram)) is in
     let low : (pa - 0x80000000) / 4096 < length ram = ltb-true _ _ both.1 in
     let few = fits.few in
     omega (arith, low, few)
@@ -438,7 +439,7 @@ offer_told q va kind walked (Cloaked c) fits =
     let o = offer_fits q g (is_store kind) c.memory fits.memory in
     let granted = (offer q g (is_store kind) c.memory).granted in
     drawn_told (offered_by q va kind walked granted) (Cloaked _)
-    (record { memory = o.memory; items = all_append IsItem c.items _ fits.items o.items })
+    (record { memory = o.memory; items = each_append IsItem c.items _ fits.items o.items })
     (offered_told q va kind walked granted (Cloaked _))
 offer_told q va kind walked (Alone h) fits = absurd fits
 

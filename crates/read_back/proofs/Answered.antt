@@ -74,7 +74,7 @@ solo_refuses {S} {O} {asked} {r} {before} {after} {given} is none low (inr front
 
 -- A record that was read, seen from before the bundle was read.
 
-read_since : (unfit : List Item → Option ℕ) (told was : Option (List ℕ)) (m n k : ℕ) (items : List Item)
+pub read_since : (unfit : List Item → Option ℕ) (told was : Option (List ℕ)) (m n k : ℕ) (items : List Item)
     (ended : Option Ending) → told ≡ was → m ≡ n → IsReadTo unfit told m k items ended → IsReadTo unfit was n k items ended
 read_since unfit told was m n k items ended same_told same_count read =
     subst (λ (t : Option (List ℕ)). IsReadTo unfit t n k items ended) same_told

@@ -1,9 +1,9 @@
 -- A kernel that runs alone takes the items of a record, one after another.
 use Rattle.std.proofs.Common.{◌≡◌, ◌<◌, ◌^◌, ℕ, Bool, true, false, List, [], ◌∷◌, ◌++◌, length, Option, Some, None, Result, Ok, Err, refl, sym, ap, subst, ◌∙◌, arith, length-append}
-use Rattle.std.proofs.Common.{append-nil, append_assoc}
 use Rattle.cloak_model.specs.declared.image.KernelImage.{KernelImage}
 use Rattle.cloak_model.specs.declared.item.Item.{Item}
 use Rattle.cloak_model.specs.Exchange.{Piece, shown, Emits, shown_each}
+use Rattle.cloak_model.proofs.Emitting.{emits_none, emits_then}
 use Rattle.cloak_model.specs.KernelAlone as model
 use Rattle.cloak_model.specs.KernelAlone.{kernel_alone, kernel_taken, take_kernel_item, opened_kernel}
 use Rattle.cloak_model.specs.Opening.{started_kernel}
@@ -47,18 +47,6 @@ pub ends_so : {unfit : List Item → Option ℕ} {told : Option (List ℕ)} {m n
 ends_so {unfit} {told} {m} {n} {items} (Ok u) fits read = fits_so None fits read
 ends_so {unfit} {told} {m} {n} {items} (Err f) fits read = stops_so f.step fits read
 
-emits_nothing : {E : Type 0} (gave : E → E → List Piece → Type 0) (e : E) → Emits gave e e []
-emits_nothing {E} gave e = record {
-  more = λ first before given. subst (λ (ps : List Piece). gave first e ps) (sym (append-nil before)) given;
-}
-
-emits_then : {E : Type 0} {gave : E → E → List Piece → Type 0} {e f h : E} {ps qs : List Piece} →
-    Emits gave e f ps → Emits gave f h qs → Emits gave e h (ps ++ qs)
-emits_then {E} {gave} {e} {f} {h} {ps} {qs} first second = record {
-  more = λ start before given. subst (λ (l : List Piece). gave start h l) (append_assoc before ps qs)
-      (second.more start (before ++ ps) (first.more start before given));
-}
-
 -- before the first item
 pub kernel_none : {k : KernelImage} {machine : KernelAlone} → StandsForKernel machine k.schedule (opened_kernel k) →
     KernelItems k machine [] None
@@ -70,7 +58,7 @@ unfolding kernel_taken started_kernel
 views_none {O} sink viewing = record {
   views = λ k stands. record {
     given = kernel_none stands;
-    shows = emits_nothing (GaveScreen sink) viewing.screen.now;
+    shows = emits_none (GaveScreen sink) viewing.screen.now;
     few = omega arith;
   };
   failed = λ is. absurd (let clash : Ok tt ≡ Err None = is in cc);

@@ -13,6 +13,7 @@ use Rattle.record_reader.specs.declared.fault.NextFault.TheVariants.{Read, Recor
 use Rattle.record_reader.specs.declared.kept.KeptItems.{KeptItems}
 use Rattle.record_reader.specs.declared.reader.Reader.{Reader}
 use Rattle.read_back.specs.Reading.{BeginsWith}
+use Rattle.std.proofs.lemmas.Option.{IfSome_then}
 
 -- what a call of `next` says of a file, with the items that its caller keeps
 abbrev pub TellsNext : Option (List ℕ) → Reader → Reader → Result (Option Tag) NextFault → KeptItems → Type 0
@@ -26,10 +27,6 @@ told_by : (told told' : Option (List ℕ)) (P Q : List ℕ → Type 0) → told'
 told_by (Some bytes) told' P Q same behind next =
     let there : P bytes → Q bytes = subst (λ (t : Option (List ℕ)). IfSome t (λ b. P b → Q b)) same next in there behind
 told_by None told' P Q same behind next = tt
-
-told_map : (told : Option (List ℕ)) (P Q : List ℕ → Type 0) → ((b : List ℕ) → P b → Q b) → IfSome told P → IfSome told Q
-told_map (Some bytes) P Q f fact = f bytes fact
-told_map None P Q f fact = tt
 
 -- what a result that is this one says after these items
 at_front : (now : Option (List ℕ)) (was next : Reader) (r : Result (Option Tag) NextFault) (kept : KeptItems)
@@ -52,27 +49,25 @@ pub next_item : (told now : Option (List ℕ)) (was next : Reader) (r : Result (
     IfSome told (λ bytes. IsBehind was (readable bytes) items) →
     IfSome told (λ bytes. IsBehind next (readable bytes) (items ++ i ∷ []))
 next_item told now was next r kept i same is tells items behind =
-    told_map told (λ bytes. ReadsNext (readable bytes) items next (Ok (Some i)))
-    (λ bytes. IsBehind next (readable bytes) (items ++ i ∷ [])) (λ bytes read. read.behind)
-    (next_read told now was next r kept (Ok (Some i)) same is tells items behind)
+    IfSome_then told (next_read told now was next r kept (Ok (Some i)) same is tells items behind)
+    (λ bytes read. read.behind)
 
 pub next_none : (told now : Option (List ℕ)) (was next : Reader) (r : Result (Option Tag) NextFault)
     (kept : KeptItems) → now ≡ told → r ≡ Ok None → TellsNext now was next r kept → (items : List Item) →
     IfSome told (λ bytes. IsBehind was (readable bytes) items) →
     IfSome told (λ bytes. IsRecord (readable bytes) items)
 next_none told now was next r kept same is tells items behind =
-    told_map told (λ bytes. ReadsNext (readable bytes) items next (Ok None)) (λ bytes. IsRecord (readable bytes) items)
-    (λ bytes read. read.answer) (next_read told now was next r kept (Ok None) same
-    (ap (λ x. item_read x kept) is) tells items behind)
+    IfSome_then told (next_read told now was next r kept (Ok None) same
+    (ap (λ x. item_read x kept) is) tells items behind) (λ bytes read. read.answer)
 
 pub next_fault : (told now : Option (List ℕ)) (was next : Reader) (r : Result (Option Tag) NextFault)
     (kept : KeptItems) (fault : RecordFault) → now ≡ told → r ≡ Err (Record fault) → TellsNext now was next r kept → (items : List Item) →
     IfSome told (λ bytes. IsBehind was (readable bytes) items) →
     IfSome told (λ bytes. HasFaultAt (readable bytes) items fault)
 next_fault told now was next r kept fault same is tells items behind =
-    told_map told (λ bytes. ReadsNext (readable bytes) items next (Err (Record fault)))
-    (λ bytes. HasFaultAt (readable bytes) items fault) (λ bytes read. read.answer)
+    IfSome_then told
     (next_read told now was next r kept (Err (Record fault)) same (ap (λ x. item_read x kept) is) tells items behind)
+    (λ bytes read. read.answer)
 
 -- the file begins with the items after which a reader stands
 begins : (reader : Reader) (items : List Item) (bytes : List ℕ) → IsBehind reader bytes items → BeginsWith bytes items
@@ -82,8 +77,7 @@ pub told_begins : (told : Option (List ℕ)) (reader : Reader) (items : List Ite
     IfSome told (λ bytes. IsBehind reader (readable bytes) items) →
     IfSome told (λ bytes. BeginsWith (readable bytes) items)
 told_begins told reader items behind =
-    told_map told (λ bytes. IsBehind reader (readable bytes) items) (λ bytes. BeginsWith (readable bytes) items)
-    (λ bytes fact. begins reader items (readable bytes) fact) behind
+    IfSome_then told behind (λ bytes fact. begins reader items (readable bytes) fact)
 
 -- the count of reading faults
 pub counted : {A : Type 0} (m n k : ℕ) (r : Result A NextFault) (a : A) → n ≡ m → r ≡ Ok a → ReadsCount n k r → k ≡ m

@@ -1,26 +1,13 @@
 -- What a screen shows of the pieces that it is given.
-use Rattle.std.proofs.Common.{◌≡◌, ℕ, Bool, true, false, List, [], ◌∷◌, ◌++◌, Option, Result, Ok, Err, OnOk, OnErr, is_err, refl, sym, ap, subst, ◌∙◌}
-use Rattle.std.proofs.Common.{append-nil, append_assoc}
+use Rattle.std.proofs.Common.{◌≡◌, ℕ, Bool, true, false, List, [], ◌∷◌, ◌++◌, Option, Result, Ok, Err, OnOk, OnErr, is_err, sym, subst, ◌∙◌}
 use Rattle.cloak_base.specs.declared.causes.Failed.{Failed}
 use Rattle.io_traits.specs.declared.sink.Sink as sinks
 use Rattle.io_traits.specs.Told.{Grows, GrowsByFront, Counts}
 use Rattle.io_traits.proofs.ToldFacts.{Grows-append, GrowsByFront-append, GrowsByFront-first, Rose-after}
-use Rattle.cloak_model.specs.Exchange.{Piece, recorded, shown, shown_bytes, Emits}
+use Rattle.cloak_model.proofs.Pieces.{shown-last, shown-recorded}
+use Rattle.cloak_model.specs.Exchange.{recorded, shown, shown_bytes, Emits}
 use Rattle.read_back.specs.declared.screen.Screen.{Screen}
 use Rattle.read_back.specs.Screen.{ShowsText, GaveScreen}
-
--- a piece more
-
-shown_more : (before : List Piece) (b : List ℕ) → shown_bytes (before ++ shown b ∷ []) ≡ shown_bytes before ++ b
-shown_more [] b = append-nil b
-shown_more (recorded x ∷ before) b = shown_more before b
-shown_more (shown x ∷ before) b =
-    ap (λ (l : List ℕ). x ++ l) (shown_more before b) ∙ sym (append_assoc x (shown_bytes before) b)
-
-recorded_more : (before : List Piece) (b : List ℕ) → shown_bytes (before ++ recorded b ∷ []) ≡ shown_bytes before
-recorded_more [] b = refl
-recorded_more (recorded x ∷ before) b = recorded_more before b
-recorded_more (shown x ∷ before) b = ap (λ (l : List ℕ). x ++ l) (recorded_more before b)
 
 -- what is for a record is not shown
 pub emits_recorded : {O : Type 0} (sink : sinks.Ghosts O) (o : Screen O) (bytes : List ℕ) →
@@ -30,7 +17,7 @@ emits_recorded {O} sink o bytes = record {
     output = gave.output;
     text = λ fresh.
         subst (λ (l : List ℕ). ShowsText o.failed (sink.taken first.out.now) (sink.taken o.out.now)
-        (sink.faults first.out.now) (sink.faults o.out.now) l) (sym (recorded_more before bytes)) (gave.text fresh);
+        (sink.faults first.out.now) (sink.faults o.out.now) l) (sym (shown-recorded before bytes)) (gave.text fresh);
   };
 }
 
@@ -47,7 +34,7 @@ emits_none {O} sink o bytes failed = record {
     output = gave.output;
     text = λ fresh.
         subst (λ (l : List ℕ). ShowsText o.failed (sink.taken first.out.now) (sink.taken o.out.now)
-        (sink.faults first.out.now) (sink.faults o.out.now) l) (sym (shown_more before bytes))
+        (sink.faults first.out.now) (sink.faults o.out.now) l) (sym (shown-last before bytes))
         (failed_more o.failed _ _ _ _ (shown_bytes before) bytes failed (gave.text fresh));
   };
 }
@@ -75,7 +62,7 @@ emits_shown {O} {A} sink old new bytes r fresh failed same ok err counts = recor
     output = same ∙ gave.output;
     text = λ begun.
         subst (λ (l : List ℕ). ShowsText new.failed (sink.taken first.out.now) (sink.taken new.out.now)
-        (sink.faults first.out.now) (sink.faults new.out.now) l) (sym (shown_more before bytes))
+        (sink.faults first.out.now) (sink.faults new.out.now) l) (sym (shown-last before bytes))
         (put_more r old.failed new.failed (sink.taken first.out.now) (sink.taken old.out.now) (sink.taken new.out.now)
         (sink.faults first.out.now) (sink.faults old.out.now) (sink.faults new.out.now) (shown_bytes before) bytes fresh
         failed ok err counts (gave.text begun));

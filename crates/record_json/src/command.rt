@@ -3,7 +3,6 @@ ghost use Rattle.std.specs.Prelude.{◌≡◌, true, false};
 ghost use Rattle.io_traits.specs.Told.{SameFiles};
 ghost use Rattle.command_parts.specs.Outside.{outside};
 ghost use Rattle.read_back.specs.Reading.{ShowsRecord, never_unfit};
-ghost use Rattle.record_text.specs.Reading.{status_shown};
 ghost use Rattle.record_json.specs.JsonText.{json_by, json_text};
 
 use crate::counting::put_counts;
@@ -11,19 +10,7 @@ use crate::ending::put_ending;
 use crate::showing::show_objects;
 use command_parts::Status;
 use io_traits::{Shelf, Sink};
-use kernel_report::lines::SoFar;
-use read_back::{Ending, status};
-use record_text::{Selection, count_items};
-
-/// The status for how reading ended and showing went.
-fn answer(so_far: SoFar, ending: &Ending) -> Status
-    ensures { result ≡ status_shown ending.now so_far }
-{
-    match so_far {
-        Ok(()) => status(ending),
-        Err(_) => Status::WriteFault,
-    }
-}
+use record_text::{Selection, count_items, status_of};
 
 /// Shows the items of a record that are chosen.
 fn show_each<S: Shelf, O: Sink>(
@@ -41,7 +28,7 @@ fn show_each<S: Shelf, O: Sink>(
     match show_objects(name, selection, shelf, out) {
         Ok(ending) => {
             let so_far = put_ending(out, Ok(()), &ending);
-            answer(so_far, &ending)
+            status_of(so_far, &ending)
         }
         Err(_) => Status::WriteFault,
     }
@@ -63,7 +50,7 @@ fn show_counts<S: Shelf, O: Sink>(
     let (counts, ending) = count_items(name, selection, shelf);
     let so_far = put_counts(out, Ok(()), &counts);
     let so_far = put_ending(out, so_far, &ending);
-    answer(so_far, &ending)
+    status_of(so_far, &ending)
 }
 
 /// Shows what is chosen of a record as objects.

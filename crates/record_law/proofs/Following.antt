@@ -16,7 +16,9 @@ use Rattle.cloak_model.specs.RecordFault.{tag_of, may_stand, wrong_item, wrong_b
 use Rattle.record_law.specs.Items.{size_of, has_bad_width, is_numbered}
 use Rattle.record_law.specs.Items.{item_in}
 use Rattle.record_law.proofs.Chain.{wrong_item-tests}
-use Rattle.record_law.proofs.Spelling.{IsBytes, tag_at, IsNumbered, fields_of, item_bytes-parts, fields_read, fields_spelled}
+use Rattle.record_law.proofs.Spelling.{tag_at, IsNumbered, fields_of, item_bytes-parts, fields_read, fields_spelled}
+use Rattle.cloak_base.proofs.Lists.{IsBytes}
+use Rattle.std.proofs.lemmas.Option.{same_Some}
 
 -- the number of a Step or a Close
 abbrev pub number_of : Item → ℕ
@@ -42,11 +44,8 @@ tag_again _ = refl
 abbrev some : Tag → Option Tag
 some t = Some t
 
-some_is : (x t : Tag) → some x ≡ some t → x ≡ t
-some_is x t e = cc
-
 pick : (b k : ℕ) (x : Tag) (y : Option Tag) (t : Tag) (test : Bool) → eqb b k ≡ test → byte_of x ≡ k → (y ≡ some t → byte_of t ≡ b) → cond test (some x) y ≡ some t → byte_of t ≡ b
-pick b k x y t true test is later e = ap byte_of (sym (some_is x t e)) ∙ is ∙ sym (eqb-true _ _ test)
+pick b k x y t true test is later e = ap byte_of (sym (same_Some x t e)) ∙ is ∙ sym (eqb-true _ _ test)
 pick b k x y t false test is later e = later e
 
 none_some : (b : ℕ) (t : Tag) → None ≡ some t → byte_of t ≡ b

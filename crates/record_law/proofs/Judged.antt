@@ -20,9 +20,10 @@ use Rattle.cloak_model.specs.declared.record.Wrong.{Wrong}
 use Rattle.cloak_model.specs.RecordFault.{tag_of, stage_after, stage_behind, wrong_behind, Begins, IsWrong, fault_of, magic_fault, HasFault}
 use Rattle.record_law.specs.Items.{size_of}
 use Rattle.record_law.specs.Items.{item_in}
-use Rattle.record_law.proofs.Spelling.{IsBytes, IsBytes-drop, tag_at, fields_of, item_bytes-parts, fields_read}
+use Rattle.record_law.proofs.Spelling.{tag_at, fields_of, item_bytes-parts, fields_read}
 use Rattle.record_law.proofs.Following.{Succeeds, tag_again, item_right, next_item, chosen}
 use Rattle.record_law.proofs.Orders.{Stands, Ends, Stands-front, Stands-append, stage_behind-append, exchange_ends, ends_exchange}
+use Rattle.cloak_base.proofs.Lists.{IsBytes-drop, IsBytes}
 
 -- ---- bytes determine the items
 

@@ -1,24 +1,10 @@
--- Steps after steps: their pieces, what is recorded and what is shown of them, and what they end with.
+-- Steps after steps: their pieces, and what they end with.
 use Rattle.std.proofs.Common.{◌≡◌, ◌∙◌, ℕ, suc, ◌+◌, List, [], ◌∷◌, ◌++◌, length, append_assoc, Option, refl, sym, ap, arith}
 use Rattle.cloak_base.specs.declared.causes.Stop.{Stop}
-use Rattle.cloak_model.specs.Exchange.{Piece, recorded, shown, recorded_bytes, shown_bytes}
+use Rattle.cloak_model.specs.Exchange.{Piece}
 use Rattle.cloak_model.specs.Joint.{Turn, stop_of}
 use Rattle.cloak_model.specs.Parts.{Joint}
 use Rattle.cloak_model.specs.Run.{joint_after, last_stop, turn_pieces, turns_pieces}
-
-pub recorded_bytes-append : (ps qs : List Piece) → recorded_bytes (ps ++ qs) ≡ recorded_bytes ps ++ recorded_bytes qs
-recorded_bytes-append [] qs = refl
-recorded_bytes-append (recorded bytes ∷ ps) qs =
-    ap (λ (l : List ℕ). bytes ++ l) (recorded_bytes-append ps qs)
-    ∙ sym (append_assoc bytes (recorded_bytes ps) (recorded_bytes qs))
-recorded_bytes-append (shown bytes ∷ ps) qs = recorded_bytes-append ps qs
-
-pub shown_bytes-append : (ps qs : List Piece) → shown_bytes (ps ++ qs) ≡ shown_bytes ps ++ shown_bytes qs
-shown_bytes-append [] qs = refl
-shown_bytes-append (recorded bytes ∷ ps) qs = shown_bytes-append ps qs
-shown_bytes-append (shown bytes ∷ ps) qs =
-    ap (λ (l : List ℕ). bytes ++ l) (shown_bytes-append ps qs)
-    ∙ sym (append_assoc bytes (shown_bytes ps) (shown_bytes qs))
 
 pub turns_pieces-append : (number : ℕ) (ts us : List Turn) →
     turns_pieces number (ts ++ us) ≡ turns_pieces number ts ++ turns_pieces (number + length ts) us

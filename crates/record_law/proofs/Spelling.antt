@@ -1,9 +1,9 @@
 -- An item and its bytes.
-use Rattle.std.proofs.Common.{◌≡◌, ℕ, ◌+◌, ◌^◌, ◌<◌, ◌≤◌, Bool, true, false, ◌&&◌, ◌||◌, not, ◌⊎◌, inl, inr, ltb, eqb, List, [], ◌∷◌, ◌++◌, length, get_or, take, drop, refl, sym, ap, ◌∙◌, length-drop, length-append, add-one, drop-cons, arith}
+use Rattle.std.proofs.Common.{◌≡◌, ℕ, ◌+◌, ◌^◌, ◌<◌, ◌≤◌, Bool, true, false, ◌&&◌, ◌||◌, not, inl, inr, ltb, eqb, List, [], ◌∷◌, ◌++◌, length, get_or, take, drop, refl, sym, ap, ◌∙◌, length-drop, length-append, add-one, drop-cons, arith}
 use Rattle.std.specs.Int.{w32, from_le_bytes, to_le_bytes}
 use Rattle.std.specs.List.{flat_map, AllByRecursion}
-use Rattle.std.proofs.lemmas.Bool.{lt-ltb, eqb-true, cases_lt}
-use Rattle.std.proofs.lemmas.List.{take-append-drop, drop-drop, length-take, get_or-drop, get_or-take, get_or_past, take_at, drop_at}
+use Rattle.std.proofs.lemmas.Bool.{lt-ltb, eqb-true, or_cases, and_right, not_from_true}
+use Rattle.std.proofs.lemmas.List.{take-append-drop, drop-drop, length-take, take_at, drop_at}
 use Rattle.std.proofs.lemmas.Nat.{le_bytes_4, from_le_bytes-to_le_bytes_4}
 use Rattle.cloak_model.specs.Bits.{word}
 use Rattle.cloak_model.specs.declared.item.Item.{Item}
@@ -16,6 +16,7 @@ use Rattle.cloak_model.specs.Fields.{number}
 use Rattle.cloak_model.specs.Effect.{is_width, IsWidth}
 use Rattle.record_law.specs.Items.{size_of, has_bad_width}
 use Rattle.record_law.specs.Items.{item_in}
+use Rattle.cloak_base.proofs.Lists.{IsBytes-drop, IsBytes-take, IsBytes}
 
 -- the tag of an item, and the bytes after it
 abbrev pub tag_at : Item → Tag
@@ -46,19 +47,6 @@ number_again n at fields rest lt e =
     rw four (from_le_bytes-to_le_bytes_4 n lt)
 
 -- a number that is read at an offset is spelled there
-abbrev pub IsBytes : List ℕ → Type 0
-IsBytes bytes = (i : ℕ) → get_or bytes i 0 < 256
-
-pub IsBytes-drop : (n : ℕ) (bytes : List ℕ) → IsBytes bytes → IsBytes (drop n bytes)
-IsBytes-drop n bytes h i = rw get_or-drop (h (n + i))
-
-pub IsBytes-take : (n : ℕ) (bytes : List ℕ) → IsBytes bytes → IsBytes (take n bytes)
-IsBytes-take n bytes h i =
-    elim (cases_lt i n) [
-      | inl lt ↦ rw (get_or-take n bytes i 0 lt) (h i)
-      | inr le ↦ rw (get_or_past (take n bytes) i 0 (omega (arith, length-take n bytes))) (omega arith)
-    ]
-
 pub number_takes : (at : ℕ) (fields : List ℕ) → IsBytes fields → at + 4 ≤ length fields → (word (number fields at) ≡ take 4 (drop at fields)) × (number fields at < 2 ^ 32)
 number_takes at fields fits le =
     let four : List ℕ = take 4 (drop at fields) in
@@ -105,10 +93,6 @@ width_known w (inl one) = rw one refl
 width_known w (inr (inl two)) = rw two refl
 width_known w (inr (inr four)) = rw four refl
 
-and_not : (b c : Bool) → c ≡ true → (b && not c) ≡ false
-and_not true c e = rw e refl
-and_not false c e = refl
-
 pub cipher_is : (f f' : ℕ) (b b' : List ℕ) → f ≡ f' → b ≡ b' → item.Cipher f b ≡ item.Cipher f' b'
 cipher_is f f' b b' p q = cc
 
@@ -148,7 +132,7 @@ fields_read (item.Cipher frame bytes) rest fits = record {
   behind = drop_at bytes rest 4096 fits.1;
 }
 fields_read (item.Put address width value) rest fits = record {
-  width = and_not _ _ (width_known width fits.1);
+  width = and_right _ _ (not_from_true _ (width_known width fits.1));
   whole = omega arith;
   number = tt;
   item = put_is _ address width _ value (again address fits.0) (again value fits.2);
@@ -173,15 +157,11 @@ piece k fields fits le = ap (λ t. t ++ drop (k + 4) fields) (number_takes k fie
 cell : (k : ℕ) (fields : List ℕ) → k < length fields → get_or fields k 0 ∷ drop (k + 1) fields ≡ drop k fields
 cell k fields lt = sym (rw add-one (drop-cons fields k 0 lt))
 
-either : (a b : Bool) → (a || b) ≡ true → (a ≡ true) ⊎ (b ≡ true)
-either true b e = inl refl
-either false b e = inr e
-
 width_known_by : (w : ℕ) → is_width w ≡ true → IsWidth w
 width_known_by w e =
-    elim (either (eqb w 1) (eqb w 2 || eqb w 4) e) [
+    elim (or_cases (eqb w 1) (eqb w 2 || eqb w 4) e) [
       | inl one ↦ inl (eqb-true _ _ one)
-      | inr more ↦ elim (either (eqb w 2) (eqb w 4) more) [
+      | inr more ↦ elim (or_cases (eqb w 2) (eqb w 4) more) [
         | inl two ↦ inr (inl (eqb-true _ _ two))
         | inr four ↦ inr (inr (eqb-true _ _ four))
       ]

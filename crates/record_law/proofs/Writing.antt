@@ -8,7 +8,7 @@ use Rattle.cloak_model.specs.declared.item.Item.TheVariants as item
 use Rattle.cloak_model.specs.Exchange.{Piece, shown, recorded_bytes, item_pieces, shown_each, item_bytes, steps_items, record_magic}
 use Rattle.cloak_model.specs.Joint.{Turn}
 use Rattle.cloak_model.specs.Run.{Run, turn_pieces, turns_pieces, due, record_bytes, report_of}
-use Rattle.record_law.proofs.Pieces.{recorded_bytes-append}
+use Rattle.cloak_model.proofs.Pieces.{recorded_bytes-append}
 
 bytes_of_items : (items : List Item) → recorded_bytes (item_pieces items) ≡ flat_map item_bytes items
 bytes_of_items [] = refl

@@ -1,3 +1,4 @@
 pub mod Items
 pub mod OneRecord
 pub mod Written
+pub mod Steps

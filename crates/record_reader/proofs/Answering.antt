@@ -16,18 +16,19 @@ use Rattle.cloak_model.specs.Fields.{number}
 use Rattle.cloak_model.specs.Record.{IsItem, IsRecord}
 use Rattle.cloak_model.specs.RecordFault.{IsWrong, Begins, tag_of, stage_after, stage_behind, may_stand, wrong_item, wrong_behind, fault_of, magic_fault}
 use Rattle.record_law.specs.Items.{size_of, is_numbered, item_in}
-use Rattle.record_law.proofs.Spelling.{IsBytes, tag_at, fields_of, item_bytes-parts, fields_spelled}
+use Rattle.record_law.proofs.Spelling.{tag_at, fields_of, item_bytes-parts, fields_spelled}
 use Rattle.record_law.proofs.Following.{Succeeds, item_rights, tag_known, numbered_same, bytes_tail}
 use Rattle.record_law.proofs.Orders.{stage_behind-append}
 use Rattle.record_law.proofs.Judged.{magic_stands, Front, Front-begins, Begins-front, Front-more, Front-record}
 use Rattle.record_reader.specs.declared.fault.NextFault.{NextFault}
-use Rattle.record_reader.specs.declared.fault.NextFault.TheVariants.{Read, Record}
+use Rattle.record_reader.specs.declared.fault.NextFault.TheVariants.{Record}
 use Rattle.record_reader.specs.declared.ahead.Ahead.{Ahead}
 use Rattle.record_reader.specs.declared.reader.Reader.{Reader}
 use Rattle.record_reader.specs.Ahead.{readable, IsAhead, IsWindow, OfFile, ahead_from, front_tag}
-use Rattle.record_reader.specs.Reading.{HasFaultAt, IsAnswer, IsBehind, TellsStart, StandsBehind, ReadsNext, judged}
+use Rattle.record_reader.specs.Reading.{HasFaultAt, IsBehind, TellsStart, StandsBehind, ReadsNext, judged}
 use Rattle.record_reader.proofs.Filled.{take_take, stand_within}
 use Rattle.record_reader.proofs.Windows.{judged_there, judged_err, judged_ok, cut_all}
+use Rattle.cloak_base.proofs.Lists.{IsBytes}
 
 -- ---- the magic
 
@@ -295,29 +296,3 @@ told_item (Some b) now old new mid from bytes t i same start ahead window more i
       );
       answer = tt;
     }
-
--- reading failed
-pub told_failed : (told now : Option (List ℕ)) (old new : Reader) (mid : Ahead) → now ≡ told → OfFile told old.ahead (λ file. IsAhead mid file) → OfFile now mid (λ file. IsAhead new.ahead file)
-    → new.at ≡ old.at → new.stage ≡ old.stage → TellsNext told old new (Err Read)
-told_failed None now old new mid same ahead more at stage = tt
-told_failed (Some b) now old new mid same ahead more at stage = λ front behind. record {
-  behind = (stands_still (readable b) front old new behind.0 at stage, ahead_on b now old.ahead mid (λ file. IsAhead new.ahead file) same ahead more behind.1);
-  answer = tt;
-}
-
--- the magic is missing
-at_nothing : (file : List ℕ) (front : List Item) (at : ℕ) → ((at ≡ 0) × (front ≡ [])) ⊎ ((at ≡ length (record_of front)) × Begins file front (drop at file)) → at ≡ 0 → front ≡ []
-at_nothing file front at (inl start) none = start.1
-at_nothing file front at (inr behind) none = absurd (let a = behind.0 in let l = length-append record_magic (flat_map item_bytes front) in omega (arith, none, a, l))
-
-start_answer : (file : List ℕ) (front : List Item) (at : ℕ) (s : Stage) (fault : NextFault) → StandsBehind at s file front → TellsStart file at (Err fault) → IsAnswer file front (Err fault)
-start_answer file front at s Read stands start = tt
-start_answer file front at s (Record fault) stands start = inl (at_nothing file front at stands.place start.0, start.1)
-
-pub told_start : (told : Option (List ℕ)) (old new : Reader) (fault : NextFault) → OfFile told old.ahead (λ file. TellsStart file old.at (Err fault)) → OfFile told old.ahead (λ file. IsAhead new.ahead file)
-    → new.at ≡ old.at → new.stage ≡ old.stage → TellsNext told old new (Err fault)
-told_start None old new fault start ahead at stage = tt
-told_start (Some b) old new fault start ahead at stage = λ front behind. record {
-  behind = (stands_still (readable b) front old new behind.0 at stage, ahead behind.1);
-  answer = start_answer (readable b) front old.at old.stage fault behind.0 (start behind.1);
-}

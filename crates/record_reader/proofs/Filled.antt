@@ -1,11 +1,10 @@
 -- A window that is filled piece by piece, and what it then has.
-use Rattle.std.proofs.Common.{◌≡◌, ℕ, zero, suc, ◌+◌, ◌-◌, ◌^◌, ◌≤◌, ◌<◌, ltb, true, false, cond, List, [], ◌∷◌, ◌++◌, length, length-append, get_or, take, drop, min, Option, Some, None, IfSome, refl, sym, ap, subst, ◌∙◌, inl, inr, append_assoc, length-drop, arith}
+use Rattle.std.proofs.Common.{◌≡◌, ℕ, zero, suc, ◌+◌, ◌-◌, ◌^◌, ◌≤◌, ◌<◌, ltb, true, false, cond, List, [], ◌∷◌, ◌++◌, length, length-append, take, drop, min, Option, Some, None, IfSome, refl, sym, ap, subst, ◌∙◌, inl, inr, append_assoc, length-drop, arith}
 use Rattle.std.proofs.Math.Seq.{take-add}
 use Rattle.std.proofs.lemmas.Bool.{cases_lt, lt-ltb, le-ltb}
 use Rattle.std.proofs.lemmas.List.{drop-take, drop-drop, length-take, take_at, drop_at, take_all, drop_all}
 use Rattle.io_traits.specs.Told.{IsCopied}
 use Rattle.cloak_model.specs.declared.record.Tag.TheVariants as tag
-use Rattle.cloak_model.specs.RecordFault.{tag_of}
 use Rattle.record_reader.specs.declared.ahead.Ahead.{Ahead}
 use Rattle.record_reader.specs.Ahead.{readable, StandAt, IsAhead, read_ahead, ahead_from, front_tag, HasWhole, IsEnough, IsFilled, IsWindow, OfFile}
 
@@ -104,11 +103,6 @@ filled_end (Some bytes) now at count limit n into piece same none left room fits
     }
 
 -- ---- the whole item
-
--- as many bytes as an item that begins so has at the most
-pub whole_by : (bytes : List ℕ) (most : ℕ) → (length bytes ≡ 0 → ⊥) → 41 ≤ most → (tag_of (get_or bytes 0 0) ≡ Some tag.Cipher → 4101 ≤ most) → most ≤ length bytes → HasWhole (length bytes) bytes
-whole_by [] most some least cipher long = absurd (some refl)
-whole_by (b ∷ fields) most some least cipher long = (omega (arith, least, long), λ is. (let c = cipher is in omega (arith, c, long)))
 
 tag_taken : (n : ℕ) (xs : List ℕ) → 0 < n → front_tag (take n xs) ≡ front_tag xs
 tag_taken zero xs lt = absurd (omega (arith, lt))

@@ -50,9 +50,6 @@ width_front _ k fields le = refl
 abbrev some : Tag → Option Tag
 some t = Some t
 
-some_same : (a b : Tag) → some a ≡ some b → a ≡ b
-some_same a b e = cc
-
 -- bytes that have the whole item have its fields
 fields_fit : (n : ℕ) (o : Option Tag) → 41 ≤ n → (o ≡ Some tag.Cipher → 4101 ≤ n) → (t : Tag) → o ≡ Some t → size_of t < n
 fields_fit n o long cipher tag.Cipher e = (let c = cipher e in omega arith)

@@ -4,6 +4,7 @@ ghost use Rattle.cloak_model.specs.Report as report;
 ghost use Rattle.kernel_report.specs.Putting.{PutsMore, putting};
 ghost use Rattle.record_text.specs.Names as spec;
 
+use cloak_base::{EXIT, TIMER_CAUSE};
 use io_traits::Sink;
 use kernel_report::lines::{SoFar, hexadecimal, text};
 
@@ -27,7 +28,7 @@ pub fn cause_name(cause: u32) -> &'static str
         13 => "load page fault",
         15 => "store page fault",
         24 => "it does not run here",
-        0x8000_0005 => "supervisor timer interrupt",
+        TIMER_CAUSE => "supervisor timer interrupt",
         _ => "unknown cause",
     }
 }
@@ -41,7 +42,7 @@ pub fn call_name(number: u32) -> &'static str
         1 => "WRITE",
         2 => "OPEN",
         3 => "READ",
-        0x4f56_0007 => "EXIT",
+        EXIT => "EXIT",
         _ => "call",
     }
 }

@@ -25,7 +25,7 @@ fn put_ending<O: Sink>(out: &mut O, so_far: SoFar, ending: &Ending) -> SoFar
 }
 
 /// The status for how reading ended and showing went.
-fn answer(so_far: SoFar, ending: &Ending) -> Status
+pub fn status_of(so_far: SoFar, ending: &Ending) -> Status
     ensures { result ≡ status_shown ending.now so_far }
 {
     match so_far {
@@ -50,7 +50,7 @@ fn show_record<S: Shelf, O: Sink>(
     match show_items(name, selection, shelf, out) {
         Ok(ending) => {
             let so_far = put_ending(out, Ok(()), &ending);
-            answer(so_far, &ending)
+            status_of(so_far, &ending)
         }
         Err(_) => Status::WriteFault,
     }
@@ -72,7 +72,7 @@ fn show_counts<S: Shelf, O: Sink>(
     let (counts, ending) = count_items(name, selection, shelf);
     let so_far = counts.put(out, Ok(()));
     let so_far = put_ending(out, so_far, &ending);
-    answer(so_far, &ending)
+    status_of(so_far, &ending)
 }
 
 /// Shows what is chosen of a record.

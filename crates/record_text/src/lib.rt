@@ -16,7 +16,7 @@ mod selection;
 mod showing;
 
 pub use causes::{cause_name, put_word};
-pub use command::show_command;
+pub use command::{show_command, status_of};
 pub use counts::KindCounts;
 pub use items::put_item;
 pub use kinds::Kinds;

@@ -46,14 +46,6 @@ program_taken_more d turns s (x ∷ items) i = program_taken_more d turns (take_
 
 -- Before the first item.
 
-kernel_opened : (b : Bundle) → opened_kernel b.kernel ≡ kernel_alone b.kernel []
-unfolding kernel_taken
-kernel_opened b = refl
-
-program_opened : (b : Bundle) (d : ℕ) (p : Program) → opened_domain d p ≡ domain_alone d b.kernel.schedule p []
-unfolding domain_taken
-program_opened b d p = refl
-
 -- What is returned tells whether an item was unfit.
 
 unfit_told : Result (Unit {0}) Unfit → Option ℕ

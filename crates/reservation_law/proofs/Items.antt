@@ -1,7 +1,7 @@
 -- What the items of a step make of RAM and of reservations.
 use Rattle.std.proofs.Common.{◌≡◌, ◌∙◌, ◌≤◌, ℕ, ◌%◌, true, false, nat_le, nat_lt, List, [], ◌∷◌, ◌++◌, length, refl, sym, ap, subst}
 use Rattle.std.specs.Prelude.{◌==◌}
-use Rattle.std.proofs.lemmas.Bool.{leb-true, eqb-true}
+use Rattle.std.proofs.lemmas.Bool.{leb-true, eqb-true, and_parts}
 use Rattle.std.proofs.lemmas.Grind.{flat_map-append}
 use Rattle.cloak_base.specs.Constants.{ram_start, frame_of}
 use Rattle.cloak_model.specs.declared.item.Item.{Item}
@@ -15,17 +15,16 @@ use Rattle.kernel_isolation.proofs.OutsideSteps.{AreInward}
 use Rattle.kernel_isolation.proofs.Shown.{AreFrames}
 use Rattle.reservation_law.specs.Writes.{Extent, item_extents, items_extents}
 use Rattle.reservation_law.proofs.Keeping.{Keeps, keeps_all, keeps_then, keeps_filled, keeps_stored}
-use Rattle.reservation_law.proofs.Plain.{both_are}
 use Rattle.reservation_law.proofs.Sizes.{HasSize, HaveSizes}
 
 pub in_ram_low : (ram : List (List ℕ)) (pa : ℕ) → is_in_ram ram pa ≡ true → ram_start ≤ pa
 in_ram_low ram pa there =
-    leb-true ram_start pa (both_are (nat_le ram_start pa) (nat_lt (frame_of pa) (length ram)) there).0
+    leb-true ram_start pa (and_parts (nat_le ram_start pa) (nat_lt (frame_of pa) (length ram)) there).0
 
 keeps_item : (i : Item) (s : Seen) → is_within s.ram i ≡ true → HasSize i → Keeps (item_extents i) s (with_item i s)
 keeps_item (item.Cipher f bytes) s within size = keeps_filled f bytes s size
 keeps_item (item.Put pa width value) s within size =
-    let both = both_are (is_in_ram s.ram pa) (pa % width == 0) within in
+    let both = and_parts (is_in_ram s.ram pa) (pa % width == 0) within in
     keeps_stored pa width value s (in_ram_low s.ram pa both.0) (eqb-true (pa % width) 0 both.1) size
 keeps_item _ s within size = keeps_all s
 

@@ -5,13 +5,14 @@ use Rattle.std.specs.Int.{w32, to_le_bytes, from_le_bytes}
 use Rattle.std.specs.List.{AllByRecursion}
 use Rattle.std.proofs.Math.ListN.{get_or-append, get_or-map}
 use Rattle.std.proofs.Math.Seq.{take-suc}
-use Rattle.std.proofs.lemmas.Bool.{cases_lt, ltb-true, lt-ltb, le-leb, eq-eqb}
+use Rattle.std.proofs.lemmas.Bool.{cases_lt, ltb-true, lt-ltb, le-leb, eq-eqb, and_from}
 use Rattle.std.proofs.lemmas.List.{get_or-append_right, get_or-take, get_or-drop, get_or_past, get_or-set_same, get_or-set_other, length-set, length-take}
 use Rattle.cloak_base.specs.Constants.{ram_start, frame_of, place_of}
 use Rattle.cloak_model.specs.Effect.{IsWidth}
 use Rattle.cloak_model.specs.Memory.{Seen, value_in, value_at, with_value_in, mark_of, with_mark, word_at, unless_written, stored, filled}
 use Rattle.reservation_law.specs.Writes.{Extent, has_byte, meets_word}
 use Rattle.settling_ahead.proofs.Planning.{unmarked}
+use Rattle.cloak_base.proofs.Lists.{each_append}
 
 -- these writes leave the word at an address, and the byte
 
@@ -35,11 +36,6 @@ pub record Keeps (writes : List Extent) (s t : Seen) : Type 0 where
 
 -- of two lists
 
-pub all_both : {A : Type 0} (P : A → Type 0) (a b : List A) → AllByRecursion P a → AllByRecursion P b →
-    AllByRecursion P (a ++ b)
-all_both P [] b here there = there
-all_both P (x ∷ a) b here there = (here.0, all_both P a b here.1 there)
-
 pub all_first : {A : Type 0} (P : A → Type 0) (a b : List A) → AllByRecursion P (a ++ b) → AllByRecursion P a
 all_first P [] b all = tt
 all_first P (x ∷ a) b all = (all.0, all_first P a b all.1)
@@ -56,7 +52,7 @@ keeps_then a b s t u first second = record {
   marks = λ k pa is.
       let later = second.marks k pa is in
       let before = first.marks k pa later.0 in
-      (before.0, λ at. all_both (λ (e : Extent). meets_word pa e ≡ false) a b (before.1 at) (later.1 at));
+      (before.0, λ at. each_append (λ (e : Extent). meets_word pa e ≡ false) a b (before.1 at) (later.1 at));
   whole = λ all. second.whole (first.whole all);
   bytes = λ all pa low spares.
       second.bytes (first.whole all) pa low (all_second (λ (e : Extent). has_byte pa e ≡ false) a b spares)
@@ -76,11 +72,6 @@ not_both false b clash = refl
 clashing : (b : Bool) → b ≡ true → b ≡ false → ⊥
 clashing true is not = cc
 clashing false is not = cc
-
-both_true : (a b : Bool) → a ≡ true → b ≡ true → (a && b) ≡ true
-both_true true true first second = refl
-both_true true false first second = second
-both_true false b first second = first
 
 word_of_store : (pa width mark : ℕ) → pa % width ≡ 0 → IsWidth width → mark % 4 ≡ 0 → pa < mark + 4 →
     mark < pa + width →
@@ -116,7 +107,7 @@ frame_spares f mark aligned other = (
 frame_apart : (f pa : ℕ) → ram_start ≤ pa → SparesByte pa (whole_frame f ∷ []) →
     frame_of pa ≢ f
 frame_apart f pa low spares same =
-    clashing _ (both_true _ _ (le-leb (ram_start + 4096 * f) pa (omega (arith, low, same)))
+    clashing _ (and_from _ _ (le-leb (ram_start + 4096 * f) pa (omega (arith, low, same)))
     (lt-ltb pa (ram_start + 4096 * f + 4096) (omega (arith, low, same)))) spares.0
 
 -- Reservations.
@@ -288,7 +279,7 @@ in_frame pa width value at ram all start aligned is low same spares =
           ∙ same_value page new (place_of at) long (stored_whole page (place_of pa) width value long is inside)
           (omega arith)
           (other_byte page (place_of pa) width value (place_of at) long is inside
-          (λ first last. clashing _ (both_true _ _ (le-leb pa at (omega (arith, start, low, same, first)))
+          (λ first last. clashing _ (and_from _ _ (le-leb pa at (omega (arith, start, low, same, first)))
           (lt-ltb at (pa + width) (omega (arith, start, low, same, last)))) spares.0))
       | inr past ↦
           let count = length-set ram f new in

@@ -1,5 +1,4 @@
 pub mod Keeping
-pub mod Leading
 pub mod Plain
 pub mod Sizes
 pub mod Items

@@ -18,7 +18,8 @@ use Rattle.cloak_model.specs.Opening.{with_segments, started_kernel, started_mem
 use Rattle.cloak_model.specs.PageMoves.{place, place_with}
 use Rattle.kernel_isolation.proofs.FilesAdded.{added_keep, files_of, opens_over}
 use Rattle.reservation_law.proofs.Keeping.{AreWhole, whole_set}
-use Rattle.reservation_law.proofs.Sizes.{cbc_long, zeros_long}
+use Rattle.reservation_law.proofs.Sizes.{zeros_long}
+use Rattle.range_law.proofs.Ciphers.{cbc_long}
 
 zero_whole : (frames : ℕ) → AreWhole (zero_ram frames)
 zero_whole frames = record {

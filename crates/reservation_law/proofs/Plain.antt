@@ -1,7 +1,7 @@
 -- What the plain step of a hart makes of RAM and of reservations, by its deed.
 use Rattle.std.proofs.Common.{◌≡◌, ◌∙◌, ◌<◌, ◌≤◌, ◌⊎◌, ℕ, ◌+◌, ◌-◌, ◌*◌, ◌/◌, ◌%◌, ◌^◌, Bool, true, false, ◌&&◌, nat_lt, nat_le, List, [], ◌∷◌, length, drop, Option, Some, None, Ok, Err, inl, inr, refl, sym, ap, subst, arith, length-drop}
 use Rattle.std.specs.Prelude.{◌==◌, if◌then◌else◌}
-use Rattle.std.proofs.lemmas.Bool.{cases_lt, cases_eq, ltb-true, leb-true, eqb-true}
+use Rattle.std.proofs.lemmas.Bool.{cases_lt, cases_eq, ltb-true, leb-true, eqb-true, and_parts}
 use Rattle.std.proofs.lemmas.List.{get_or_past, get_or-set_same, get_or-set_other, length-set, length-take}
 use Rattle.cloak_base.specs.Constants.{ram_start, frame_of, is_in_frames}
 use Rattle.cloak_base.specs.Registers.{register}
@@ -40,7 +40,8 @@ use Rattle.reservation_law.specs.Deeds.{Deed, Idle, Reserves, StoresReserved, St
 use Rattle.reservation_law.specs.Writes.{deed_extents}
 use Rattle.reservation_law.proofs.Keeping.{SparesWord, SparesByte, AreWhole, Keeps, keeps_all, keeps_then, keeps_unmarked, keeps_filled, keeps_stored}
 use Rattle.script_fold.proofs.Aligned.{StoresAligned, effect_aligned}
-use Rattle.reservation_law.proofs.Leading.{KeepsPlace, walk_keeps, walk_answer}
+use Rattle.cloak_model.proofs.InPage.{KeepsPlace, keeps_walk}
+use Rattle.settling_ahead.proofs.Reached.{walk_answer}
 use Rattle.kernel_isolation.proofs.Leading.{is_aligned}
 use Rattle.settling_ahead.proofs.Reached.{other_number}
 
@@ -94,11 +95,6 @@ does_as deed other id s p same done = subst (λ (d : Deed). Does d id s p) same 
 
 -- Accesses.
 
-pub both_are : (a b : Bool) → (a && b) ≡ true → (a ≡ true) × (b ≡ true)
-both_are true true is = (refl, refl)
-both_are true false is = absurd cc
-both_are false b is = absurd cc
-
 abbrev Reached : ℕ → Seen → ℕ → (Walk → Plan (Close SteppedKernel)) → (ℕ → Deed) → Type 0
 Reached id s va next deed =
     (walked : Walked) → ram_start ≤ walked.pa → walked.pa % 4 ≡ va % 4 → Does (deed walked.pa) id s (next (Ok walked))
@@ -119,9 +115,9 @@ walked_by : (id : ℕ) (s : Seen) (a : Access) (w : Walk) (next : Walk → Plan 
 walked_by id s a (Err cause) next deed faults reaches keeps = faults cause
 walked_by id s a (Ok walked) next deed faults reaches keeps =
     target_by id s a.va (access_fault a.kind) walked (is_in_frames (length s.ram) walked.pa) next deed
-    (λ there. leb-true ram_start walked.pa (both_are (nat_le ram_start walked.pa) (nat_lt (frame_of walked.pa)
+    (λ there. leb-true ram_start walked.pa (and_parts (nat_le ram_start walked.pa) (nat_lt (frame_of walked.pa)
     (length s.ram)) there).0)
-    faults reaches keeps
+    faults reaches (let kept = keeps.kept walked refl in omega (arith, kept))
 
 does_access : (h : Hart) (s : Seen) (kind : Kind) (va : ℕ) (next : Walk → Plan (Close SteppedKernel))
     (deed : ℕ → Deed) → Faulted h.id s next → Reached h.id s va next deed →
@@ -138,7 +134,7 @@ does_access h s kind va next deed faults reaches =
     (answer_then p (λ walk. Gives (inside n a walk)) s.ram ∙ ap (λ (x : Walk). inside n a x)
     (walk_answer s.ram satp a)) in
     subst (λ (close : Close SteppedKernel). DoneBy (done_at deed (target s.ram w)) h.id s (close s)) (sym same)
-    (walked_by h.id s a w next deed faults reaches (walk_keeps s.ram satp a))
+    (walked_by h.id s a w next deed faults reaches (keeps_walk s.ram satp a))
 
 idle_at : (o : Option ℕ) → done_at (λ pa. Idle) o ≡ Idle
 idle_at None = refl
@@ -347,9 +343,9 @@ done_in h s disk is =
     let pa : ℕ = register h.regs 11 in
     let block : ℕ = register h.regs 10 in
     let n : ℕ = length s.ram in
-    let first = both_are (nat_lt block (length disk / 4096)) ((pa % 4096 == 0) && is_in_frames n pa) is in
-    let second = both_are (pa % 4096 == 0) (is_in_frames n pa) first.1 in
-    let third = both_are (nat_le ram_start pa) (nat_lt (frame_of pa) n) second.1 in
+    let first = and_parts (nat_lt block (length disk / 4096)) ((pa % 4096 == 0) && is_in_frames n pa) is in
+    let second = and_parts (pa % 4096 == 0) (is_in_frames n pa) first.1 in
+    let third = and_parts (nat_le ram_start pa) (nat_lt (frame_of pa) n) second.1 in
     let low : ram_start ≤ pa = leb-true ram_start pa third.0 in
     let at : pa % 4096 ≡ 0 = eqb-true (pa % 4096) 0 second.0 in
     let start : ram_start + 4096 * frame_of pa ≡ pa = omega (arith, low, at) in

@@ -3,7 +3,7 @@ use Rattle.std.proofs.Common.{◌≡◌, ◌∙◌, ◌<◌, ◌≤◌, ℕ, zer
 use Rattle.std.specs.Prelude.{◌||◌, ◌==◌}
 use Rattle.std.specs.List.{AllByRecursion, list_any}
 use Rattle.std.proofs.lemmas.Bool.{cases_lt, cases_eq}
-use Rattle.std.proofs.lemmas.List.{get_or_past, get_or-replicate, get_or_append_left, get_or-append_right, length-append, length-replicate}
+use Rattle.std.proofs.lemmas.List.{get_or_past, get_or-replicate, get_or_append_left, get_or-append_right, length-replicate}
 use Rattle.cloak_base.specs.declared.causes.Stop.{Stop}
 use Rattle.cloak_model.specs.declared.image.Bundle.{Bundle}
 use Rattle.cloak_model.specs.declared.image.KernelImage.{KernelImage}
@@ -31,6 +31,8 @@ use Rattle.reservation_law.proofs.Items.{in_ram_low}
 use Rattle.reservation_law.proofs.Opened.{opened_whole}
 use Rattle.reservation_law.proofs.Moments.{IsOrderly, step_does, step_orderly}
 use Rattle.reservation_law.proofs.Turns.{TurnDoes}
+use Rattle.cloak_model.proofs.Opening.{length-started_harts}
+use Rattle.cloak_model.proofs.Steps.{after_step}
 
 -- as a test
 
@@ -54,19 +56,12 @@ started_id : (entry n : ℕ) → (started entry n).id ≡ n
 unfolding started
 started_id entry n = refl
 
-started_count : (entry n : ℕ) → length (started_harts entry n) ≡ n
-started_count entry zero = refl
-started_count entry (suc n) =
-    let before = started_count entry n in
-    let more = length-append (started_harts entry n) (started entry n ∷ []) in
-    omega (arith, before, more)
-
 started_ids : (entry n k : ℕ) → k < n → (slice_index_or (started_harts entry n) k (started 0 0)).id ≡ k
 started_ids entry zero k less = absurd (omega (arith, less))
 started_ids entry (suc n) k less =
     let first : List Hart = started_harts entry n in
     let last : List Hart = started entry n ∷ [] in
-    let count = started_count entry n in
+    let count = length-started_harts entry n in
     elim (cases_lt k n) [
       | inl low ↦
           ap (λ (h : Hart). h.id) (get_or_append_left first last (started 0 0) k (omega (arith, low, count)))
@@ -105,7 +100,7 @@ kernel_ids : (image : KernelImage) (k : ℕ) → k < length (started_kernel imag
     (slice_index_or (started_kernel image).harts k (started 0 0)).id ≡ k
 unfolding started_kernel
 kernel_ids image k less =
-    let count = started_count image.entry image.harts in
+    let count = length-started_harts image.entry image.harts in
     started_ids image.entry image.harts k (omega (arith, less, count))
 
 opened_marks : (b : Bundle) (from : Beginning) (o : RunEdge) → opening_from b from ≡ Ok o → (k pa : ℕ) →
@@ -135,14 +130,6 @@ none_taken : (j : Joint) (turns : List Turn) → joint_after j (take 0 turns) �
 unfolding joint_after
 none_taken j [] = refl
 none_taken j (t ∷ turns) = refl
-
-one_more : (j : Joint) (turns : List Turn) (n : ℕ) (t : Turn) → slice_get turns n ≡ Some t →
-    joint_after j (take (suc n) turns) ≡ t.joint
-unfolding joint_after
-one_more j [] n t is = absurd cc
-one_more j (x ∷ turns) zero t is =
-    let same : x ≡ t = cc in none_taken x.joint turns ∙ ap (λ (y : Turn). y.joint) same
-one_more j (x ∷ turns) (suc n) t is = one_more x.joint turns n t is
 
 turn_at : (turns : List Turn) (n : ℕ) → suc n ≤ length turns → (t : Turn) × (slice_get turns n ≡ Some t)
 turn_at [] n less = absurd (omega (arith, less))
@@ -200,7 +187,7 @@ known_step b budget o orderly n less =
     let does' = subst (λ (x : Turn). StepDoes b n j x.items x.joint) step does in
     subst (λ (o' : Option Turn). StepDoes b n j (items_of_turn o') (joint_after o.joint (take (suc n) turns)))
     (sym found.1)
-    (subst (λ (j' : Joint). StepDoes b n j t.items j') (sym (one_more o.joint turns n t found.1)) does')
+    (subst (λ (j' : Joint). StepDoes b n j t.items j') (sym (after_step o.joint turns n t found.1)) does')
 
 known_run : (b : Bundle) (from : Beginning) (budget : ℕ) (o : RunEdge) → opening_from b from ≡ Ok o →
     IsKnown b (run_of b budget o)

@@ -1,11 +1,8 @@
 -- What is written while a program asks: a Cipher has the 4096 bytes of a page, and a Put a width.
-use Rattle.std.proofs.Common.{◌≡◌, ℕ, zero, suc, ◌*◌, ◌%◌, ◌^◌, Bool, true, false, List, [], ◌∷◌, ◌++◌, length, take, drop, slice_index_or, Option, Some, None, refl, sym, subst, arith, append_assoc}
-use Rattle.std.specs.List.{AllByRecursion, concat, find}
-use Rattle.std.specs.Str.{bytes_eq}
+use Rattle.std.proofs.Common.{◌≡◌, ℕ, ◌*◌, ◌%◌, ◌^◌, Bool, true, false, List, [], ◌∷◌, ◌++◌, length, Option, Some, None, refl, sym, subst, append_assoc}
+use Rattle.std.specs.List.{AllByRecursion}
 use Rattle.std.proofs.lemmas.Bool.{false≢true}
-use Rattle.std.proofs.lemmas.List.{length-append, length-replicate}
-use Rattle.aes_block.specs.Cipher.{encrypted}
-use Rattle.aes_block.specs.State.{block_sum, from_places}
+use Rattle.std.proofs.lemmas.List.{length-replicate}
 use Rattle.cloak_base.specs.Pages.{zero_page}
 use Rattle.cloak_base.specs.Random.{Random}
 use Rattle.cloak_base.specs.declared.names.PageId.{PageId}
@@ -13,28 +10,28 @@ use Rattle.cloak_model.specs.declared.answer.Answer.{Answer}
 use Rattle.cloak_model.specs.declared.answer.Answer.TheVariants as answer
 use Rattle.cloak_model.specs.declared.item.Item.{Item}
 use Rattle.cloak_model.specs.declared.item.Item.TheVariants as item
-use Rattle.cloak_model.specs.Ahead.{is_owed, settle_found, settle_while, settle_touched}
+use Rattle.cloak_model.specs.Ahead.{settle_touched}
 use Rattle.cloak_model.specs.AskPages.{answer_item, replies, put_at, ask_write, ask_copy, ask_forget}
-use Rattle.cloak_model.specs.Chain.{chained, blocks_of, cbc}
+use Rattle.cloak_model.specs.Chain.{chained}
 use Rattle.cloak_model.specs.DomainState.{Domain}
 use Rattle.cloak_model.specs.DomainStep.{domain_step}
 use Rattle.cloak_model.specs.Ending.{ask_end}
-use Rattle.cloak_model.specs.Cloaking.{CloakedMemory, AfterSettling, AfterOffer, owed_in, owes, owing_frame, settle_owed, settle_if, settle, settle_frame_if, compared, with_comparison, taken, unless_missed, offer}
+use Rattle.cloak_model.specs.Cloaking.{CloakedMemory, settle_owed, settle, offer}
 use Rattle.cloak_model.specs.Effect.{IsWidth}
 use Rattle.cloak_model.specs.Events.{Event}
 use Rattle.cloak_model.specs.Hart.{Hart}
 use Rattle.cloak_model.specs.Ledger.{key_of, vector_of}
 use Rattle.cloak_model.specs.Memory.{Seen}
 use Rattle.cloak_model.specs.PageMoves.{copy_pages, drop_pages}
-use Rattle.cloak_model.specs.StepFrames.{step_frames}
 use Rattle.cloak_model.specs.World.{World, MidStep, Flat, Cloaked, Alone, Handed, items_of, noted, settled, settled_in, cipher_items}
 use Rattle.script_fold.proofs.ByQuestions.{StepKept, keeps_by}
 use Rattle.script_fold.proofs.Endings.{keeps_end}
 use Rattle.script_fold.proofs.Folding.{step_keeps}
 use Rattle.script_fold.proofs.Questions.{Replies, opens_by, keeps_stored}
+use Rattle.kernel_isolation.proofs.Showing.{Showing, AnyMemory, settle_shows, Shows, touched_shows, offer_shows}
 use Rattle.kernel_isolation.proofs.Accounts.{is_joint}
-use Rattle.kernel_isolation.proofs.Shown.{either}
-use Rattle.reservation_law.proofs.Keeping.{all_both}
+use Rattle.range_law.proofs.Ciphers.{cbc_long}
+use Rattle.cloak_base.proofs.Lists.{each_append}
 
 abbrev pub HasSize : Item → Type 0
 HasSize (item.Cipher frame bytes) = length bytes ≡ 4096
@@ -53,25 +50,6 @@ cipher_sizes (c ∷ ciphers) all = (all.0, cipher_sizes ciphers all.1)
 
 -- Ciphertexts of pages.
 
-encrypted_long : (key s : List ℕ) → length (encrypted key s) ≡ 16
-unfolding encrypted block_sum from_places
-encrypted_long key s = refl
-
-chained_long : (key iv : List ℕ) (n : ℕ) (s : List ℕ) → length (concat (chained key iv (blocks_of n s))) ≡ 16 * n
-unfolding chained blocks_of
-chained_long key iv zero s = refl
-chained_long key iv (suc n) s =
-    let c : List ℕ = encrypted key (block_sum (take 16 s) iv) in
-    let rest : List ℕ = concat (chained key c (blocks_of n (drop 16 s))) in
-    let both = length-append c rest in
-    let first = encrypted_long key (block_sum (take 16 s) iv) in
-    let others = chained_long key c n (drop 16 s) in
-    omega (arith, both, first, others)
-
-pub cbc_long : (key iv page : List ℕ) → length (cbc key iv page) ≡ 4096
-unfolding cbc
-cbc_long key iv page = chained_long key iv 256 page
-
 pub zeros_long : length zero_page ≡ 4096
 unfolding zero_page
 zeros_long = length-replicate {A = ℕ} 4096 0
@@ -84,71 +62,26 @@ unfolding settle_owed
 owed_pages f q None m = (zeros_long, tt)
 owed_pages f q (Some draw) m = (cbc_long (key_of m.ledger q) draw.0 (m.plain q), tt)
 
-if_pages : (f : ℕ) (o : Option PageId) (m : CloakedMemory) → ArePages (settle_if f o m).ciphers
-unfolding settle_if
-if_pages f None m = tt
-if_pages f (Some q) m = owed_pages f q (vector_of m.ledger q) m
+abbrev Pages : Showing
+Pages m ciphers n = ArePages ciphers
 
 pub settle_pages : (f : ℕ) (m : CloakedMemory) → ArePages (settle f m).ciphers
-unfolding settle
-settle_pages f m = if_pages f (owed_in m f) m
+settle_pages f m =
+    settle_shows AnyMemory Pages (λ x here. tt) (λ g q x is here. owed_pages g q (vector_of x.ledger q) x) f m tt
 
-pages_both : (a b : List (ℕ × List ℕ)) → ArePages a → ArePages b → ArePages (a ++ b)
-pages_both a b here there = all_both (λ (c : ℕ × List ℕ). length c.1 ≡ 4096) a b here there
-
-found_pages : (o : Option ℕ) (next : CloakedMemory → AfterSettling) (m : CloakedMemory) →
-    ((n : CloakedMemory) → ArePages (next n).ciphers) → ArePages (settle_found o next m).ciphers
-found_pages None next m more = tt
-found_pages (Some f) next m more =
-    pages_both (settle f m).ciphers (next (settle f m).memory).ciphers (settle_pages f m) (more (settle f m).memory)
-
-while_pages : (frames : List (List ℕ) → List ℕ) (n : ℕ) (m : CloakedMemory) →
-    ArePages (settle_while frames n m).ciphers
-unfolding settle_while
-while_pages frames zero m = tt
-while_pages frames (suc n) m =
-    found_pages (find (is_owed m) (frames m.ram)) (settle_while frames n) m (λ x. while_pages frames n x)
+shows : Shows AnyMemory Pages
+shows = record {
+  none = λ m here. tt;
+  both = λ l m n a b here there. each_append (λ (c : ℕ × List ℕ). length c.1 ≡ 4096) a b here there;
+  after = λ m n a here. tt;
+  settles = λ f m here. settle_pages f m;
+}
 
 pub touched_pages : (h : Hart) (disk : List ℕ) (m : CloakedMemory) → ArePages (settle_touched h disk m).ciphers
-unfolding settle_touched
-touched_pages h disk m = while_pages (λ ram. step_frames h ram disk) (length m.ledger.owed) m
-
-frame_if_pages : (o : Option ℕ) (m : CloakedMemory) → ArePages (settle_frame_if o m).ciphers
-frame_if_pages None m = tt
-frame_if_pages (Some f) m = settle_pages f m
-
-record OffersPages (o : AfterOffer) : Type 0 where
-  pub pages : ArePages o.ciphers
-
-compared_pages : (q : PageId) (g : ℕ) (write : Bool) (c : Option (List ℕ)) (m : CloakedMemory) →
-    OffersPages (compared q g write c m)
-unfolding compared
-compared_pages q g write None m = record { pages = tt }
-compared_pages q g write (Some c) m =
-    let there : List ℕ = slice_index_or m.ram g [] in
-    let n : CloakedMemory = with_comparison there c m in
-    let ready : AfterOffer = record { memory = taken q g write n; ciphers = []; granted = true } in
-    let other : AfterOffer = record { memory = n; ciphers = []; granted = false } in
-    either OffersPages (bytes_eq there c) ready other (record { pages = tt }) (record { pages = tt })
-
-unless_pages : (s : AfterSettling) (next : CloakedMemory → AfterOffer) → ArePages s.ciphers →
-    ((n : CloakedMemory) → OffersPages (next n)) → OffersPages (unless_missed s next)
-unfolding unless_missed
-unless_pages s next here more =
-    let missed : AfterOffer = record { memory = s.memory; ciphers = s.ciphers; granted = false } in
-    let o : AfterOffer = next s.memory in
-    let gone : AfterOffer = record { memory = o.memory; ciphers = s.ciphers ++ o.ciphers; granted = o.granted } in
-    either OffersPages s.missed missed gone (record { pages = here })
-    (record { pages = pages_both s.ciphers (next s.memory).ciphers here (more s.memory).pages })
+touched_pages h disk m = touched_shows AnyMemory Pages shows h disk m tt
 
 pub offer_pages : (q : PageId) (g : ℕ) (write : Bool) (m : CloakedMemory) → ArePages (offer q g write m).ciphers
-unfolding offer
-offer_pages q g write m =
-    let ready : AfterOffer = record { memory = m; ciphers = []; granted = true } in
-    (either OffersPages (owes q (owed_in m g)) ready _ (record { pages = tt })
-    (unless_pages (settle g m) _ (settle_pages g m)
-    (λ m'. unless_pages (settle_frame_if (owing_frame m' q) m') _ (frame_if_pages (owing_frame m' q) m')
-    (λ m''. compared_pages q g write _ m'')))).pages
+offer_pages q g write m = offer_shows AnyMemory Pages shows q (λ f x here. tt) (λ a b x here. tt) g write m tt
 
 -- Worlds.
 
@@ -179,7 +112,7 @@ same_sizes c c' same = record { by = λ is. record { form = refl; items = subst 
 more_sizes : (c c' : MidStep) (items : List Item) → c'.items ≡ c.items ++ items → HaveSizes items →
     Sizes (Cloaked c) (Cloaked c')
 more_sizes c c' items same all = record {
-  by = λ is. record { form = refl; items = subst HaveSizes (sym same) (all_both HasSize c.items items is.items all) };
+  by = λ is. record { form = refl; items = subst HaveSizes (sym same) (each_append HasSize c.items items is.items all) };
 }
 
 -- Memory.

@@ -1,6 +1,6 @@
 -- What a step of the joint machine makes of RAM and of reservations.
 use Rattle.std.proofs.Common.{◌≡◌, ◌∙◌, ◌≤◌, ◌⊎◌, ℕ, ◌%◌, Bool, true, false, List, [], ◌∷◌, ◌++◌, length, slice_get, slice_set, slice_index_or, Option, Some, None, Result, Ok, Err, inl, inr, refl, sym, ap, subst, arith, append_assoc, append-nil}
-use Rattle.std.proofs.lemmas.Bool.{false≢true, cases_lt, cases_eq}
+use Rattle.std.proofs.lemmas.Bool.{cases_lt, cases_eq}
 use Rattle.std.proofs.lemmas.List.{get_or_past, get_or-set_same, get_or-set_other, length-set}
 use Rattle.cloak_base.specs.Constants.{ram_start}
 use Rattle.cloak_base.specs.declared.causes.Shown.{Shown}
@@ -30,8 +30,8 @@ use Rattle.cloak_model.specs.Memory.{Seen, value_at, mark_of}
 use Rattle.cloak_model.specs.Parts.{Joint}
 use Rattle.cloak_model.specs.Resuming.{AfterResume, resume}
 use Rattle.cloak_model.proofs.ResumeParts.{by_root, by_context, by_domain}
-use Rattle.cloak_model.specs.World.{World, MidStep, Flat, Cloaked, Alone, items_of, seen_of, violation_of, cipher_items}
-use Rattle.kernel_isolation.proofs.Accounts.{is_joint, IsJointWorld, Account, ram_seen}
+use Rattle.cloak_model.specs.World.{World, MidStep, Flat, Cloaked, items_of, seen_of, violation_of, cipher_items}
+use Rattle.kernel_isolation.proofs.Accounts.{Account, ram_seen}
 use Rattle.kernel_isolation.proofs.Ends.{EndsIn, end_shows}
 use Rattle.kernel_isolation.proofs.Items.{with_items}
 use Rattle.kernel_isolation.proofs.OutsideSteps.{AreInward}
@@ -41,9 +41,11 @@ use Rattle.settling_ahead.proofs.Touching.{writes_touched_alone}
 use Rattle.reservation_law.specs.Deeds.{Deed, Idle, Reserves, StoresReserved, deed_of}
 use Rattle.reservation_law.specs.Writes.{Extent, has_byte, meets_word, deed_extents, items_extents, outside_deed}
 use Rattle.reservation_law.proofs.Items.{keeps_items, keeps_shown, keeps_inward, extents_append}
-use Rattle.reservation_law.proofs.Keeping.{SparesWord, SparesByte, AreWhole, Keeps, all_both, all_first, all_second, keeps_all, keeps_then, keeps_unmarked}
+use Rattle.reservation_law.proofs.Keeping.{SparesWord, SparesByte, AreWhole, Keeps, all_first, all_second, keeps_all, keeps_then, keeps_unmarked}
 use Rattle.reservation_law.proofs.Plain.{DoneBy, ticked_id, plain_step_does}
 use Rattle.reservation_law.proofs.Sizes.{HaveSizes, Sizes, cipher_sizes, touched_pages, sizes_domain_step, sizes_end}
+use Rattle.cloak_base.proofs.Lists.{each_append}
+use Rattle.kernel_isolation.proofs.Turns.{memory_ram, memory_places}
 
 -- the number of a hart of a list
 abbrev pub id_in : List Hart → ℕ → ℕ
@@ -132,7 +134,7 @@ outside_does deed number harts before s items end own keeps done = record {
         let first = keeps.marks k pa there.0 in
         inr (
           first.0,
-          λ at. all_both (λ (e : Extent). meets_word pa e ≡ false) (deed_extents deed) (items_extents items)
+          λ at. each_append (λ (e : Extent). meets_word pa e ≡ false) (deed_extents deed) (items_extents items)
               (there.1 at) (first.1 at),
         )
   ];
@@ -174,7 +176,7 @@ later_does deed number harts s items harts' t u more does keeps calm = record {
             inr (
               there.0,
               λ at. subst (λ (l : List Extent). SparesWord pa l) (sym (more_extents deed items more))
-                  (all_both (λ (e : Extent). meets_word pa e ≡ false) (deed_extents deed ++ items_extents items)
+                  (each_append (λ (e : Extent). meets_word pa e ≡ false) (deed_extents deed ++ items_extents items)
                   (items_extents more) (there.1 at) (last.1 at)),
             )
       ];
@@ -345,14 +347,6 @@ leaving j j' number h items s same reached =
       places = reached.places;
     }
 
-memory_seen : (w : World) (m : CloakedMemory) → is_joint w ≡ true → seen_in (memory_of w m) ≡ seen_of w
-memory_seen (Alone h) m form = absurd (false≢true form)
-memory_seen _ m form = refl
-
-memory_places : (w : World) (m : CloakedMemory) → IsJointWorld w → HasPlaces (memory_of w m)
-memory_places (Cloaked c) m joint = joint.places
-memory_places _ m joint = absurd (false≢true joint.form)
-
 domain_done : (j j' : Joint) (number : ℕ) (h : Hart) (d : ℕ) (w : World) (how : Went) → h.id ≡ id_in j.harts number →
     IsReached j j' (items_of w) → TurnDone Idle number j (domain_ended j' number h d w how)
 unfolding domain_ended
@@ -377,7 +371,7 @@ told_done j number h d c told same memory none account sizes =
     let all : HaveSizes account.items = subst HaveSizes written sized.items in
     let made = keeps_items account.items (seen_in c.memory) account.within all in
     let now : seen_in (memory_of w j.memory) ≡ with_items account.items (seen_in c.memory) =
-    memory_seen w j.memory account.joint.form ∙ account.seen in
+    memory_ram w j.memory account.joint.form ∙ account.seen in
     let keeps : Keeps (items_extents account.items) (seen_in j.memory) (seen_in (memory_of w j.memory)) =
     subst (λ (m : CloakedMemory). Keeps (items_extents account.items) (seen_in m) (seen_in
     (memory_of w j.memory))) memory

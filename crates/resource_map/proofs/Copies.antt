@@ -89,13 +89,13 @@ private_all space r =
     All-places (is_private_to space) (λ n. is_private_to space (resource_at r n) ≡ true) None 0 r.held
     (λ i lt pass. subst (λ n. is_private_to space (resource_at r n) ≡ true) (sym (zero-add i)) pass)
 
-free_all : (r : Resources) → All (λ n. (n < length r.held) × (resource_at r n ≡ None)) (free_numbers r)
+pub free_all : (r : Resources) → All (λ n. (n < length r.held) × (resource_at r n ≡ None)) (free_numbers r)
 free_all r =
     All-places is_none (λ n. (n < length r.held) × (resource_at r n ≡ None)) None 0 r.held
     (λ i lt pass. subst (λ n. (n < length r.held) × (resource_at r n ≡ None)) (sym (zero-add i)) (lt, none_from_test (resource_at r i) pass))
 
 -- what is private to a space is there
-some_from_private : (space : ℕ) (o : Option Resource) → is_private_to space o ≡ true → IsSome o
+pub some_from_private : (space : ℕ) (o : Option Resource) → is_private_to space o ≡ true → IsSome o
 some_from_private space None private = absurd (false≢true private)
 some_from_private space (Some x) private = refl
 

@@ -14,7 +14,8 @@ use Rattle.cloak_machine.specs.declared.end.RunEnd.{RunEnd}
 use Rattle.cloak_machine.specs.declared.machine.Machine.{Machine}
 use Rattle.cloak_machine.specs.Ending.{short_report}
 use Rattle.cloak_machine.specs.Standing.{FinishesAs, StandsForMoment}
-use Rattle.run_command.specs.Running.{IsEndOf, MadeAll, moment_behind}
+use Rattle.run_command.specs.Running.{IsEndOf, MadeAll}
+use Rattle.record_law.specs.Steps.{moment_after}
 
 -- the end of a machine that made all steps of a run
 pub end_of : {E : Type 0} {gave : E → E → List Piece → Type 0} {e f : E} (b : Bundle) (steps : ℕ) (o : RunEdge)
@@ -26,7 +27,7 @@ pub end_of : {E : Type 0} {gave : E → E → List Piece → Type 0} {e f : E} (
 unfolding run_of
 end_of {E} {gave} {e} {f} b steps o machine stopped cause end all unwrapped each =
     let turns = turns_from steps (first_moment b o.joint) in
-    let ends = each (moment_behind (first_moment b o.joint) turns) all.stands in
+    let ends = each (moment_after (first_moment b o.joint) turns) all.stands in
     let closed = closing (joint_after o.joint turns) in
     let stop_is : end.stop ≡ cause_of closed.joint (last_stop None turns) =
     ends.stop ∙ ap (λ (s : Stop). cause_of closed.joint (Some s))

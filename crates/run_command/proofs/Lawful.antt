@@ -3,7 +3,7 @@ use Rattle.std.proofs.Common.{◌≡◌, ◌∙◌, ◌≤◌, ℕ, List, ◌++�
 use Rattle.cloak_model.specs.declared.image.Bundle.{Bundle}
 use Rattle.cloak_model.specs.declared.image.Program.{Program}
 use Rattle.cloak_model.specs.declared.item.Item.{Item}
-use Rattle.cloak_model.specs.Beginning.{Beginning, Fresh, Stored, IsBeginning}
+use Rattle.cloak_model.specs.Beginning.{Beginning}
 use Rattle.cloak_model.specs.Bundle.{IsInGrammar}
 use Rattle.cloak_model.specs.DomainAlone.{domain_alone_from, part_from}
 use Rattle.cloak_model.specs.KernelAlone.{kernel_alone}
@@ -28,6 +28,7 @@ use Rattle.run_command.specs.Isolated.{IsIsolated}
 use Rattle.run_command.specs.ReadingBack.{ComesToEnds, FitsAlone, ReadsBack}
 use Rattle.run_command.specs.Refusing.{RefusesRightly}
 use Rattle.run_command.proofs.FrontFacts.{kernel_front_fits, domain_front_fits}
+use Rattle.range_law.proofs.Beginnings.{is_beginning}
 
 -- this program is a domain of the run
 pub hosts : (b : Bundle) (from : Beginning) (budget : ℕ) (r : Run) → IsInGrammar b → run_from b from budget ≡ Ok r →
@@ -86,11 +87,6 @@ refuses_rightly b from budget r runs = record {
   presented = presented_is_refused b from budget r runs;
   stopped = stopped_ends b from budget r runs;
 }
-
--- what the files of a beginning of bytes hold can be told
-is_beginning : (b : Bundle) (from : Beginning) → IsBeginningOfBytes b from → IsBeginning b from
-is_beginning b (Fresh stream) all = tt
-is_beginning b (Stored keys stream files) all = all.contents
 
 pub is_lawful : (b : Bundle) (from : Beginning) (budget : ℕ) (r : Run) → IsInGrammar b → IsOfBytes b →
     IsBeginningOfBytes b from → budget ≤ most_steps → run_from b from budget ≡ Ok r → IsLawful b from r

@@ -9,7 +9,7 @@ use Rattle.io_traits.specs.declared.sink.Sink as sinks
 use Rattle.io_traits.specs.Told.{Tells, Puts, Grows, GrowsByFront, Counts, SameFiles, OtherFiles}
 use Rattle.io_traits.proofs.ToldFacts.{Grows-none, Grows-append, GrowsByFront-whole, Rose-after}
 use Rattle.cloak_model.specs.Exchange.{Piece, recorded, shown, recorded_bytes, shown_bytes, Emits}
-use Rattle.record_law.proofs.Pieces.{recorded_bytes-append, shown_bytes-append}
+use Rattle.cloak_model.proofs.Pieces.{recorded_bytes-append, shown_bytes-append}
 use Rattle.run_command.specs.declared.outlet.Outlet.{Outlet}
 use Rattle.command_parts.specs.Outside.{FilesOutside, Output, Outside, files, output, outside}
 use Rattle.run_command.specs.Adding.{Adds}
@@ -192,9 +192,9 @@ adds_flushed was failed name before mid after piece r adds well is same writing 
 -- The outlet.
 
 -- an outlet that failed takes pieces and does nothing
-pub emits_none : {S O : Type 0} (of_shelf : shelves.Ghosts S) (of_sink : sinks.Ghosts O) (o : Outlet S O of_shelf)
+pub emits_failed : {S O : Type 0} (of_shelf : shelves.Ghosts S) (of_sink : sinks.Ghosts O) (o : Outlet S O of_shelf)
     (ps : List Piece) → o.pen.failed ≡ true → Emits (Gave of_shelf of_sink) o o ps
-emits_none {S} {O} of_shelf of_sink o ps failed = record {
+emits_failed {S} {O} of_shelf of_sink o ps failed = record {
   more = λ first before gave.
       let at = λ (x : Outlet S O of_shelf). outside of_shelf of_sink x.pen.shelf.now x.out.now in
       record {

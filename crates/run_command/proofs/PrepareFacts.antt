@@ -29,9 +29,6 @@ all_so_far P xs i x is all here =
     let next : suc i ≡ i + 1 = omega arith in
     subst (λ (n : ℕ). AllByRecursion P (take n xs)) next (one_more P xs i x is all here)
 
-pub all_at_start : {A : Type 0} (P : A → Type 0) (xs : List A) → AllByRecursion P (take 0 xs)
-all_at_start P xs = all_none P xs
-
 pub all_at_end : {A : Type 0} (P : A → Type 0) (xs : List A) (n : ℕ) → length xs ≤ n → AllByRecursion P (take n xs) →
     AllByRecursion P xs
 all_at_end P xs n past all = subst (AllByRecursion P) (take_all n xs past) all

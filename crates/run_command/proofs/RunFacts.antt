@@ -6,7 +6,7 @@ use Rattle.std.proofs.lemmas.List.{append-nil}
 use Rattle.cloak_base.specs.declared.causes.Stop.{Stop}
 use Rattle.cloak_base.specs.declared.causes.Stop.TheVariants as stop
 use Rattle.cloak_model.specs.declared.image.Bundle.{Bundle}
-use Rattle.cloak_model.specs.Exchange.{Piece, recorded, shown, record_magic, item_pieces, Emits, EmitsSome}
+use Rattle.cloak_model.specs.Exchange.{Piece, recorded, shown, record_magic, item_pieces, Emits}
 use Rattle.cloak_model.specs.Opening.{RunEdge}
 use Rattle.cloak_model.specs.Parts.{Joint}
 use Rattle.cloak_model.specs.Report.{report}
@@ -18,11 +18,13 @@ use Rattle.cloak_machine.specs.Standing.{StandsForMoment, ShowsOpening, MakesTur
 use Rattle.cloak_machine.specs.Ending.{end_is_refused, end_report}
 use Rattle.cloak_machine.specs.declared.end.RunEnd.{RunEnd}
 use Rattle.command_parts.specs.declared.status.Status.{Status}
-use Rattle.run_command.specs.Running.{BeginsRun, RunsSteps, EndsRun, WritesRun, first_pieces, last_pieces, moment_behind, status_of}
+use Rattle.run_command.specs.Running.{BeginsRun, RunsSteps, EndsRun, WritesRun, first_pieces, last_pieces, status_of}
 use Rattle.cloak_model.specs.Run.{NoClashYet}
 use Rattle.run_command.proofs.ClashFacts.{rest_unclashed, turns_unclashed}
 use Rattle.record_law.proofs.Pieces.{joint_after-append, last_stop-append, turns_pieces-append}
-use Rattle.cloaked_side.proofs.Emitting.{emits_then}
+use Rattle.cloak_model.proofs.Emitting.{emits_none, emits_then}
+use Rattle.record_law.specs.Steps.{moment_after}
+use Rattle.thaw_law.proofs.TwoParts.{after_none}
 
 -- Steps after steps.
 
@@ -37,16 +39,8 @@ pub last_stop-last : (so_far : Option Stop) (ts : List Turn) (t : Turn) → last
 unfolding last_stop
 last_stop-last so_far ts t = last_stop-append so_far ts (t ∷ [])
 
-pub behind_none : (m : Moment) → moment_behind m [] ≡ m
-unfolding joint_after
-behind_none m i = record {
-  schedule = m.schedule;
-  steps = (let e : m.steps + 0 ≡ m.steps = omega arith in e) i;
-  joint = m.joint;
-}
-
 pub behind_last : (m : Moment) (ts : List Turn) (t : Turn) →
-    after_turn (moment_behind m ts) t ≡ moment_behind m (ts ++ t ∷ [])
+    after_turn (moment_after m ts) t ≡ moment_after m (ts ++ t ∷ [])
 unfolding joint_after
 behind_last m ts t i = record {
   schedule = m.schedule;
@@ -74,18 +68,8 @@ pub record GoesOn {E : Type 0} (gave : E → E → List Piece → Type 0) (e e' 
   pub count : length made ≡ n
   pub emits : Emits gave e e' (turns_pieces (suc m.steps) made)
   pub on : last_stop None made ≡ None
-  pub stands : StandsForMoment machine (moment_behind m made)
-  pub left : turns_from budget m ≡ made ++ turns_from (budget - n) (moment_behind m made)
-
--- nothing is given
-pub emits_nothing : {E : Type 0} {gave : E → E → List Piece → Type 0} (e : E) → Emits gave e e []
-emits_nothing {E} {gave} e =
-    record { more = λ first before given. subst (λ (ps : List Piece). gave first e ps) (sym (append-nil before)) given }
-
--- some pieces, and then others
-pub some_then : {E : Type 0} {gave : E → E → List Piece → Type 0} {e f h : E} →
-    EmitsSome gave e f → EmitsSome gave f h → EmitsSome gave e h
-some_then {E} {gave} {e} {f} {h} first second = (first.0 ++ second.0, emits_then first.1 second.1)
+  pub stands : StandsForMoment machine (moment_after m made)
+  pub left : turns_from budget m ≡ made ++ turns_from (budget - n) (moment_after m made)
 
 -- the same pieces under another name
 pub emits_as : {E : Type 0} {gave : E → E → List Piece → Type 0} {e f : E} {ps qs : List Piece} → ps ≡ qs →
@@ -99,10 +83,10 @@ unfolding turns_pieces last_stop
 goes_on-start gave e machine budget m stands = record {
   made = [];
   count = refl;
-  emits = emits_nothing e;
+  emits = emits_none _ e;
   on = refl;
-  stands = subst (λ (x : Moment). StandsForMoment machine x) (sym (behind_none m)) stands;
-  left = (λ i. turns_from ((let same : budget ≡ budget - 0 = omega arith in same) i) (sym (behind_none m) i));
+  stands = subst (λ (x : Moment). StandsForMoment machine x) (sym (after_none m)) stands;
+  left = (λ i. turns_from ((let same : budget ≡ budget - 0 = omega arith in same) i) (sym (after_none m) i));
 }
 
 -- What one more step results in, by why it stopped the run.
@@ -110,7 +94,7 @@ record IsMade {E : Type 0} (gave : E → E → List Piece → Type 0) (e e' : E)
     (m : Moment) (given : Option Stop) : Type 0 where
   made : List Turn
   now : Moment
-  now_is : now ≡ moment_behind m made
+  now_is : now ≡ moment_after m made
   count : length made ≡ n + 1
   emits : Emits gave e e' (turns_pieces (suc m.steps) made)
   last : last_stop None made ≡ given
@@ -119,10 +103,10 @@ record IsMade {E : Type 0} (gave : E → E → List Piece → Type 0) (e e' : E)
 
 is_made : {E : Type 0} (gave : E → E → List Piece → Type 0) (e f h : E) (old new : Machine) (given : Option Stop)
     (n budget : ℕ) (m : Moment) (on : GoesOn gave e f old n budget m) →
-    MakesTurn gave f h new given (moment_behind m on.made) (joint_step (moment_behind m on.made)) → n < budget →
+    MakesTurn gave f h new given (moment_after m on.made) (joint_step (moment_after m on.made)) → n < budget →
     IsMade gave e h new n budget m given
 is_made {E} gave e f h old new given n budget m on makes within =
-    let here = moment_behind m on.made in
+    let here = moment_after m on.made in
     let t = joint_step here in
     record {
       made = on.made ++ t ∷ [];
@@ -147,12 +131,12 @@ is_made {E} gave e f h old new given n budget m on makes within =
 
 -- no clash after the steps that are left: none after the first of them
 pub next_unclashed : (n budget : ℕ) (m : Moment) (made : List Turn) →
-    turns_from budget m ≡ made ++ turns_from (budget - n) (moment_behind m made) → n < budget →
+    turns_from budget m ≡ made ++ turns_from (budget - n) (moment_after m made) → n < budget →
     NoClashYet (joint_after m.joint (turns_from budget m)) →
-    NoClashYet (joint_step (moment_behind m made)).joint
+    NoClashYet (joint_step (moment_after m made)).joint
 unfolding joint_after
 next_unclashed n budget m made left within none =
-    let here = moment_behind m made in
+    let here = moment_after m made in
     let t = joint_step here in
     let rest = unless_stopped (stop_of t) (turns_from (budget - (n + 1))) (after_turn here t) in
     let behind : joint_after m.joint (turns_from budget m) ≡ joint_after t.joint rest =
@@ -164,7 +148,7 @@ next_unclashed n budget m made left within none =
 
 pub unclashed-next : {E : Type 0} (gave : E → E → List Piece → Type 0) (e f : E) (machine : Machine) (n budget : ℕ)
     (m : Moment) (on : GoesOn gave e f machine n budget m) → n < budget →
-    NoClashYet (joint_after m.joint (turns_from budget m)) → NoClashYet (joint_step (moment_behind m on.made)).joint
+    NoClashYet (joint_after m.joint (turns_from budget m)) → NoClashYet (joint_step (moment_after m on.made)).joint
 unclashed-next gave e f machine n budget m on within none = next_unclashed n budget m on.made on.left within none
 
 -- one step more that does not stop the run
@@ -185,7 +169,7 @@ goes_on-made {E} gave e h new n budget m given goes made = record {
 
 pub goes_on-more : {E : Type 0} (gave : E → E → List Piece → Type 0) (e f h : E) (old new : Machine)
     (given : Option Stop) (n budget : ℕ) (m : Moment) (on : GoesOn gave e f old n budget m) →
-    MakesTurn gave f h new given (moment_behind m on.made) (joint_step (moment_behind m on.made)) → n < budget →
+    MakesTurn gave f h new given (moment_after m on.made) (joint_step (moment_after m on.made)) → n < budget →
     given ≡ None → GoesOn gave e h new (n + 1) budget m
 goes_on-more gave e f h old new given n budget m on makes within goes =
     goes_on-made gave e h new n budget m given goes (is_made gave e f h old new given n budget m on makes within)
@@ -209,7 +193,7 @@ stops-made {E} gave failed e h new n budget m given cause stopped made =
 
 pub stops-more : {E : Type 0} (gave : E → E → List Piece → Type 0) (failed : Bool) (e f h : E) (old new : Machine)
     (given : Option Stop) (cause : Stop) (n budget : ℕ) (m : Moment) (on : GoesOn gave e f old n budget m) →
-    MakesTurn gave f h new given (moment_behind m on.made) (joint_step (moment_behind m on.made)) →
+    MakesTurn gave f h new given (moment_after m on.made) (joint_step (moment_after m on.made)) →
     given ≡ Some cause → n < budget → RunsSteps gave failed e h new (Some cause) m (turns_from budget m)
 stops-more gave failed e f h old new given cause n budget m on makes stopped within =
     stops-made gave failed e h new n budget m given cause stopped
@@ -222,7 +206,7 @@ pub runs-all : {E : Type 0} (gave : E → E → List Piece → Type 0) (failed :
 runs-all {E} gave failed e f machine budget n m on whole =
     let all : turns_from budget m ≡ on.made =
     on.left ∙ ap (λ (ts : List Turn). on.made ++ ts)
-    (turns_from-none n budget (moment_behind m on.made) whole) ∙ append-nil on.made in
+    (turns_from-none n budget (moment_after m on.made) whole) ∙ append-nil on.made in
     subst (λ (ts : List Turn). RunsSteps gave failed e f machine None m ts) (sym all) (record {
       emits = on.emits;
       made = λ unfailed. record { last = sym on.on; stands = on.stands };
@@ -234,7 +218,7 @@ pub runs-failed : {E : Type 0} (gave : E → E → List Piece → Type 0) (faile
     GoesOn gave e f machine n budget m → failed ≡ true → ((ps : List Piece) → Emits gave f f ps) →
     RunsSteps gave failed e f machine given m (turns_from budget m)
 runs-failed {E} gave failed e f machine given budget n m on broken none =
-    let rest = turns_from (budget - n) (moment_behind m on.made) in
+    let rest = turns_from (budget - n) (moment_after m on.made) in
     record {
       emits = emits_as (sym (turns_pieces-append (suc m.steps) on.made rest) ∙ ap
           (λ (ts : List Turn). turns_pieces (suc m.steps) ts) (sym on.left))
@@ -291,7 +275,7 @@ writes-whole {E} {gave} {mid_failed} {failed} {e} {f} {g} {machine} {stopped} {c
     unwrapped ends =
     let turns = turns_from steps (first_moment b o.joint) in
     let all = begins.made well in
-    let end = ends (moment_behind (first_moment b o.joint) turns) all.stands in
+    let end = ends (moment_after (first_moment b o.joint) turns) all.stands in
     let closed = closing (joint_after o.joint turns) in
     let same : cause_of closed.joint (Some cause) ≡ cause_of closed.joint (last_stop None turns) =
     ap (λ (s : Stop). cause_of closed.joint (Some s))

@@ -7,9 +7,11 @@ use Rattle.cloak_model.specs.Joint.{Moment, Turn, joint_step, after_turn, stop_o
 use Rattle.cloak_model.specs.Run.{unless_stopped, turns_from, joint_after, last_stop}
 use Rattle.cloak_machine.specs.declared.machine.Machine.{Machine}
 use Rattle.cloak_machine.specs.Standing.{StandsForMoment}
-use Rattle.run_command.specs.Running.{MadeAll, moment_behind}
+use Rattle.run_command.specs.Running.{MadeAll}
 use Rattle.cloak_model.specs.Run.{NoClashYet}
-use Rattle.run_command.proofs.RunFacts.{last_stop-last, behind_none, behind_last, turns_from-next, turns_from-none, next_unclashed}
+use Rattle.run_command.proofs.RunFacts.{last_stop-last, behind_last, turns_from-next, turns_from-none, next_unclashed}
+use Rattle.record_law.specs.Steps.{moment_after}
+use Rattle.thaw_law.proofs.TwoParts.{after_none}
 
 -- Steps after steps.
 
@@ -18,8 +20,8 @@ pub record GoesOn (machine : Machine) (n budget : ℕ) (m : Moment) : Type 0 whe
   pub made : List Turn
   pub count : length made ≡ n
   pub on : last_stop None made ≡ None
-  pub stands : StandsForMoment machine (moment_behind m made)
-  pub left : turns_from budget m ≡ made ++ turns_from (budget - n) (moment_behind m made)
+  pub stands : StandsForMoment machine (moment_after m made)
+  pub left : turns_from budget m ≡ made ++ turns_from (budget - n) (moment_after m made)
 
 -- no step yet
 pub goes_on-start : (machine : Machine) (budget : ℕ) (m : Moment) → StandsForMoment machine m →
@@ -29,26 +31,26 @@ goes_on-start machine budget m stands = record {
   made = [];
   count = refl;
   on = refl;
-  stands = subst (λ (x : Moment). StandsForMoment machine x) (sym (behind_none m)) stands;
-  left = (λ i. turns_from ((let same : budget ≡ budget - 0 = omega arith in same) i) (sym (behind_none m) i));
+  stands = subst (λ (x : Moment). StandsForMoment machine x) (sym (after_none m)) stands;
+  left = (λ i. turns_from ((let same : budget ≡ budget - 0 = omega arith in same) i) (sym (after_none m) i));
 }
 
 -- What one more step results in, by why it stopped the run.
 record IsMade (machine : Machine) (n budget : ℕ) (m : Moment) (given : Option Stop) : Type 0 where
   made : List Turn
   now : Moment
-  now_is : now ≡ moment_behind m made
+  now_is : now ≡ moment_after m made
   count : length made ≡ n + 1
   last : last_stop None made ≡ given
   stands : StandsForMoment machine now
   left : turns_from budget m ≡ made ++ unless_stopped given (turns_from (budget - (n + 1))) now
 
 is_made : (old new : Machine) (given : Option Stop) (n budget : ℕ) (m : Moment) (on : GoesOn old n budget m) →
-    given ≡ stop_of (joint_step (moment_behind m on.made)) →
-    StandsForMoment new (after_turn (moment_behind m on.made) (joint_step (moment_behind m on.made))) → n < budget →
+    given ≡ stop_of (joint_step (moment_after m on.made)) →
+    StandsForMoment new (after_turn (moment_after m on.made) (joint_step (moment_after m on.made))) → n < budget →
     IsMade new n budget m given
 is_made old new given n budget m on answer stands within =
-    let here = moment_behind m on.made in
+    let here = moment_after m on.made in
     let t = joint_step here in
     record {
       made = on.made ++ t ∷ [];
@@ -67,7 +69,7 @@ is_made old new given n budget m on answer stands within =
     }
 
 pub unclashed-next : (machine : Machine) (n budget : ℕ) (m : Moment) (on : GoesOn machine n budget m) → n < budget →
-    NoClashYet (joint_after m.joint (turns_from budget m)) → NoClashYet (joint_step (moment_behind m on.made)).joint
+    NoClashYet (joint_after m.joint (turns_from budget m)) → NoClashYet (joint_step (moment_after m on.made)).joint
 unclashed-next machine n budget m on within none = next_unclashed n budget m on.made on.left within none
 
 -- one step more that does not stop the run
@@ -85,8 +87,8 @@ goes_on-made new n budget m given goes made = record {
 }
 
 pub goes_on-more : (old new : Machine) (given : Option Stop) (n budget : ℕ) (m : Moment)
-    (on : GoesOn old n budget m) → given ≡ stop_of (joint_step (moment_behind m on.made)) →
-    StandsForMoment new (after_turn (moment_behind m on.made) (joint_step (moment_behind m on.made))) → n < budget →
+    (on : GoesOn old n budget m) → given ≡ stop_of (joint_step (moment_after m on.made)) →
+    StandsForMoment new (after_turn (moment_after m on.made) (joint_step (moment_after m on.made))) → n < budget →
     given ≡ None → GoesOn new (n + 1) budget m
 goes_on-more old new given n budget m on answer stands within goes =
     goes_on-made new n budget m given goes (is_made old new given n budget m on answer stands within)
@@ -105,8 +107,8 @@ stops-made new n budget m given cause stopped made =
     })
 
 pub stops-more : (old new : Machine) (given : Option Stop) (cause : Stop) (n budget : ℕ) (m : Moment)
-    (on : GoesOn old n budget m) → given ≡ stop_of (joint_step (moment_behind m on.made)) →
-    StandsForMoment new (after_turn (moment_behind m on.made) (joint_step (moment_behind m on.made))) →
+    (on : GoesOn old n budget m) → given ≡ stop_of (joint_step (moment_after m on.made)) →
+    StandsForMoment new (after_turn (moment_after m on.made) (joint_step (moment_after m on.made))) →
     given ≡ Some cause → n < budget → MadeAll new (Some cause) m (turns_from budget m)
 stops-more old new given cause n budget m on answer stands stopped within =
     stops-made new n budget m given cause stopped (is_made old new given n budget m on answer stands within)
@@ -117,6 +119,6 @@ pub runs-all : (machine : Machine) (budget n : ℕ) (m : Moment) → GoesOn mach
 runs-all machine budget n m on whole =
     let all : turns_from budget m ≡ on.made =
     on.left ∙ ap (λ (ts : List Turn). on.made ++ ts)
-    (turns_from-none n budget (moment_behind m on.made) whole) ∙ append-nil on.made in
+    (turns_from-none n budget (moment_after m on.made) whole) ∙ append-nil on.made in
     subst (λ (ts : List Turn). MadeAll machine None m ts) (sym all)
     (record { last = sym on.on; stands = on.stands })

@@ -10,26 +10,19 @@ use Rattle.cloak_model.specs.Opening.{RunEdge}
 use Rattle.cloak_model.specs.Report.{report}
 use Rattle.cloak_model.specs.Parts.{Joint}
 use Rattle.cloak_model.specs.Joint.{Moment, Turn}
-use Rattle.cloak_model.specs.Run.{Run, first_moment, joint_after, last_stop, turns_pieces, cause_of, due, any_refused, is_refused}
+use Rattle.cloak_model.specs.Run.{Run, first_moment, last_stop, turns_pieces, cause_of, due, any_refused, is_refused}
 use Rattle.cloak_machine.specs.declared.end.RunEnd.{RunEnd}
 use Rattle.cloak_machine.specs.declared.machine.Machine.{Machine}
 use Rattle.cloak_machine.specs.Ending.{end_is_refused, end_short_report, short_report}
 use Rattle.cloak_machine.specs.Standing.{StandsForMoment}
 use Rattle.command_parts.specs.declared.status.Status.{Status}
 use Rattle.command_parts.specs.declared.status.Status.TheVariants as status
-
--- the moment after these steps
-abbrev pub moment_behind : Moment → List Turn → Moment
-moment_behind m turns = record {
-  schedule = m.schedule;
-  steps = m.steps + length turns;
-  joint = joint_after m.joint turns;
-}
+use Rattle.record_law.specs.Steps.{moment_after}
 
 -- all of these steps were made, and the last of them stopped the run for this cause, if it did
 pub record MadeAll (machine : Machine) (stopped : Option Stop) (m : Moment) (turns : List Turn) : Type 0 where
   pub last : stopped ≡ last_stop None turns
-  pub stands : StandsForMoment machine (moment_behind m turns)
+  pub stands : StandsForMoment machine (moment_after m turns)
 
 -- the pieces of these steps were given, and all of them were made unless the outlet failed
 pub record RunsSteps {E : Type 0} (gave : E → E → List Piece → Type 0) (failed : Bool) (e e' : E) (machine : Machine)

@@ -2,16 +2,12 @@
 ghost use Rattle.std.specs.Prelude.{◌≡◌};
 ghost use Rattle.run_picture.specs.Signs as signs;
 
-use cloak_base::PageId;
+use cloak_base::{EXIT, PageId, TIMER_CAUSE};
 use run_notes::{Look, Mark, MarkKind, Sight};
 use svg_text::Label;
 
-/// The number of the call with which a context ends.
-const EXIT: u32 = 0x4f56_0007;
-/// The causes of a call and of the timer.
+/// The cause of a call.
 const CALLED: u32 = 8;
-
-const TIMER: u32 = 0x8000_0005;
 
 /// A page.
 pub fn put_page(label: &mut Label, page: PageId) {
@@ -154,7 +150,7 @@ pub fn leave_words(label: &mut Label, mark: &Mark) {
                 label.number(u64::from(number));
             }
         },
-        TIMER => label.text("timer"),
+        TIMER_CAUSE => label.text("timer"),
         1 | 12 => label.text("fault: fetch"),
         5 | 13 => label.text("fault: load"),
         7 | 15 => label.text("fault: store"),

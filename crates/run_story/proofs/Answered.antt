@@ -6,7 +6,7 @@ use Rattle.cloak_model.specs.declared.item.Item.{Item}
 use Rattle.cloak_model.specs.declared.fault.BundleFault.{BundleFault}
 use Rattle.cloak_model.specs.BundleFault.{bundle_fault}
 use Rattle.command_parts.specs.Bundles.{IsInFile, ReadsBundle, ReadsJudging}
-use Rattle.command_parts.specs.Outside.{Outside, Output}
+use Rattle.command_parts.specs.Outside.{Outside}
 use Rattle.command_parts.specs.Refusal.{status_of_refusal}
 use Rattle.command_parts.specs.Refusing.{Refuses}
 use Rattle.command_parts.specs.declared.refusal.Refusal.{Refusal}
@@ -153,11 +153,3 @@ shows_untold {S} {O} bundle_name record_name before after b untold.NoMemory answ
     answers_so bundle_name record_name before after answer status.WriteFault front.answer front.faults
 shows_untold {S} {O} bundle_name record_name before after b (untold.Ended ended) answer file lacks shows =
     shows_ending bundle_name record_name before after b ended answer lacks.0 file lacks.1 shows
-
--- there was no memory for the story
-pub shows_want : {O : Type 0} (text : List ℕ) (before after : Output O) (answer : Status) →
-    Refuses before after refusal.NoMemory answer → ShowsStory text before after answer
-shows_want {O} text before after answer (inl line) =
-    subst (λ (s : Status). ShowsStory text before after s) (sym line.answer) tt
-shows_want {O} text before after answer (inr front) =
-    subst (λ (s : Status). ShowsStory text before after s) (sym front.answer) front.faults

@@ -77,17 +77,6 @@ lacks_next b told items i before now story (untold.Ended ending.Whole) counts la
 lacks_next b told items i before now story (untold.Ended (ending.Fault fault)) counts lacks = absurd lacks
 lacks_next b told items i before now story (untold.Ended ending.Unread) counts lacks = absurd lacks
 
--- the page that an item ends with was told, or not
-pub page_of_item : (b : Bundle) (told : Option (List ℕ)) (items : List Item) (i : Item) (before now : ℕ) (story : Story)
-    (r : Result (Unit {0}) Untold) → TellsPage b told (items ++ i ∷ []) before now story r →
-    TellsItem b told items i before now story r
-page_of_item b told items i before now story (Ok done) tells = tells
-page_of_item b told items i before now story (Err untold.NoMemory) tells = tt
-page_of_item b told items i before now story (Err (untold.Ended (ending.Unfit step))) tells = absurd tells
-page_of_item b told items i before now story (Err (untold.Ended ending.Whole)) tells = absurd tells
-page_of_item b told items i before now story (Err (untold.Ended (ending.Fault fault))) tells = absurd tells
-page_of_item b told items i before now story (Err (untold.Ended ending.Unread)) tells = tells
-
 -- the page is told by the lines of what was gathered
 gathered_page : (b : Bundle) (told : Option (List ℕ)) (p : Presented) (d : Deeds) → (g : GathersAgain b told p d) →
     IsPageTold b told p (page_text p (lines_of p d.left_out d.events.items d.origin))

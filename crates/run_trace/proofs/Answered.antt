@@ -12,7 +12,7 @@ use Rattle.command_parts.specs.declared.status.Status.TheVariants as status
 use Rattle.read_back.specs.Reading.{IsReadTo, ShowsRecord}
 use Rattle.read_back.specs.declared.ending.Ending.{Ending}
 use Rattle.record_text.specs.Reading.{status_shown}
-use Rattle.read_back.proofs.Answered.{reads_since}
+use Rattle.read_back.proofs.Answered.{read_since, reads_since}
 use Rattle.run_trace.specs.Answering.{RefusesTrace, ShowsBundle, ShowsSide}
 use Rattle.run_trace.specs.declared.choice.TraceChoice.{TraceChoice}
 
@@ -35,12 +35,6 @@ pub shows_break : {S O : Type 0} {unfit : List Item → Option ℕ} (text : List
     Rose before.output.faults after.output.faults → ShowsRecord unfit text name status.WriteFault before after
 shows_break {S} {O} {unfit} text name before after items ended read front rose =
     inr (refl, record { items = items; ended = ended; read = read; shown = front; faults = rose })
-
-read_since : (unfit : List Item → Option ℕ) (told was : Option (List ℕ)) (m n k : ℕ) (items : List Item)
-    (ended : Option Ending) → told ≡ was → m ≡ n → IsReadTo unfit told m k items ended → IsReadTo unfit was n k items ended
-read_since unfit told was m n k items ended same_told same_count read =
-    subst (λ (t : Option (List ℕ)). IsReadTo unfit t n k items ended) same_told
-    (subst (λ (c : ℕ). IsReadTo unfit told c k items ended) same_count read)
 
 -- the record was shown since the bundle was read
 pub shows_since : {S O : Type 0} {unfit : List Item → Option ℕ} {text : List Item → Option Ending → List ℕ}

@@ -1,12 +1,7 @@
--- A hart by its number.
-use Rattle.std.proofs.Common.{◌≡◌, ◌∙◌, ◌<◌, ◌≤◌, ℕ, List, length, slice_index_or, Option, unwrap_or, sym, ap}
-use Rattle.std.proofs.lemmas.List.{get_or_default}
+-- A number past the harts.
+use Rattle.std.proofs.Common.{◌≡◌, ◌∙◌, ◌≤◌, ℕ, List, length, slice_index_or, Option, unwrap_or, sym, ap}
 use Rattle.std.proofs.lemmas.Option.{slice_get_past, unwrap_or-slice_get}
 use Rattle.cloak_model.specs.Hart.{Hart, started}
-
-pub hart_there : (harts : List Hart) (number : ℕ) (h : Hart) → number < length harts →
-    h ≡ slice_index_or harts number h → slice_index_or harts number (started 0 0) ≡ h
-hart_there harts number h there is = get_or_default harts number (started 0 0) h there ∙ sym is
 
 pub hart_past : (harts : List Hart) (number : ℕ) → length harts ≤ number →
     slice_index_or harts number (started 0 0) ≡ started 0 0

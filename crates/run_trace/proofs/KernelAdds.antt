@@ -6,7 +6,6 @@ use Rattle.cloak_model.specs.Exchange.{Piece}
 use Rattle.cloak_model.specs.KernelAlone as model
 use Rattle.cloak_model.specs.KernelAlone.{kernel_hart, take_kernel_item}
 use Rattle.alone_views.specs.KernelEnding.{EndsAs, ending_in, is_end, plain_ending}
-use Rattle.alone_views.specs.KernelStages.{stood_stage}
 use Rattle.alone_views.specs.KernelStanding.{StandsForKernel, TakesItem, answer_for, unfit_step}
 use Rattle.alone_views.specs.declared.kernel.KernelAlone.{KernelAlone}
 use Rattle.alone_views.specs.declared.unfit.Unfit.{Unfit}
@@ -126,12 +125,6 @@ adds_none {E} {gave} {e} {e'} {old} {new} {now} {given} c turns s i no_end inwar
 }
 
 -- The step that is open.
-
-pub open_of : (c : TraceChoice) (machine : KernelAlone) (turns : List ℕ) (s : model.KernelAlone) (stage : model.KernelStage)
-    (o : Option OpenStep) → stood_stage machine.stage ≡ stage → StandsForKernel machine turns s → o ≡ open_at c stage s →
-    o ≡ open_step c s
-open_of c machine turns s stage o is stands at =
-    at ∙ ap (λ (p : model.KernelStage). open_at c p s) (sym is ∙ sym (ap (λ (t : model.KernelAlone). t.stage) stands.state))
 
 -- the step of this hart, if it is chosen
 is_chosen : (c : TraceChoice) (s : model.KernelAlone) (hart step : ℕ) (b truth : Bool) → step ≡ s.steps →

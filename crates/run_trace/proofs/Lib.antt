@@ -1,4 +1,5 @@
 pub mod Harts
+pub mod Stopped
 pub mod KernelAdds
 pub mod KernelText
 pub mod KernelTraced

@@ -2,6 +2,9 @@ pub mod Choice
 pub mod Silence
 pub mod KernelTrace
 pub mod Tracing
+pub mod Stopping
+pub mod KernelTaking
 pub mod ProgramTrace
 pub mod ProgramTracing
+pub mod ProgramTaking
 pub mod Answering

@@ -9,11 +9,33 @@ ghost use Rattle.run_trace.specs.Tracing.{Traces};
 
 use crate::choice::TraceChoice;
 use crate::kernel_side::trace_item;
+use crate::stop::{TraceStop, go_on};
 use alone_views::KernelAlone;
 use cloak_base::Failed;
+use cloak_model::Item;
 use io_traits::{Shelf, Sink};
-use read_back::Ending;
-use record_reader::{KeptItems, NextFault, Reader};
+use read_back::{Ending, TakeItems, for_each_item};
+
+/// A kernel that runs alone, and the output that shows what its items add.
+#[derive(Drop)]
+struct KernelTrace<'a, O: Sink> {
+    kernel: &'a mut KernelAlone,
+    choice: &'a TraceChoice,
+    out: &'a mut O,
+}
+
+impl<'a, O: Sink> TakeItems for KernelTrace<'a, O> {
+    ghost use Rattle.run_trace.specs.KernelTaking.{TookInTrace};
+
+    type Stop = TraceStop;
+
+    ghost took = { TookInTrace O.Sink };
+
+    fn take_item(&mut self, item: &Item) -> Result<(), TraceStop> {
+        let (shown, taken) = trace_item(self.kernel, self.choice, item, self.out, Ok(()));
+        go_on(shown, taken)
+    }
+}
 
 /// Gives the items of a record to a kernel that runs alone, and shows what they add, up to the first that does not fit,
 /// the first fault, or where the output fails.
@@ -32,22 +54,14 @@ pub fn trace_kernel_items<S: Shelf, O: Sink>(
     ensures files { SameFiles (S.held shelf.old) (S.held shelf.new) }
     ensures writing { S.writing_faults shelf.new ≡ S.writing_faults shelf.old }
 {
-    let mut reader = Reader::open(name);
-    let mut kept = KeptItems::new();
-    loop {
-        match reader.next(shelf, &mut kept) {
-            Ok(Some(tag)) => {
-                let (put, taken) = trace_item(kernel, choice, kept.item(tag), out, Ok(()));
-                if let Err(failed) = put {
-                    return Err(failed);
-                }
-                if let Err(unfit) = taken {
-                    return Ok(Ending::Unfit(unfit.step));
-                }
-            }
-            Ok(None) => return Ok(Ending::Whole),
-            Err(NextFault::Read) => return Ok(Ending::Unread),
-            Err(NextFault::Record(fault)) => return Ok(Ending::Fault(fault)),
-        }
+    let mut tracing = KernelTrace {
+        kernel,
+        choice,
+        out,
+    };
+    match for_each_item(name, shelf, &mut tracing) {
+        Ok(ending) => Ok(ending),
+        Err(TraceStop::Unfit(unfit)) => Ok(Ending::Unfit(unfit.step)),
+        Err(TraceStop::Failed(failed)) => Err(failed),
     }
 }

@@ -18,6 +18,7 @@ mod program_ahead;
 mod program_items;
 mod program_side;
 mod silent;
+mod stop;
 
 pub use choice::TraceChoice;
 pub use command::trace_command;

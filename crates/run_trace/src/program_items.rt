@@ -10,11 +10,48 @@ ghost use Rattle.run_trace.specs.ProgramTracing.{TracesOwn};
 
 use crate::choice::TraceChoice;
 use crate::program_side::trace_program_item;
+use crate::stop::{TraceStop, go_on};
 use alone_views::DomainAlone;
 use cloak_base::Failed;
+use cloak_model::Item;
 use io_traits::{Shelf, Sink};
-use read_back::Ending;
-use record_reader::{KeptItems, NextFault, Reader};
+use read_back::{Ending, TakeItems, for_each_item};
+
+/// The number of a program.
+#[derive(Clone, Copy)]
+struct ProgramNumber {
+    value: u32,
+    ghost below_four: { value < 4 },
+}
+
+/// A program of this number that runs alone, and the output that shows what its items add.
+#[derive(Drop)]
+struct ProgramTrace<'a, O: Sink> {
+    program: &'a mut DomainAlone,
+    number: ProgramNumber,
+    choice: &'a TraceChoice,
+    out: &'a mut O,
+}
+
+impl<'a, O: Sink> TakeItems for ProgramTrace<'a, O> {
+    ghost use Rattle.run_trace.specs.ProgramTaking.{TookInOwn};
+
+    type Stop = TraceStop;
+
+    ghost took = { TookInOwn O.Sink };
+
+    fn take_item(&mut self, item: &Item) -> Result<(), TraceStop> {
+        let (shown, taken) = trace_program_item(
+            self.program,
+            self.number.value,
+            self.choice,
+            item,
+            self.out,
+            Ok(()),
+        );
+        go_on(shown, taken)
+    }
+}
 
 /// Gives the items of a record to a program of this number that runs alone, and shows what they add, up to the first that
 /// does not fit, the first fault, or where the output fails.
@@ -36,29 +73,15 @@ pub fn trace_program_items<S: Shelf, O: Sink>(
     ensures files { SameFiles (S.held shelf.old) (S.held shelf.new) }
     ensures writing { S.writing_faults shelf.new ≡ S.writing_faults shelf.old }
 {
-    let mut reader = Reader::open(name);
-    let mut kept = KeptItems::new();
-    loop {
-        match reader.next(shelf, &mut kept) {
-            Ok(Some(tag)) => {
-                let (put, taken) = trace_program_item(
-                    program,
-                    number,
-                    choice,
-                    kept.item(tag),
-                    out,
-                    Ok(()),
-                );
-                if let Err(failed) = put {
-                    return Err(failed);
-                }
-                if let Err(unfit) = taken {
-                    return Ok(Ending::Unfit(unfit.step));
-                }
-            }
-            Ok(None) => return Ok(Ending::Whole),
-            Err(NextFault::Read) => return Ok(Ending::Unread),
-            Err(NextFault::Record(fault)) => return Ok(Ending::Fault(fault)),
-        }
+    let mut tracing = ProgramTrace {
+        program,
+        number: ProgramNumber { value: number },
+        choice,
+        out,
+    };
+    match for_each_item(name, shelf, &mut tracing) {
+        Ok(ending) => Ok(ending),
+        Err(TraceStop::Unfit(unfit)) => Ok(Ending::Unfit(unfit.step)),
+        Err(TraceStop::Failed(failed)) => Err(failed),
     }
 }

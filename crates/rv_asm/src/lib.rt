@@ -21,3 +21,4 @@ mod words;
 
 pub use assembler::assemble;
 pub use fault::AsmFault;
+pub use words::magnitude;

@@ -171,8 +171,9 @@ fn value(base: u32, text: &[u8]) -> Option<u32>
     Some(n as u32)
 }
 
+/// The number that a text writes: decimal, or hexadecimal after `0x`.
 #[tactic(auto, unfolding(crate::specs::Words::magnitude))]
-fn magnitude(text: &[u8]) -> Option<u32>
+pub fn magnitude(text: &[u8]) -> Option<u32>
     ensures { result ≡ magnitude text.now }
 {
     match text {

@@ -7,7 +7,7 @@ use Rattle.rv_isa.specs.declared.instr.Instr.TheVariants as instr
 use Rattle.cloak_model.specs.declared.outcome.Effect.{Effect}
 use Rattle.cloak_model.specs.declared.outcome.Effect.TheVariants as does
 use Rattle.cloak_model.specs.Effect.{IsWidth, jump, go, branch, offset, load_effect, store_effect, effect}
-use Rattle.cloak_model.proofs.Clashes.{either}
+use Rattle.cloak_base.proofs.Choices.{either}
 
 abbrev pub IsAligned : ℕ → ℕ → Type 0
 IsAligned va width = (va % width ≡ 0) × IsWidth width

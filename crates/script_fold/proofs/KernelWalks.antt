@@ -17,7 +17,7 @@ use Rattle.cloak_model.specs.declared.access.Walked.{Walked}
 use Rattle.cloak_model.specs.declared.outcome.Effect.{Effect}
 use Rattle.cloak_model.specs.declared.outcome.Effect.TheVariants as does
 use Rattle.cloak_model.specs.Ask.{ask_value, ask_store, loaded_at, ask_load, stored_to, ask_store_at, reserved_at, ask_reserve, stored_if, conditional_at, ask_store_conditional, combined_at, ask_combine, ask_count, ask_frame, ask_fill, ask_mark, ask_unmark, ask_marked, opened}
-use Rattle.cloak_model.specs.Asking.{Told, Asking, then_ask}
+use Rattle.cloak_model.specs.Asking.{Asking, then_ask}
 use Rattle.cloak_model.specs.Csr.{satp_of, interrupt_due}
 use Rattle.cloak_model.specs.Effect.{flag, effect}
 use Rattle.cloak_model.specs.Hart.{Hart}
@@ -27,12 +27,7 @@ use Rattle.cloak_model.specs.KernelStep.{access, extended, misaligned, is_ecall,
 use Rattle.cloak_model.specs.Memory.{with_mark}
 use Rattle.cloak_model.specs.Walk.{Walk}
 use Rattle.cloak_model.specs.World.{World, marks_of, with_marks, settled, stored_at, filled_frame}
-use Rattle.script_fold.proofs.Questions.{Opens, keeps_led}
-
-either_kept : (R : World → World → Type 0) {A : Type 0} (b : Bool) (m n : Told A) (w : World) → R w m.world →
-    R w n.world → R w (cond b m n).world
-either_kept R true m n w here there = here
-either_kept R false m n w here there = there
+use Rattle.script_fold.proofs.Questions.{Opens, keeps_either, keeps_led}
 
 -- What a plain step makes of a world.
 pub record Reaches (R : World → World → Type 0) : Type 0 where
@@ -147,13 +142,13 @@ module _ (R : World → World → Type 0) (k : Reaches R) where
   read_block_kept : (h : Hart) (disk : List ℕ) (frames : ℕ) (w : World) → R w (read_block h disk frames w).world
   unfolding read_block
   read_block_kept h disk frames w =
-      either_kept R (is_transfer frames disk (register h.regs 10) (register h.regs 11)) _ _ w
+      keeps_either R (is_transfer frames disk (register h.regs 10) (register h.regs 11)) _ _ w
       (fill_kept (frame_of (register h.regs 11)) (block_at disk (register h.regs 10)) w) (nothing w)
 
   write_block_kept : (h : Hart) (disk : List ℕ) (frames : ℕ) (w : World) → R w (write_block h disk frames w).world
   unfolding write_block
   write_block_kept h disk frames w =
-      either_kept R (is_transfer frames disk (register h.regs 10) (register h.regs 11)) _ _ w
+      keeps_either R (is_transfer frames disk (register h.regs 10) (register h.regs 11)) _ _ w
       (frame_kept (frame_of (register h.regs 11)) w) (nothing w)
 
   read_call_kept : (h : Hart) (disk : List ℕ) (w : World) → R w (read_call h disk w).world
@@ -167,11 +162,11 @@ module _ (R : World → World → Type 0) (k : Reaches R) where
   host_call_kept : (h : Hart) (disk : List ℕ) (w : World) → R w (host_call h disk w).world
   unfolding host_call
   host_call_kept h disk w =
-      either_kept R (register h.regs 17 == 0) _ _ w (nothing w)
-      (either_kept R (register h.regs 17 == 1) _ _ w (nothing w)
-      (either_kept R (register h.regs 17 == 2) _ _ w (read_call_kept h disk w)
-      (either_kept R (register h.regs 17 == 3) _ _ w (write_call_kept h disk w)
-      (either_kept R (register h.regs 17 == 4) _ _ w (nothing w) (nothing w)))))
+      keeps_either R (register h.regs 17 == 0) _ _ w (nothing w)
+      (keeps_either R (register h.regs 17 == 1) _ _ w (nothing w)
+      (keeps_either R (register h.regs 17 == 2) _ _ w (read_call_kept h disk w)
+      (keeps_either R (register h.regs 17 == 3) _ _ w (write_call_kept h disk w)
+      (keeps_either R (register h.regs 17 == 4) _ _ w (nothing w) (nothing w)))))
 
   ecall_in_kept : (mode : Mode) (h : Hart) (disk : List ℕ) (w : World) → R w (ecall_in mode h disk w).world
   unfolding ecall_in
@@ -181,7 +176,7 @@ module _ (R : World → World → Type 0) (k : Reaches R) where
   ecall_kept : (h : Hart) (disk : List ℕ) (w : World) → R w (ecall h disk w).world
   unfolding ecall
   ecall_kept h disk w =
-      either_kept R (register h.regs 17 == 0x4F560000) _ _ w (nothing w) (ecall_in_kept h.mode h disk w)
+      keeps_either R (register h.regs 17 == 0x4F560000) _ _ w (nothing w) (ecall_in_kept h.mode h disk w)
 
   -- instructions
 
@@ -268,7 +263,7 @@ module _ (R : World → World → Type 0) (k : Reaches R) where
   released_kept : (made : SteppedKernel) (w : World) → R w (released made w).world
   unfolding released
   released_kept made w =
-      either_kept R (ends_reservation made.ending) _ _ w (unmark_kept made.hart.id w) (nothing w)
+      keeps_either R (ends_reservation made.ending) _ _ w (unmark_kept made.hart.id w) (nothing w)
 
   pub kernel_keeps : (h : Hart) (disk : List ℕ) (w : World) → R w (kernel_step h disk w).world
   unfolding kernel_step

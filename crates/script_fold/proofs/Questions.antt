@@ -95,7 +95,7 @@ replied_by R k a w = k.written _ w
 pub replies_of : (R : World → World → Type 0) → Kept R → Replies R
 replies_of R k = record { opens = opens_of R k; replied = replied_by R k; told = k.told; unfit = k.unfit }
 
-keeps_either : (R : World → World → Type 0) {A : Type 0} (b : Bool) (m n : Told A) (w : World) → R w m.world → R w n.world → R w (cond b m n).world
+pub keeps_either : (R : World → World → Type 0) {A : Type 0} (b : Bool) (m n : Told A) (w : World) → R w m.world → R w n.world → R w (cond b m n).world
 keeps_either R true m n w p q = p
 keeps_either R false m n w p q = q
 

@@ -1,5 +1,5 @@
 -- No step of a cloaked program changes the page tables that are recorded, nor does what the end of a domain asks.
-use Rattle.std.proofs.Common.{◌≡◌, ◌∙◌, true, false, ℕ, Bool, List, refl, [], Option, Some, None, slice_index_or, if◌then◌else◌}
+use Rattle.std.proofs.Common.{◌≡◌, ◌∙◌, ℕ, Bool, List, refl, Option, Some, None}
 use Rattle.cloak_base.specs.declared.names.PageId.{PageId}
 use Rattle.cloak_model.specs.Events.{Event}
 use Rattle.cloak_model.specs.World.{World, Flat, Cloaked, Alone, noted, stored_at, settled, written, with_plain}
@@ -12,12 +12,12 @@ use Rattle.script_fold.proofs.Folding.{step_keeps}
 use Rattle.script_fold.proofs.Questions.{Kept, settles_of}
 use Rattle.script_fold.proofs.ByQuestions.{kept_by}
 use Rattle.script_fold.proofs.Endings.{keeps_end}
-use Rattle.std.specs.Str.{bytes_eq}
 use Rattle.cloak_base.specs.Random.{Random}
 use Rattle.cloak_model.specs.Ledger.{vector_of}
-use Rattle.cloak_model.specs.Cloaking.{CloakedMemory, AfterSettling, AfterOffer, settle, settle_if, settle_owed, settle_frame_if, owing_frame, owes, owed_in, compared, unless_missed, offer}
+use Rattle.cloak_model.specs.Cloaking.{CloakedMemory, settle, settle_owed, offer}
 use Rattle.script_fold.specs.Tables.{recorded_tables}
 use Rattle.cloak_model.specs.PageMoves.{copy_pages, drop_pages}
+use Rattle.cloak_model.proofs.Offering.{settle_keeps, offer_keeps}
 
 -- the page tables that spaces were first resumed with
 pub record SameRoot (w v : World) : Type 0 where
@@ -34,39 +34,19 @@ unfolding settle_owed
 settle_owed_root f q None m = refl
 settle_owed_root f q (Some draw) m = refl
 
-settle_if_root : (f : ℕ) (owed : Option PageId) (m : CloakedMemory) → (settle_if f owed m).memory.ledger.root ≡ m.ledger.root
-unfolding settle_if
-settle_if_root f None m = refl
-settle_if_root f (Some q) m = settle_owed_root f q (vector_of m.ledger q) m
-
 -- settling records no page table
 pub settle_root : (f : ℕ) (m : CloakedMemory) → (settle f m).memory.ledger.root ≡ m.ledger.root
-unfolding settle
-settle_root f m = settle_if_root f (owed_in m f) m
-
-settle_frame_if_root : (f : Option ℕ) (m : CloakedMemory) → (settle_frame_if f m).memory.ledger.root ≡ m.ledger.root
-settle_frame_if_root None m = refl
-settle_frame_if_root (Some f) m = settle_root f m
-
-either_way : {A : Type 0} (P : A → Type 0) (b : Bool) (x y : A) → P x → P y → P (if b then x else y)
-either_way P true x y here there = here
-either_way P false x y here there = there
-
-compared_root : (q : PageId) (g : ℕ) (write : Bool) (recorded : Option (List ℕ)) (m : CloakedMemory) → (compared q g write recorded m).memory.ledger.root ≡ m.ledger.root
-unfolding compared
-compared_root q g write None m = refl
-compared_root q g write (Some c) m =
-    either_way (λ (o : AfterOffer). o.memory.ledger.root ≡ m.ledger.root) (bytes_eq (slice_index_or m.ram g []) c) _ _ (either_way (λ (x : CloakedMemory). x.ledger.root ≡ m.ledger.root) write _ _ refl refl) refl
-
-unless_missed_root : (s : AfterSettling) (next : CloakedMemory → AfterOffer) → ((m : CloakedMemory) → (next m).memory.ledger.root ≡ m.ledger.root) → (unless_missed s next).memory.ledger.root ≡ s.memory.ledger.root
-unfolding unless_missed
-unless_missed_root s next same = either_way (λ (o : AfterOffer). o.memory.ledger.root ≡ s.memory.ledger.root) s.missed _ _ refl (same s.memory)
+settle_root f m =
+    settle_keeps (λ x. x.ledger.root ≡ m.ledger.root)
+    (λ g q x is same. settle_owed_root g q (vector_of x.ledger q) x ∙ same) f m refl
 
 pub offer_root : (q : PageId) (g : ℕ) (write : Bool) (m : CloakedMemory) → (offer q g write m).memory.ledger.root ≡ m.ledger.root
-unfolding offer
-offer_root q g write m =
-    either_way (λ (o : AfterOffer). o.memory.ledger.root ≡ m.ledger.root) (owes q (owed_in m g)) _ _ refl
-    (unless_missed_root (settle g m) _ (λ m'. unless_missed_root (settle_frame_if (owing_frame m' q) m') _ (λ m''. compared_root q g write (m''.ledger.recorded q) m'') ∙ settle_frame_if_root (owing_frame m' q) m') ∙ settle_root g m)
+offer_root q g write m = offer_keeps {Q = λ x. x.ledger.root ≡ m.ledger.root} (record {
+  settles = λ f p x is same. settle_owed_root f p (vector_of x.ledger p) x ∙ same;
+  compares = λ a b x same. same;
+  takes = λ g' x clean same. same;
+  stays = λ x same. same;
+}) g write m refl
 
 copy_root : (domain from to : ℕ) (m : CloakedMemory) → (copy_pages domain from to m).ledger.root ≡ m.ledger.root
 unfolding copy_pages

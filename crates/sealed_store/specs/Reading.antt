@@ -1,14 +1,9 @@
 -- What stands in the body of a store file that has no fault, and the fields of one file of it.
-use Rattle.std.specs.Prelude.{ℕ, zero, suc, ◌+◌, List, [], ◌∷◌, take, drop, replicate, Option, Some, None, Result, Ok, Err, if◌then◌else◌}
+use Rattle.std.specs.Prelude.{ℕ, zero, suc, ◌+◌, List, [], ◌∷◌, take, drop, replicate, Option, Some, None, if◌then◌else◌}
 use Rattle.cloak_base.specs.declared.names.Meta.{Meta}
 use Rattle.cloak_model.specs.Fields.{number, parts, after_parts}
 use Rattle.cloak_model.specs.StoredFiles.{StoredFile}
 use Rattle.cloak_model.specs.StoreFault.{StoreField, FilesBefore, ruled_at, is_shown, page_fields, after_page, domain_rises, number_rises, pages_fit}
-
--- the fault that was returned, if there was one
-abbrev pub fault_of : {A F : Type 0} → Result A F → Option F
-fault_of (Ok x) = None
-fault_of (Err fault) = Some fault
 
 -- what is known of a page
 abbrev pub page_in : List ℕ → ℕ → Option Meta

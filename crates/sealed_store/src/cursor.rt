@@ -3,7 +3,8 @@ ghost use Rattle.std.specs.Prelude.{◌≡◌, ◌+◌, ◌≤◌, length, take,
 ghost use Rattle.cloak_model.specs.Fields as spec;
 ghost use Rattle.cloak_model.specs.Fields.{fault_in, first_in};
 ghost use Rattle.cloak_model.specs.StoreFault.{any_at, page_fields, after_page};
-ghost use Rattle.sealed_store.specs.Reading.{fault_of, page_in};
+ghost use Rattle.field_facts.specs.Faults.{fault_of};
+ghost use Rattle.sealed_store.specs.Reading.{page_in};
 ghost use Rattle.sealed_store.specs.Moving.{Moves};
 
 use cloak_base::Meta;

@@ -6,7 +6,8 @@ ghost use Rattle.cloak_model.specs.StoredFiles.{page_count};
 ghost use Rattle.cloak_model.specs.StoreFault as format;
 ghost use Rattle.cloak_model.specs.StoreFault.{ruled_at, files_fields, files_end, none_before};
 ghost use Rattle.sealed_store.specs.Moving.{Moves};
-ghost use Rattle.sealed_store.specs.Reading.{fault_of, new_file, file_fields, file_in, after_file, files_in};
+ghost use Rattle.field_facts.specs.Faults.{fault_of};
+ghost use Rattle.sealed_store.specs.Reading.{new_file, file_fields, file_in, after_file, files_in};
 
 use crate::cursor::Cursor;
 use cloak_model::StoreFault;

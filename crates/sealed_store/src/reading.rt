@@ -5,7 +5,8 @@ ghost use Rattle.cloak_model.specs.Fields as spec;
 ghost use Rattle.cloak_model.specs.StoredFiles.{IsStore};
 ghost use Rattle.cloak_model.specs.StoreFault.{form_fault, long_at, body_of, code_of, store_fault};
 ghost use Rattle.cloak_model.specs.Hmac as codes;
-ghost use Rattle.sealed_store.specs.Reading.{fault_of, files_in};
+ghost use Rattle.field_facts.specs.Faults.{fault_of};
+ghost use Rattle.sealed_store.specs.Reading.{files_in};
 
 use crate::cursor::Cursor;
 use crate::files::read_files;

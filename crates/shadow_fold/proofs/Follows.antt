@@ -1,7 +1,7 @@
 -- The table of shadow entries follows the fold over the events.
 use Rattle.std.proofs.Common.{◌≡◌, ◌/◌, ◌==◌, ◌⊎◌, ℕ, nat_le, Bool, true, false, not, ◌&&◌, ◌||◌, List, [], ◌∷◌, length, filter, if◌then◌else◌, Option, Some, None, is_some, inl, inr, refl, sym, ap, subst, ◌∙◌}
 use Rattle.std.specs.List.{list_any}
-use Rattle.std.proofs.lemmas.Bool.{true≢false, false≢true}
+use Rattle.std.proofs.lemmas.Bool.{true≢false, false≢true, and_parts}
 use Rattle.std.proofs.lemmas.Bool.Decides.{eqb_tells}
 use Rattle.cloak_base.specs.Pages.{same_page, is_of}
 use Rattle.cloak_base.specs.declared.names.Frame.{Frame}
@@ -125,10 +125,6 @@ module _ (held : ℕ → Option PageId) (passes : PageId → Bool) where
   eqb_to : (x y : ℕ) → (x == y) ≡ true → x ≡ y
   eqb_to x y e = elim (eqb_tells x y) [ inl h ↦ h.1 | inr h ↦ absurd (false≢true (sym h.0 ∙ e)) ]
 
-  and_true : (a b : Bool) → (a && b) ≡ true → (a ≡ true) × (b ≡ true)
-  and_true true b e = (refl, e)
-  and_true false b e = absurd (false≢true e)
-
   or_true : (a b : Bool) → (a || b) ≡ true → (a ≡ true) ⊎ (b ≡ true)
   or_true true b e = inl refl
   or_true false b e = inr e
@@ -163,7 +159,7 @@ module _ (held : ℕ → Option PageId) (passes : PageId → Bool) where
   some_part : (fs : List Frame) (e : Entry) → ends_by fs e ≡ true → part_holds held passes e ≡ true
   some_part [] e is = absurd (false≢true is)
   some_part (f ∷ fs) e is = elim (or_true _ _ is) [
-    | inl h ↦ let both = and_true _ _ h in part_from f e both.0 both.1
+    | inl h ↦ let both = and_parts _ _ h in part_from f e both.0 both.1
     | inr h ↦ some_part fs e h
   ]
 

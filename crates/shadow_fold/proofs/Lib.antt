@@ -3,4 +3,5 @@ pub mod Counting
 pub mod Finding
 pub mod Follows
 pub mod Keys
+pub mod Looks
 pub mod Rows

@@ -1,76 +1,20 @@
 -- The entry of a miss agrees: it is of the page's start.
-use Rattle.std.proofs.Common.{◌≡◌, ◌∙◌, ℕ, ◌+◌, ◌*◌, ◌/◌, ◌%◌, ◌≤◌, true, not, List, Option, Some, None, Ok, Err, refl, sym, ap, subst, arith, nat_le}
-use Rattle.std.proofs.lemmas.Bool.{leb-true}
-use Rattle.rv_isa.specs.Fields.{bits}
+use Rattle.std.proofs.Common.{◌≡◌, ◌∙◌, ℕ, ◌+◌, ◌*◌, ◌/◌, ◌%◌, ◌≤◌, true, List, Option, Ok, Err, refl, sym, ap, arith, nat_le}
+use Rattle.std.proofs.lemmas.Bool.{leb-true, and_parts}
 use Rattle.cloak_base.specs.declared.names.Kind.{Kind}
 use Rattle.cloak_base.specs.declared.names.PageId.{PageId}
-use Rattle.cloak_model.specs.declared.access.Access.{Access}
 use Rattle.cloak_model.specs.declared.access.Walked.{Walked}
 use Rattle.cloak_base.specs.Constants.{frame_of}
 use Rattle.cloak_model.specs.Memory.{is_in_ram}
-use Rattle.cloak_model.specs.Walk.{Walk, FirstWord, Ends, GoesOn, has_paging, first_entry, is_valid, is_pointer, is_plain_pointer, first_leaf, second_leaf, first_word, second_word, word_in_ram, walk_after, walk}
+use Rattle.cloak_model.specs.Walk.{Walk, walk}
 use Rattle.shadow_fold.specs.declared.entry.Regime.{Regime}
 use Rattle.shadow_fold.specs.declared.entry.Regime.TheVariants.{Outside, Inside}
 use Rattle.shadow_fold.specs.Agreement.{Present, EntryAgrees, TargetAgrees, satp_in, access_in, start_of}
 use Rattle.shadow_fold.specs.Fold.{entry_of}
-use Rattle.shadow_fold.proofs.Keys.{and_true}
 use Rattle.shadow_law.specs.Walks.{moved, page_access}
 use Rattle.shadow_law.specs.Agreeing.{AreOutside}
-use Rattle.shadow_law.proofs.Walks.{walk_of_page, either}
-
--- A walk leads as far into a page as its address stands in one.
-record KeepsPlace (va : ℕ) (walk : Walk) : Type 0 where
-  pub kept : (w : Walked) → walk ≡ Ok w → w.pa % 4096 ≡ va % 4096
-
-kept_ok : (va : ℕ) (v : Walked) → v.pa % 4096 ≡ va % 4096 → KeepsPlace va (Ok v)
-kept_ok va v keeps = record { kept = λ w is. let same : v ≡ w = cc in subst (λ (x : Walked). x.pa % 4096 ≡ va % 4096) same keeps }
-
-kept_err : (va cause : ℕ) → KeepsPlace va (Err cause)
-kept_err va cause = record { kept = λ w is. absurd cc }
-
-first_place : (x va : ℕ) → (4194304 * x + bits va 21 0) % 4096 ≡ va % 4096
-first_place x va = omega arith
-
-second_place : (x va : ℕ) → (4096 * x + bits va 11 0) % 4096 ≡ va % 4096
-second_place x va = omega arith
-
-keeps_first_leaf : (a : Access) (at1 e : ℕ) → KeepsPlace a.va (first_leaf a at1 e)
-unfolding first_leaf
-keeps_first_leaf a at1 e = either (KeepsPlace a.va) _ _ _ (kept_ok a.va _ (first_place (bits e 31 20) a.va)) (kept_err a.va _)
-
-keeps_second : (a : Access) (at1 at0 : ℕ) (word : Option ℕ) → KeepsPlace a.va (second_word a at1 at0 word)
-unfolding second_word second_leaf
-keeps_second a at1 at0 None = kept_err a.va _
-keeps_second a at1 at0 (Some e) = either (KeepsPlace a.va) _ _ _ (kept_ok a.va _ (second_place (bits e 31 10) a.va)) (kept_err a.va _)
-
-record KeepsEnd (va : ℕ) (word : FirstWord) : Type 0 where
-  pub kept : (walk : Walk) → word ≡ Ends walk → KeepsPlace va walk
-
-ends_kept : (va : ℕ) (walk : Walk) → KeepsPlace va walk → KeepsEnd va (Ends walk)
-ends_kept va walk keeps = record { kept = λ w is. let same : walk ≡ w = cc in subst (KeepsPlace va) same keeps }
-
-goes_kept : (va at0 : ℕ) → KeepsEnd va (GoesOn at0)
-goes_kept va at0 = record { kept = λ w is. absurd cc }
-
-keeps_word : (a : Access) (at1 : ℕ) (word : Option ℕ) → KeepsEnd a.va (first_word a at1 word)
-unfolding first_word
-keeps_word a at1 None = ends_kept a.va _ (kept_err a.va _)
-keeps_word a at1 (Some e) =
-    either (KeepsEnd a.va) (not (is_valid e)) _ _ (ends_kept a.va _ (kept_err a.va _))
-    (either (KeepsEnd a.va) (not (is_pointer e)) _ _ (ends_kept a.va _ (keeps_first_leaf a at1 e))
-    (either (KeepsEnd a.va) (is_plain_pointer e) _ _ (goes_kept a.va _) (ends_kept a.va _ (kept_err a.va _))))
-
-keeps_after : (ram : List (List ℕ)) (a : Access) (at1 : ℕ) (word : FirstWord) → KeepsEnd a.va word → KeepsPlace a.va (walk_after ram a at1 word)
-keeps_after ram a at1 (Ends walk) keeps = keeps.kept walk refl
-keeps_after ram a at1 (GoesOn at0) keeps = keeps_second a at1 at0 _
-
-keeps_walk : (ram : List (List ℕ)) (satp : ℕ) (a : Access) → KeepsPlace a.va (walk ram satp a)
-unfolding walk
-keeps_walk ram satp a =
-    let at1 = first_entry satp a.va in
-    either (KeepsPlace a.va) (has_paging satp) _ _
-    (keeps_after ram a at1 (first_word a at1 (word_in_ram ram at1)) (keeps_word a at1 (word_in_ram ram at1)))
-    (kept_ok a.va _ refl)
+use Rattle.shadow_law.proofs.Walks.{walk_of_page}
+use Rattle.cloak_model.proofs.InPage.{keeps_walk}
 
 -- The walk of the page's start.
 
@@ -97,7 +41,7 @@ va_of_access (Outside satp mode sum mxr) va kind = refl
 va_of_access (Inside satp sum mxr space) va kind = refl
 
 in_ram_from : (ram : List (List ℕ)) (pa : ℕ) → is_in_ram ram pa ≡ true → 0x80000000 ≤ pa
-in_ram_from ram pa is = leb-true 0x80000000 pa (and_true (nat_le 0x80000000 pa) _ is).0
+in_ram_from ram pa is = leb-true 0x80000000 pa (and_parts (nat_le 0x80000000 pa) _ is).0
 
 start_place : (from pa va : ℕ) → from + va % 4096 ≡ pa → from % 4096 ≡ 4096 * (va / 4096) % 4096 → 0x80000000 ≤ pa → from ≡ start_of (frame_of pa)
 start_place from pa va further even low = omega (arith, further, even, low)

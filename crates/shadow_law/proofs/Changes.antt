@@ -1,16 +1,13 @@
 -- What an entry depends on, and what each change of memory leaves of it.
-use Rattle.std.proofs.Common.{◌≡◌, ◌≢◌, ◌∙◌, ℕ, ◌*◌, ◌<◌, inl, inr, Bool, true, false, ◌||◌, cond, List, [], length, Option, Some, None, refl, sym, ap, subst, nat_lt}
+use Rattle.std.proofs.Common.{◌≡◌, ◌≢◌, ◌∙◌, ℕ, ◌*◌, ◌<◌, inl, inr, Bool, true, false, List, [], length, Option, Some, None, refl, sym, ap, subst}
 use Rattle.std.specs.Prelude.{◌==◌, slice_index_or, slice_set, IfSome}
-use Rattle.std.specs.List.{position_or_len}
 use Rattle.std.specs.Str.{bytes_eq}
-use Rattle.std.proofs.lemmas.Bool.{false≢true, ltb-true, cases_eq, cases_lt}
+use Rattle.std.proofs.lemmas.Bool.{false≢true, cases_eq, or_parts}
 use Rattle.std.proofs.lemmas.Bool.Decides.{eqb_tells}
-use Rattle.std.proofs.lemmas.List.{get_or-set_same, get_or-set_other, get_or_past, length-set}
-use Rattle.std.proofs.lemmas.List.Sums.{passes_at_first}
-use Rattle.std.proofs.lemmas.Option.{none-some, same_Some}
+use Rattle.std.proofs.lemmas.List.{get_or-set_same, get_or-set_other, length-set}
 use Rattle.cloak_base.specs.Random.{Random}
 use Rattle.cloak_base.specs.Pages.{same_page}
-use Rattle.cloak_base.proofs.Pages.{same_page_tells, same_page-self}
+use Rattle.cloak_base.proofs.Pages.{same_page-self}
 use Rattle.cloak_base.specs.declared.names.Frame.{Frame}
 use Rattle.cloak_base.specs.declared.names.PageId.{PageId}
 use Rattle.cloak_base.specs.declared.names.SpaceId.{SpaceId}
@@ -25,7 +22,12 @@ use Rattle.shadow_fold.specs.Entries.{is_target, is_frame, is_table, sees_space,
 use Rattle.shadow_fold.specs.Fold.{holds, table_holds, part_holds}
 use Rattle.shadow_law.specs.Walks.{IsSame}
 use Rattle.shadow_law.specs.Agreeing.{HeldPages, present, frame, OwedIsHeld}
-use Rattle.shadow_law.proofs.Walks.{either, walk_kept}
+use Rattle.shadow_law.proofs.Walks.{walk_kept}
+use Rattle.cloak_model.proofs.Owing.{owing_at, owed_within}
+use Rattle.cloak_model.proofs.Offering.{OfferKeeps}
+use Rattle.cloak_model.proofs.Offering as fold
+use Rattle.cloak_model.proofs.Settling.{count_settle}
+use Rattle.cloak_base.proofs.Choices.{either}
 
 -- target and table frames of an entry
 pub record EachFrame (P : ℕ → Type 0) (e : Entry) : Type 0 where
@@ -64,15 +66,8 @@ both_parts P Q R e step h k = record {
 
 -- tests that fail
 
-pub or_false : (a b : Bool) → (a || b) ≡ false → (a ≡ false) × (b ≡ false)
-or_false true b e = absurd (false≢true (sym e))
-or_false false b e = (refl, e)
-
 other_number : (x y : ℕ) → (x == y) ≡ false → x ≡ y → ⊥
 other_number x y e same = elim (eqb_tells x y) [ inl h ↦ false≢true (sym e ∙ h.0) | inr h ↦ h.1 same ]
-
-pub number_other : (x y : ℕ) → (x ≡ y → ⊥) → (x == y) ≡ false
-number_other x y other = elim (eqb_tells x y) [ inl h ↦ absurd (other h.1) | inr h ↦ h.0 ]
 
 pub not_frame : (f : ℕ) (o : Option Frame) → is_frame (frame f) o ≡ false → IfSome o (λ g. g.0 ≡ f → ⊥)
 not_frame f None e = tt
@@ -80,7 +75,7 @@ not_frame f (Some g) e = other_number g.0 f e
 
 not_tables : (f : ℕ) (e : Entry) → is_table (frame f) e ≡ false → IfSome e.pt1 (λ g. g.0 ≡ f → ⊥) × IfSome e.pt0 (λ g. g.0 ≡ f → ⊥)
 unfolding is_table
-not_tables f e out = let h = or_false _ _ out in (not_frame f e.pt1 h.0, not_frame f e.pt0 h.1)
+not_tables f e out = let h = or_parts _ _ out in (not_frame f e.pt1 h.0, not_frame f e.pt0 h.1)
 
 pub not_part : (f : ℕ) (e : Entry) → is_target (frame f) e ≡ false → is_table (frame f) e ≡ false → EachFrame (λ x. x ≡ f → ⊥) e
 unfolding is_target
@@ -94,7 +89,7 @@ not_table_held held passes (Some f) e = e
 not_holding : (held : HeldPages) (passes : PageId → Bool) (e : Entry) → part_holds held passes e ≡ false → EachFrame (λ x. holds passes (held x) ≡ false) e
 unfolding part_holds
 not_holding held passes e none =
-    let h = or_false _ _ none in let k = or_false _ _ h.1 in
+    let h = or_parts _ _ none in let k = or_parts _ _ h.1 in
     record { target = h.0; first = not_table_held held passes e.pt1 k.0; second = not_table_held held passes e.pt0 k.1 }
 
 -- A frame that a change spares.
@@ -170,49 +165,15 @@ pub settle_spares : (f x : ℕ) (m : CloakedMemory) → (x ≡ f → ⊥) → Sp
 unfolding settle
 settle_spares f x m other = spares_if f x (owed_in m f) m other
 
-count_owed : (f : ℕ) (q : PageId) (draw : Option (List ℕ × Random)) (m : CloakedMemory) → length (settle_owed f q draw m).memory.ram ≡ length m.ram
-unfolding settle_owed
-count_owed f q None m = length-set m.ram f _
-count_owed f q (Some draw) m = length-set m.ram f _
-
-count_if : (f : ℕ) (o : Option PageId) (m : CloakedMemory) → length (settle_if f o m).memory.ram ≡ length m.ram
-unfolding settle_if
-count_if f None m = refl
-count_if f (Some q) m = count_owed f q (vector_of m.ledger q) m
-
-pub settle_count : (f : ℕ) (m : CloakedMemory) → length (settle f m).memory.ram ≡ length m.ram
-unfolding settle
-settle_count f m = count_if f (owed_in m f) m
-
 pub touch_keeps : (held held' : HeldPages) (m : CloakedMemory) (f : ℕ) (e : Entry) → ((x : ℕ) → x ≢ f → held' x ≡ held x)
     → is_target (frame f) e ≡ false → is_table (frame f) e ≡ false
     → EntryAgrees (present held m) e → EntryAgrees (present held' (settle f m).memory) e
 touch_keeps held held' m f e same target table agrees =
-    keeps held held' m (settle f m).memory e (settle_count f m)
+    keeps held held' m (settle f m).memory e (count_settle f m)
     (map_parts (λ x. x ≡ f → ⊥) (λ x. Spared x m (settle f m).memory × (held' x ≡ held x)) e
     (λ x other. (settle_spares f x m other, same x other)) (not_part f e target table)) agrees
 
 -- Offering.
-
-owes_page : (q : PageId) (o : Option PageId) → owes q o ≡ true → o ≡ Some q
-owes_page q None is = absurd (false≢true is)
-owes_page q (Some p) is = elim (same_page_tells p q) [
-  | inl told ↦ ap Some told.1
-  | inr told ↦ absurd (false≢true (sym told.0 ∙ is))
-]
-
--- the frame that is found to be owed a page
-pub owing_at : (m : CloakedMemory) (q : PageId) (f : ℕ) → owing_frame m q ≡ Some f → owed_in m f ≡ Some q
-owing_at m q f is = by_test (nat_lt at (length m.ledger.owed)) refl is
-  where
-    at : ℕ
-    at = position_or_len (owes q) m.ledger.owed
-
-    by_test : (b : Bool) → nat_lt at (length m.ledger.owed) ≡ b → cond b (Some at) None ≡ Some f → owed_in m f ≡ Some q
-    by_test true low found =
-        let same : at ≡ f = same_Some at f found in
-        ap (owed_in m) (sym same) ∙ owes_page q _ (passes_at_first (owes q) m.ledger.owed None (ltb-true at (length m.ledger.owed) low))
-    by_test false low found = absurd (none-some f found)
 
 pub holds_self : (q : PageId) (o : Option PageId) → o ≡ Some q → holds (same_page q) o ≡ true
 holds_self q o is = ap (holds (same_page q)) is ∙ same_page-self q
@@ -268,37 +229,24 @@ module _ (q : PageId) (x : ℕ) where
 
 -- how many frames there are
 
-count_frame_if : (m : CloakedMemory) (o : Option ℕ) → length (settle_frame_if o m).memory.ram ≡ length m.ram
-count_frame_if m None = refl
-count_frame_if m (Some f) = settle_count f m
+abbrev HasFrames : ℕ → CloakedMemory → Type 0
+HasFrames n m = length m.ram ≡ n
 
-count_taken : (q : PageId) (g : ℕ) (write : Bool) (m : CloakedMemory) → length (taken q g write m).ram ≡ length m.ram
-count_taken q g true m = refl
-count_taken q g false m = refl
+count_owed : (f : ℕ) (q : PageId) (draw : Option (List ℕ × Random)) (m : CloakedMemory) → length (settle_owed f q draw m).memory.ram ≡ length m.ram
+unfolding settle_owed
+count_owed f q None m = length-set m.ram f _
+count_owed f q (Some draw) m = length-set m.ram f _
 
-count_compared : (q : PageId) (g : ℕ) (write : Bool) (o : Option (List ℕ)) (m : CloakedMemory) → length (compared q g write o m).memory.ram ≡ length m.ram
-unfolding compared
-count_compared q g write None m = refl
-count_compared q g write (Some c) m =
-    let there : List ℕ = slice_index_or m.ram g [] in
-    either (λ (o : AfterOffer). length o.memory.ram ≡ length m.ram) (bytes_eq there c) _ _
-    (count_taken q g write (with_comparison there c m)) refl
-
-count_unless : (n : ℕ) (s : AfterSettling) (next : CloakedMemory → AfterOffer) → length s.memory.ram ≡ n → length (next s.memory).memory.ram ≡ n
-    → length (unless_missed s next).memory.ram ≡ n
-unfolding unless_missed
-count_unless n s next one two = either (λ (o : AfterOffer). length o.memory.ram ≡ n) s.missed _ _ one two
+counts : (n : ℕ) (q : PageId) → OfferKeeps q (HasFrames n) (HasFrames n)
+counts n q = record {
+  settles = λ f p m is same. count_owed f p (vector_of m.ledger p) m ∙ same;
+  compares = λ a b m same. same;
+  takes = λ g m clean same. same;
+  stays = λ m same. same;
+}
 
 pub offer_count : (q : PageId) (g : ℕ) (write : Bool) (m : CloakedMemory) → length (offer q g write m).memory.ram ≡ length m.ram
-unfolding offer
-offer_count q g write m =
-    let m1 = (settle g m).memory in
-    let last : CloakedMemory → AfterOffer = λ m''. compared q g write (m''.ledger.recorded q) m'' in
-    let second : length (settle_frame_if (owing_frame m1 q) m1).memory.ram ≡ length m.ram =
-    count_frame_if m1 (owing_frame m1 q) ∙ settle_count g m in
-    either (λ (o : AfterOffer). length o.memory.ram ≡ length m.ram) (owes q (owed_in m g)) _ _ refl
-    (count_unless (length m.ram) (settle g m) (λ m'. unless_missed (settle_frame_if (owing_frame m' q) m') last) (settle_count g m)
-    (count_unless (length m.ram) (settle_frame_if (owing_frame m1 q) m1) last second (count_compared q g write _ _ ∙ second)))
+offer_count q g write m = fold.offer_keeps (counts (length m.ram) q) g write m refl
 
 pub offer_keeps : (held held' : HeldPages) (m : CloakedMemory) (q : PageId) (g : ℕ) (write : Bool) (e : Entry) → OwedIsHeld held m
     → ((x : ℕ) → x ≢ g → held x ≢ Some q → held' x ≡ held x)
@@ -332,12 +280,6 @@ remap_keeps mapped mapped' s e out same has = by_page e.cloaked has
 
 -- A page that a frame holds is changed.
 
-owed_there : (m : CloakedMemory) (f : ℕ) (q : PageId) → owed_in m f ≡ Some q → f < length m.ledger.owed
-owed_there m f q is = elim (cases_lt f (length m.ledger.owed)) [
-  | inl h ↦ h
-  | inr h ↦ absurd (none-some q (sym (get_or_past m.ledger.owed f None h) ∙ is))
-]
-
 pub change_keeps : (held : HeldPages) (m : CloakedMemory) (q : PageId) (g : ℕ) (e : Entry) → held g ≡ Some q
     → EntryAgrees (present held m) e → EntryAgrees (present held (with_owed g (Some q) m)) e
 change_keeps held m q g e here agrees =
@@ -352,7 +294,7 @@ change_keeps held m q g e here agrees =
       h.0,
       λ store. elim (cases_eq e.frame.0 g) [
         | inl same ↦
-            let low = subst (λ x. x < length m.ledger.owed) same (owed_there m e.frame.0 p (h.1 store)) in
+            let low = subst (λ x. x < length m.ledger.owed) same (owed_within m e.frame.0 p (h.1 store)) in
             ap (owed_in m') same ∙ get_or-set_same m.ledger.owed g (Some q) None low ∙ sym here ∙ ap held (sym same) ∙ h.0
         | inr other ↦ get_or-set_other m.ledger.owed g e.frame.0 (Some q) None other ∙ h.1 store
       ],

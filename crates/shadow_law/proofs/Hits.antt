@@ -1,8 +1,8 @@
 -- At a hit the walk gives what the entry says, and settles nothing.
-use Rattle.std.proofs.Common.{◌≡◌, ◌≢◌, ◌∙◌, ℕ, ◌+◌, ◌*◌, ◌/◌, ◌%◌, ◌<◌, ◌≤◌, Bool, true, false, not, ◌&&◌, ◌||◌, cond, List, [], ◌∷◌, ◌++◌, length, Option, Some, None, Ok, Err, refl, sym, ap, subst, arith, nat_le, nat_lt, append_assoc, append-nil}
+use Rattle.std.proofs.Common.{◌≡◌, ◌≢◌, ◌∙◌, ℕ, ◌+◌, ◌*◌, ◌/◌, ◌%◌, ◌<◌, ◌≤◌, Bool, true, false, ◌&&◌, ◌||◌, cond, List, [], ◌∷◌, ◌++◌, length, Option, Some, None, Ok, Err, refl, sym, ap, subst, arith, nat_le, nat_lt, append_assoc, append-nil}
 use Rattle.std.specs.Prelude.{IfSome, slice_index_or}
 use Rattle.std.specs.Str.{bytes_eq}
-use Rattle.std.proofs.lemmas.Bool.{le-leb, lt-ltb}
+use Rattle.std.proofs.lemmas.Bool.{le-leb, lt-ltb, and_right, not_from_true}
 use Rattle.std.proofs.lemmas.Option.{none-some}
 use Rattle.std.proofs.lemmas.Slice.Eq.{bytes_eq-Decides}
 use Rattle.cloak_base.proofs.Pages.{same_page-self}
@@ -17,7 +17,7 @@ use Rattle.cloak_model.specs.Ask.{shown_word, ask_word, ask_walk, ask_in_ram, as
 use Rattle.cloak_model.proofs.WalkParts.{ask_after, ask_first}
 use Rattle.cloak_model.specs.AskPages.{is_store}
 use Rattle.cloak_model.specs.Asking.{Told, answered}
-use Rattle.cloak_model.specs.Cloaking.{CloakedMemory, AfterSettling, AfterOffer, owed_in, owes, owing_frame, settle, settle_if, settle_frame_if, with_comparison, is_clash, taken, compared, unless_missed, offer}
+use Rattle.cloak_model.specs.Cloaking.{CloakedMemory, AfterSettling, AfterOffer, owed_in, owes, owing_frame, settle, settle_frame_if, with_comparison, is_clash, taken, compared, unless_missed, offer}
 use Rattle.cloak_base.specs.Constants.{frame_of}
 use Rattle.cloak_model.specs.Memory.{is_in_ram, value_at}
 use Rattle.cloak_model.specs.Walk.{Walk, FirstWord, Ends, GoesOn, has_paging, without_paging, frame_at, first_entry, first_word, second_word, word_in_ram, walk, access_fault}
@@ -29,13 +29,10 @@ use Rattle.shadow_law.specs.Walks.{listed, tables_of, moved}
 use Rattle.shadow_law.specs.Agreeing.{HeldPages, present, OwedIsHeld, CleanIsShown, entry_walk, touches}
 use Rattle.shadow_law.proofs.Walks.{Leads, Bare, One, Two, listed_one, listed_two, walk_leads, walk_of_page}
 use Rattle.shadow_law.proofs.Born.{page_of_access, va_of_access}
-use Rattle.shadow_law.proofs.Changes.{owing_at}
+use Rattle.cloak_model.proofs.Owing.{owing_at}
+use Rattle.cloak_model.proofs.Settling.{settle_unowed}
 
 -- A frame that is owed nothing is settled by doing nothing.
-
-pub untouched : (f : ℕ) (m : CloakedMemory) → owed_in m f ≡ None → settle f m ≡ record { memory = m; ciphers = []; missed = false }
-unfolding settle settle_if
-untouched f m clean = ap (λ (o : Option PageId). settle_if f o m) clean
 
 -- the memory with these events more
 abbrev after : List Event → MidStep → MidStep
@@ -43,7 +40,7 @@ after events c = record c { events = c.events ++ events }
 
 still : (f : ℕ) (c : MidStep) → owed_in c.memory f ≡ None → settled f (Cloaked c) ≡ Cloaked (after (Touch f ∷ []) c)
 still f c clean =
-    ap (λ (s : AfterSettling). Cloaked (record (after (Touch f ∷ []) c) { memory = s.memory; items = c.items ++ cipher_items s.ciphers })) (untouched f c.memory clean)
+    ap (λ (s : AfterSettling). Cloaked (record (after (Touch f ∷ []) c) { memory = s.memory; items = c.items ++ cipher_items s.ciphers })) (settle_unowed f c.memory clean)
     ∙ ap (λ (items : List Item). Cloaked (record (after (Touch f ∷ []) c) { items = items })) (append-nil c.items)
 
 word_still : (at : ℕ) (c : MidStep) → is_in_ram c.memory.ram at ≡ true → owed_in c.memory (frame_of at) ≡ None
@@ -180,12 +177,8 @@ no_owing q m none = by_found (owing_frame m q) refl
 self_equal : (c : List ℕ) → bytes_eq c c ≡ true
 self_equal c = (bytes_eq-Decides c c).1 refl
 
-absent : (x b : Bool) → b ≡ true → (x && not b) ≡ false
-absent true b e = ap not e
-absent false b e = refl
-
 no_clash : (c : List ℕ) → is_clash c c ≡ false
-no_clash c = absent _ (bytes_eq c c) (self_equal c)
+no_clash c = and_right _ _ (not_from_true (bytes_eq c c) (self_equal c))
 
 or_none : (b : Bool) → (b || false) ≡ b
 or_none true = refl
@@ -213,7 +206,7 @@ clean_offer q g write m clean newest shown =
     let last : CloakedMemory → AfterOffer = λ m''. compared q g write (m''.ledger.recorded q) m'' in
     let second : CloakedMemory → AfterOffer = λ m'. unless_missed (settle_frame_if (owing_frame m' q) m') last in
     ap (λ (o : Option PageId). cond (owes q o) (silent_offer true m) (unless_missed (settle g m) second)) clean
-    ∙ (ap (λ (s : AfterSettling). unless_missed s second) (untouched g m clean)
+    ∙ (ap (λ (s : AfterSettling). unless_missed s second) (settle_unowed g m clean)
     ∙ (ap (λ (o : Option ℕ). unless_missed (record { memory = m; ciphers = []; missed = false }) (λ (m' : CloakedMemory). unless_missed (settle_frame_if o m') last)) (no_owing q m newest)
     ∙ clean_compared q g write m shown))
 

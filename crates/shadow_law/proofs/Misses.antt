@@ -1,8 +1,8 @@
 -- What a miss makes live agrees: its walk stays as it was, after what the access does then.
-use Rattle.std.proofs.Common.{◌≡◌, ◌∙◌, ℕ, ◌/◌, inl, inr, Bool, true, false, List, [], length, Option, Some, None, Ok, refl, sym, ap, subst}
+use Rattle.std.proofs.Common.{◌≡◌, ◌∙◌, ℕ, ◌/◌, inl, inr, Bool, true, false, List, length, Option, Some, None, Ok, refl, sym, ap, subst}
 use Rattle.std.specs.Prelude.{IfSome}
 use Rattle.std.specs.List.{All}
-use Rattle.std.proofs.lemmas.Bool.{cases_eq}
+use Rattle.std.proofs.lemmas.Bool.{cases_eq, or_parts}
 use Rattle.std.proofs.lemmas.Option.{none-some}
 use Rattle.cloak_base.specs.Pages.{same_page}
 use Rattle.cloak_base.specs.declared.names.Frame.{Frame}
@@ -16,11 +16,10 @@ use Rattle.cloak_model.specs.AskPages.{is_store}
 use Rattle.cloak_model.specs.Asking.{Told}
 use Rattle.cloak_model.specs.Cloaking.{CloakedMemory, AfterSettling, owed_in, settle, offer}
 use Rattle.cloak_base.specs.Constants.{frame_of, is_in_frames}
-use Rattle.cloak_model.specs.Memory.{Seen, is_in_ram}
+use Rattle.cloak_model.specs.Memory.{is_in_ram}
 use Rattle.cloak_model.specs.Walk.{Walk, walk}
 use Rattle.cloak_model.specs.World.{World, MidStep, Flat, Cloaked, Alone, unnoted}
-use Rattle.cloak_model.proofs.FlatWalk.{ask_walk-flat}
-use Rattle.settling_ahead.proofs.Plans.{answer_in, along, paid, follow-flat, follow-cloaked, count_along}
+use Rattle.settling_ahead.proofs.Plans.{answer_in, along, paid, follow-cloaked, count_along}
 use Rattle.settling_ahead.proofs.Planning.{plan_walk, walk_planned}
 use Rattle.shadow_fold.specs.declared.entry.Entry.{Entry}
 use Rattle.shadow_fold.specs.declared.entry.Regime.{Regime}
@@ -34,20 +33,13 @@ use Rattle.shadow_law.specs.Walks.{IsSame}
 use Rattle.shadow_law.specs.Agreeing.{HeldPages, present, frame, OwedIsHeld, AreOutside}
 use Rattle.shadow_law.specs.Misses.{StayOutsideBut}
 use Rattle.shadow_law.proofs.Walks.{walk_kept, walk_within, low_frame}
-use Rattle.shadow_law.proofs.Changes.{Spared, or_false, map_some, both_some, not_frame}
-use Rattle.shadow_law.proofs.Changes.{settle_spares, settle_count, offer_spares, offer_count}
-use Rattle.shadow_law.proofs.Hits.{untouched}
+use Rattle.shadow_law.proofs.Changes.{Spared, map_some, both_some, not_frame}
+use Rattle.shadow_law.proofs.Changes.{settle_spares, offer_spares, offer_count}
 use Rattle.shadow_law.proofs.Born.{born_agrees}
+use Rattle.cloak_model.proofs.Settling.{settle_unowed, count_settle}
+use Rattle.settling_ahead.proofs.Reached.{walk_answer}
 
 -- A walk by its words, each settled first.
-
-walk_answer : (ram : List (List ℕ)) (satp : ℕ) (a : Access) → answer_in (plan_walk (length ram) satp a) ram ≡ walk ram satp a
-walk_answer ram satp a =
-    let p = plan_walk (length ram) satp a in
-    let seen : Seen = record { ram = ram; marks = [] } in
-    ap (λ (told : Told Walk). told.answer) (sym (follow-flat p seen))
-    ∙ ap (λ (told : Told Walk). told.answer) (sym (walk_planned (length ram) satp a (Flat seen) refl))
-    ∙ ap (λ (told : Told Walk). told.answer) (ask_walk-flat satp a seen)
 
 -- a world that is this memory but for its events
 quiet_memory : (w : World) (d : MidStep) → unnoted w ≡ unnoted (Cloaked d) → (c' : MidStep) × (w ≡ Cloaked c') × (c'.memory ≡ d.memory)
@@ -98,9 +90,9 @@ settled_walk held m f satp a w owed out leads = by_owed (owed_in m f) refl
         (λ x none. settle_spares f x.0 m (λ same. none-some q (sym none ∙ ap held same ∙ owed f q is)))
 
     by_owed : (o : Option PageId) → owed_in m f ≡ o → walk (settle f m).memory.ram satp a ≡ Ok w
-    by_owed None is = subst (λ (s : AfterSettling). walk s.memory.ram satp a ≡ Ok w) (sym (untouched f m is)) leads
+    by_owed None is = subst (λ (s : AfterSettling). walk s.memory.ram satp a ≡ Ok w) (sym (settle_unowed f m is)) leads
     by_owed (Some q) is =
-        walk_stays m m' satp a w (settle_count f m) (spared q is w.pt1 out.first) (spared q is w.pt0 out.second) leads
+        walk_stays m m' satp a w (count_settle f m) (spared q is w.pt1 out.first) (spared q is w.pt0 out.second) leads
 
 pub offered_walk : (held : HeldPages) (m : CloakedMemory) (q : PageId) (g : ℕ) (write : Bool) (satp : ℕ) (a : Access) (w : Walked)
     → OwedIsHeld held m → AreOutside held w → is_frame (frame g) w.pt1 ≡ false → is_frame (frame g) w.pt0 ≡ false
@@ -124,7 +116,7 @@ pub open_entry_agrees : (held held' : HeldPages) (m : CloakedMemory) (regime : R
 open_entry_agrees held held' m regime va kind w leads inside owed out stay target =
     born_agrees (present held' m') regime va kind w None
     (settled_walk held m (frame_of w.pa) (satp_in regime) (access_in regime va kind) w owed out leads)
-    (subst (λ n. is_in_frames n w.pa ≡ true) (sym (settle_count (frame_of w.pa) m)) inside)
+    (subst (λ n. is_in_frames n w.pa ≡ true) (sym (count_settle (frame_of w.pa) m)) inside)
     (record { first = stays w.pt1 out.first; second = stays w.pt0 out.second }) target
   where
     m' : CloakedMemory
@@ -144,7 +136,7 @@ pub page_entry_agrees : (held held' : HeldPages) (m : CloakedMemory) (regime : R
     → held' g ≡ Some q → (kind ≡ Store → owed_in m' g ≡ Some q) → EntryAgrees (present held' m') e
 unfolding is_table
 page_entry_agrees held held' m regime va kind w q leads inside owed out apart stay here stored =
-    let others = or_false (is_frame (frame (frame_of w.pa)) w.pt1) (is_frame (frame (frame_of w.pa)) w.pt0) apart in
+    let others = or_parts (is_frame (frame (frame_of w.pa)) w.pt1) (is_frame (frame (frame_of w.pa)) w.pt0) apart in
     let other1 = others.0 in let other0 = others.1 in
     born_agrees (present held' m') regime va kind w (Some q)
     (offered_walk held m q g (is_store kind) (satp_in regime) (access_in regime va kind) w owed out other1 other0 leads)

@@ -3,7 +3,7 @@ use Rattle.std.proofs.Common.{◌≡◌, ◌≢◌, ◌∙◌, ℕ, inl, inr, Bo
 use Rattle.std.specs.Prelude.{slice_index_or}
 use Rattle.std.specs.List.{All}
 use Rattle.std.specs.Str.{bytes_eq}
-use Rattle.std.proofs.lemmas.Bool.{false≢true}
+use Rattle.std.proofs.lemmas.Bool.{false≢true, or_parts}
 use Rattle.std.proofs.lemmas.Option.{none-some}
 use Rattle.cloak_base.specs.Pages.{same_page}
 use Rattle.cloak_base.proofs.Pages.{same_page_tells}
@@ -20,8 +20,9 @@ use Rattle.shadow_fold.specs.Table.{Table, ending, killed}
 use Rattle.shadow_fold.proofs.Agreeing.{keeps_ending}
 use Rattle.shadow_fold.proofs.Follows.{ending_twice, ending_none}
 use Rattle.shadow_law.specs.Agreeing.{HeldPages, present, frame, OwedIsHeld, CleanIsShown, ChangeKeeps}
-use Rattle.shadow_law.proofs.Changes.{EachFrame, Spared, all_parts, map_parts, keeps, not_part, or_false, offer_spares, offer_count, write_keeps, touch_keeps, remap_keeps}
-use Rattle.shadow_law.proofs.Hits.{untouched, owed_offer, no_owing, clean_offer, silent_offer}
+use Rattle.shadow_law.proofs.Changes.{EachFrame, Spared, all_parts, map_parts, keeps, not_part, offer_spares, offer_count, write_keeps, touch_keeps, remap_keeps}
+use Rattle.shadow_law.proofs.Hits.{owed_offer, no_owing, clean_offer, silent_offer}
+use Rattle.cloak_model.proofs.Settling.{settle_unowed}
 
 -- all entries keep it if none ends
 keeps_all : (P Q : Entry → Type 0) (t : Table) → ((e : Entry) → P e → Q e) → All P t.live → All Q t.live
@@ -33,7 +34,7 @@ keeps_killed : (P Q : Entry → Type 0) (f : ℕ) (t : Table) → ((e : Entry) �
 keeps_killed P Q f t step all =
     subst (λ (u : Table). All Q u.live) (sym (ending_twice (is_target (frame f)) (is_table (frame f)) t))
     (keeps_ending P Q (λ e. is_target (frame f) e || is_table (frame f) e) t
-    (λ e stays. let h = or_false (is_target (frame f) e) (is_table (frame f) e) stays in step e h.0 h.1) all)
+    (λ e stays. let h = or_parts (is_target (frame f) e) (is_table (frame f) e) stays in step e h.0 h.1) all)
 
 pub write_agrees : (held : HeldPages) (m : CloakedMemory) (f : ℕ) (bytes : List ℕ) (t : Table) → Agrees (present held m) t
     → Agrees (present held (with_shown_frame f bytes m)) (ending (is_table (frame f)) t)
@@ -47,14 +48,14 @@ touch_agrees held held' m f t same = keeps_killed (EntryAgrees (present held m))
 
 -- Offers.
 
-held_page : (q : PageId) (o : Option PageId) → holds (same_page q) o ≡ true → o ≡ Some q
+pub held_page : (q : PageId) (o : Option PageId) → holds (same_page q) o ≡ true → o ≡ Some q
 held_page q None is = absurd (false≢true is)
 held_page q (Some p) is = elim (same_page_tells q p) [
   | inl told ↦ ap Some (sym told.1)
   | inr told ↦ absurd (false≢true (sym told.0 ∙ is))
 ]
 
-not_holding_page : (q : PageId) (o : Option PageId) → o ≢ Some q → holds (same_page q) o ≡ false
+pub not_holding_page : (q : PageId) (o : Option PageId) → o ≢ Some q → holds (same_page q) o ≡ false
 not_holding_page q o other = by_test (holds (same_page q) o) refl
   where
     by_test : (b : Bool) → holds (same_page q) o ≡ b → b ≡ false
@@ -101,7 +102,7 @@ plain_offer q g write m clean none =
     let last : CloakedMemory → AfterOffer = λ m''. compared q g write (m''.ledger.recorded q) m'' in
     let second : CloakedMemory → AfterOffer = λ m'. unless_missed (settle_frame_if (owing_frame m' q) m') last in
     ap (λ (o : Option PageId). cond (owes q o) (silent_offer true m) (unless_missed (settle g m) second)) clean
-    ∙ (ap (λ (s : AfterSettling). unless_missed s second) (untouched g m clean)
+    ∙ (ap (λ (s : AfterSettling). unless_missed s second) (settle_unowed g m clean)
     ∙ ap (λ (o : Option ℕ). unless_missed (record { memory = m; ciphers = []; missed = false }) (λ (m' : CloakedMemory). unless_missed (settle_frame_if o m') last)) (no_owing q m none))
 
 pub refuse_agrees : (held : HeldPages) (m : CloakedMemory) (q : PageId) (g : ℕ) (write : Bool) (t : Table) → OwedIsHeld held m

@@ -1,7 +1,7 @@
 -- A walk by its words.
 use Rattle.std.proofs.Common.{◌≡◌, ◌∙◌, ℕ, ◌+◌, ◌*◌, ◌/◌, ◌%◌, ◌<◌, inl, inr, ◌⊎◌, Bool, true, false, not, ◌&&◌, cond, List, [], ◌∷◌, ◌++◌, length, Option, Some, None, Ok, Err, refl, sym, ap, subst, arith}
 use Rattle.std.specs.Prelude.{◌==◌, slice_index_or, IfSome}
-use Rattle.std.proofs.lemmas.Bool.{ltb-true}
+use Rattle.std.proofs.lemmas.Bool.{ltb-true, and_parts}
 use Rattle.cloak_base.specs.declared.names.Frame.{Frame}
 use Rattle.cloak_model.specs.declared.access.Access.{Access}
 use Rattle.cloak_model.specs.declared.access.Walked.{Walked}
@@ -9,13 +9,8 @@ use Rattle.cloak_base.specs.Constants.{frame_of, place_of, is_in_frames}
 use Rattle.cloak_model.specs.Memory.{is_in_ram, value_in, value_at}
 use Rattle.cloak_model.specs.Walk.{Walk, FirstWord, Ends, GoesOn, has_paging, without_paging, frame_at, first_entry, second_entry, is_valid, is_pointer, is_plain_pointer, allows, page_fault, first_leaf, second_leaf, first_word, second_word, word_in_ram, walk_after, walk, table_at, tables_after, walk_tables}
 use Rattle.rv_isa.specs.Fields.{bits}
-use Rattle.shadow_fold.proofs.Keys.{and_true}
 use Rattle.shadow_law.specs.Walks.{listed, tables_of, IsBelow, IsSame, HaveSameTables, moved, page_access}
-
--- a test, with its value
-pub decided : (b : Bool) → (b ≡ true) ⊎ (b ≡ false)
-decided true = inl refl
-decided false = inr refl
+use Rattle.cloak_base.proofs.Choices.{either}
 
 ok_same : (v w : Walked) → (let x : Walk = Ok v in x) ≡ Ok w → v ≡ w
 ok_same v w e = cc
@@ -45,10 +40,6 @@ FirstNames a at1 first w = first ≡ Ends (Ok w) → (w.pt1 ≡ Some (frame_at a
 
 ends_same : (v w : Walk) → Ends v ≡ Ends w → v ≡ w
 ends_same v w e = cc
-
-pub either : {A : Type 0} (P : A → Type 0) (b : Bool) (x y : A) → P x → P y → P (cond b x y)
-either P true x y here there = here
-either P false x y here there = there
 
 no_fault : (a : Access) (at1 cause : ℕ) (w : Walked) → FirstNames a at1 (Ends (Err cause)) w
 unfolding FirstNames
@@ -300,7 +291,7 @@ walk_of_page ram satp a =
 -- Frames of RAM.
 
 pub low_frame : (ram : List (List ℕ)) (at : ℕ) → is_in_ram ram at ≡ true → frame_of at < length ram
-low_frame ram at is = ltb-true (frame_of at) (length ram) (and_true _ _ is).1
+low_frame ram at is = ltb-true (frame_of at) (length ram) (and_parts _ _ is).1
 
 below_none : (n : ℕ) (o : Option Frame) → o ≡ None → IsBelow n o
 below_none n o is = subst (IsBelow n) (sym is) tt

@@ -2,7 +2,7 @@
 use Rattle.std.proofs.Common.{◌≡◌, ◌∙◌, ℕ, zero, suc, Bool, true, false, ◌||◌, List, [], ◌∷◌, ◌++◌, length, map, Option, Some, None, inl, inr, refl, sym, ap, arith}
 use Rattle.std.specs.Prelude.{◌<◌, slice_get, unwrap_or}
 use Rattle.std.specs.List.{list_any}
-use Rattle.std.proofs.lemmas.Bool.{false≢true, cases_lt}
+use Rattle.std.proofs.lemmas.Bool.{false≢true, cases_lt, or_parts}
 use Rattle.std.proofs.lemmas.List.{get_or_past, map-append}
 use Rattle.std.proofs.lemmas.List.Folds.{list_any-append}
 use Rattle.cloak_base.specs.declared.names.PageId.{PageId}
@@ -26,7 +26,7 @@ use Rattle.space_law.specs.Mapping.{page_of, mapped_in, StepKeepsPages, StepMake
 use Rattle.space_law.proofs.Mapped.{mapped_turn}
 use Rattle.space_law.proofs.Questions.{Maps, map_settles, maps_forget, are_append}
 use Rattle.space_law.proofs.Regions.{page_kept}
-use Rattle.space_law.proofs.Turns.{Has, IsUnchanged, left_false, same_self, set_page, turn_has}
+use Rattle.space_law.proofs.Turns.{Has, IsUnchanged, same_self, set_page, turn_has}
 
 -- Entries.
 
@@ -80,11 +80,6 @@ step_makes_mapped j number whole =
 
 -- Pages.
 
--- neither of two tests passed
-right_false : (a b : Bool) → (a || b) ≡ false → b ≡ false
-right_false true b out = absurd (false≢true (sym out))
-right_false false b out = out
-
 module _ (s : SpaceId) where
   -- a number below another one is told of
   named : (d n : ℕ) → s.domain ≡ d → s.number < n →
@@ -137,12 +132,12 @@ module _ (s : SpaceId) where
     step_out : (d : ℕ) (domain : Domain) (changed : List SpaceId) → IsUnchanged s va q (changed ++ spaces_of d domain) →
         IsUnchanged s va q changed
     step_out d domain changed out =
-        left_false _ _ (sym (list_any-append (λ x. same_space x s) changed (spaces_of d domain)) ∙ out)
+        (or_parts _ _ (sym (list_any-append (λ x. same_space x s) changed (spaces_of d domain)) ∙ out)).0
 
     end_out : (d : ℕ) (domain : Domain) (changed : List SpaceId) → IsUnchanged s va q (changed ++ spaces_of d domain) →
         IsUnchanged s va q (spaces_of d domain)
     end_out d domain changed out =
-        right_false _ _ (sym (list_any-append (λ x. same_space x s) changed (spaces_of d domain)) ∙ out)
+        (or_parts _ _ (sym (list_any-append (λ x. same_space x s) changed (spaces_of d domain)) ∙ out)).1
 
     -- a step that asked this, and what follows it
     module _ (a : AskedByStep) (t : Turn) (step : IsUnchanged s va q a.changed → Has s va q t.joint) where

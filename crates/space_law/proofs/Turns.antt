@@ -2,7 +2,7 @@
 use Rattle.std.proofs.Common.{◌≡◌, ◌∙◌, ℕ, zero, suc, Bool, true, false, ◌||◌, List, [], ◌∷◌, Option, Some, None, Result, Ok, Err, refl, sym, ap, subst, eq-eqb}
 use Rattle.std.specs.Prelude.{slice_get, slice_set, ◌&&◌, nat_eq}
 use Rattle.std.specs.List.{list_any}
-use Rattle.std.proofs.lemmas.Bool.{false≢true}
+use Rattle.std.proofs.lemmas.Bool.{false≢true, or_parts}
 use Rattle.cloak_base.specs.declared.names.PageId.{PageId}
 use Rattle.cloak_base.specs.declared.names.SpaceId.{SpaceId}
 use Rattle.cloak_model.specs.declared.context.ResumeFault.{ResumeFault}
@@ -43,10 +43,6 @@ set_page (x ∷ domains) zero (suc d) was now space va q there step has = has
 set_page (x ∷ domains) (suc i) zero was now space va q there step has = has
 set_page (x ∷ domains) (suc i) (suc d) was now space va q there step has =
     set_page domains i d was now space va q there (λ same. step (ap suc same)) has
-
-pub left_false : (a b : Bool) → (a || b) ≡ false → a ≡ false
-left_false true b out = absurd (false≢true (sym out))
-left_false false b out = refl
 
 pub same_self : (s : SpaceId) → same_space s s ≡ true
 same_self s = (λ i. eq-eqb s.domain s.domain refl i && nat_eq s.number s.number) ∙ eq-eqb s.number s.number refl
@@ -143,7 +139,7 @@ module _ (s : SpaceId) (va : ℕ) (q : PageId) where
   other_space d space out at same =
       let changed : SpaceId = record { domain = d; number = space } in
       false≢true
-      (sym (left_false _ false out)
+      (sym (or_parts _ false out).0
       ∙ (λ i. same_space changed (record { domain = at i; number = same i }))
       ∙ same_self changed)
 

@@ -9,6 +9,7 @@ use crate::columns::{put_front, put_word_columns};
 use crate::contexts::{ContextAhead, ContextSight, LastAnswer, ReachedPage};
 use crate::effects::{EffectsSoFar, put_gap, put_pad};
 use crate::endings::is_ecall_word;
+use cloak_base::EXIT;
 use cloak_model::Phase;
 use io_traits::Sink;
 use kernel_report::lines::{SoFar, decimal, hexadecimal, text};
@@ -26,7 +27,7 @@ fn hypercall_name(number: u32) -> &'static str
         0x4f56_0004 => "FILE",
         0x4f56_0005 => "THREAD",
         0x4f56_0006 => "FORK",
-        0x4f56_0007 => "EXIT",
+        EXIT => "EXIT",
         0x4f56_0008 => "CALL",
         _ => "that is none:",
     }

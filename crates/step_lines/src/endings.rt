@@ -8,6 +8,7 @@ use crate::ahead::HartAhead;
 use crate::changes::put_changes;
 use crate::effects::{EffectsSoFar, put_gap};
 use crate::sight::HartSight;
+use cloak_base::TIMER_CAUSE;
 use cloak_model::Kernel;
 use io_traits::Sink;
 use kernel_report::lines::{SoFar, decimal, hexadecimal, text};
@@ -79,7 +80,7 @@ fn put_host_call<O: Sink>(out: &mut O, at: EffectsSoFar, a: &HartAhead) -> Effec
 fn tells_value(cause: u32) -> bool
     ensures { result ≡ spec.tells_value cause }
 {
-    !matches!(cause, 3 | 8 | 0x8000_0005)
+    !matches!(cause, 3 | 8 | TIMER_CAUSE)
 }
 
 /// What a trap tells in `stval`, if it tells something.
@@ -173,7 +174,7 @@ fn is_interrupt(now: &HartSight, ending: Kernel) -> bool
     ensures { result ≡ spec.is_interrupt now.now ending }
 {
     match ending {
-        Kernel::Trapped => now.csrs[5] == 0x8000_0005,
+        Kernel::Trapped => now.csrs[5] == TIMER_CAUSE,
         Kernel::Stay => false,
         Kernel::Put(_) => false,
         Kernel::Halt(_) => false,

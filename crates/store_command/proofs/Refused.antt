@@ -18,7 +18,7 @@ use Rattle.command_parts.specs.Storing as given
 use Rattle.command_parts.specs.Storing.{AsksStored, IsOld, IsSecret, StoreSources, secret_length}
 use Rattle.command_parts.specs.Bundles.{IsInFileAs}
 use Rattle.command_parts.specs.Streams.{IsStream}
-use Rattle.command_parts.proofs.Refused.{is_some_bundle, no_file}
+use Rattle.command_parts.proofs.Refused.{is_some_bundle, no_file, no_memory}
 use Rattle.run_command.proofs.PrepareFacts.{stream_before}
 use Rattle.store_command.specs.declared.secret.Secret.{Secret}
 use Rattle.store_command.specs.Preparing.{ReadsOld, ReadsSecret, refused_by}
@@ -115,12 +115,6 @@ no_old {S} names counter steps randomness (refusal.NoRoom domain) before after t
 no_old {S} names counter steps randomness (refusal.BadState fault) before after told reading version bytes bundle secret table file has is same reads not_first of_file low held writing = absurd reads
 no_old {S} names counter steps randomness (refusal.ChangedDomain domain) before after told reading version bytes bundle secret table file has is same reads not_first of_file low held writing = absurd reads
 no_old {S} names counter steps randomness (refusal.ChangedFrame frame) before after told reading version bytes bundle secret table file has is same reads not_first of_file low held writing = absurd reads
-
--- there was no memory
-pub no_memory : {S : Type 0} (asked : spec.Asked) (before after : FilesOutside S) → after.reading ≡ before.reading →
-    SameFiles before.held after.held → after.writing ≡ before.writing → NoRun asked refusal.NoMemory before after
-no_memory {S} asked before after reading held writing =
-    record { cause = record { reading = reading }; held = held; writing = writing }
 
 -- the run does not open
 pub not_opened : {S : Type 0} (names : spec.StoreNames) (counter steps : ℕ) (randomness : spec.Randomness)

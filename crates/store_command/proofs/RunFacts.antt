@@ -20,11 +20,11 @@ use Rattle.cloak_machine.specs.declared.machine.Machine.{Machine}
 use Rattle.command_words.specs.Command as spec
 use Rattle.disk_law.proofs.Runs.{disk_stays}
 use Rattle.command_parts.specs.Storing.{AreFiles}
-use Rattle.run_command.specs.Running.{BeginsRun, MadeAll, first_pieces, moment_behind}
+use Rattle.run_command.specs.Running.{BeginsRun, MadeAll, first_pieces}
 use Rattle.cloak_model.specs.Run.{NoClash}
 use Rattle.run_command.proofs.Lawful.{is_lawful}
 use Rattle.run_command.proofs.RunFacts.{emits_as}
-use Rattle.cloaked_side.proofs.Emitting.{emits_then}
+use Rattle.cloak_model.proofs.Emitting.{emits_then}
 use Rattle.store_command.specs.declared.prepare.ForStoring.{ForStoring}
 use Rattle.store_command.specs.declared.prepare.PreparedStore.{PreparedStore}
 use Rattle.store_command.specs.Leaving.{first_due}
@@ -32,6 +32,7 @@ use Rattle.store_command.specs.Preparing.{OpensRun, IsPrepared}
 use Rattle.store_command.specs.Recording.{RunsOver, run_over}
 use Rattle.cloak_machine.proofs.Keys.{closing_keys}
 use Rattle.store_command.specs.Writing.{EndsAs, EndsUnless, Finishes, WritesFirst}
+use Rattle.record_law.specs.Steps.{moment_after}
 
 -- the pieces of a run up to the end of its record
 first_of_run : (b : Bundle) (steps : ℕ) (o : RunEdge) →
@@ -67,7 +68,7 @@ closed_disk b from o steps opens = disk_stays b from o opens steps
 
 count_turns : (b : Bundle) (steps : ℕ) (o : RunEdge) →
     let turns = turns_from steps (first_moment b o.joint) in
-    (moment_behind (first_moment b o.joint) turns).steps ≡ length turns
+    (moment_after (first_moment b o.joint) turns).steps ≡ length turns
 count_turns b steps o =
     let turns = turns_from steps (first_moment b o.joint) in
     let count : 0 + length turns ≡ length turns = omega arith in count
@@ -76,7 +77,7 @@ count_turns b steps o =
 ends_as : {E : Type 0} {gave : E → E → List Piece → Type 0} {e f : E} {machine : Machine} {stopped : Option Stop}
     {cause : Stop} {end : RunEnd} {old new : ForStoring} (b : Bundle) (steps : ℕ) (o : RunEdge) →
     let turns = turns_from steps (first_moment b o.joint) in
-    let m = moment_behind (first_moment b o.joint) turns in
+    let m = moment_after (first_moment b o.joint) turns in
     MadeAll machine stopped (first_moment b o.joint) turns → cause ≡ unwrap_or stopped stop.Budget →
     Finishes gave e f old new end cause m (closing m.joint) → EndsAs old new end (run_of b steps o)
 unfolding run_of
@@ -100,7 +101,7 @@ ends_as {E} {gave} {e} {f} {machine} {stopped} {cause} {end} {old} {new} b steps
 pub first_whole : {E : Type 0} {gave : E → E → List Piece → Type 0} {failed : Bool} {e f h : E} {machine : Machine}
     {stopped : Option Stop} {cause : Stop} {end : RunEnd} {old new : ForStoring} (b : Bundle) (steps : ℕ) (o : RunEdge) →
     let turns = turns_from steps (first_moment b o.joint) in
-    let m = moment_behind (first_moment b o.joint) turns in
+    let m = moment_after (first_moment b o.joint) turns in
     BeginsRun gave failed e f machine stopped b o turns → failed ≡ false → cause ≡ unwrap_or stopped stop.Budget →
     Finishes gave f h old new end cause m (closing m.joint) →
     WritesFirst gave e h old new (Some end) (run_of b steps o)

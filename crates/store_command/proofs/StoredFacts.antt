@@ -25,7 +25,7 @@ use Rattle.run_command.specs.Outlet.{WroteAll, WroteFront, pieces_left}
 use Rattle.run_command.specs.Recording.{GrowsSome}
 use Rattle.run_command.specs.Running.{IsStatusOfStop, status_of}
 use Rattle.run_command.proofs.BegunFacts.{AreLow, AtPieces, HasBegunRecord, fault_since, front_of_text, grows_from}
-use Rattle.record_law.proofs.Pieces.{recorded_bytes-append, shown_bytes-append}
+use Rattle.cloak_model.proofs.Pieces.{recorded_bytes-append, shown_bytes-append}
 use Rattle.run_command.proofs.OutletFacts.{Puts-parts}
 use Rattle.store_command.specs.declared.prepare.ForStoring.{ForStoring}
 use Rattle.store_command.specs.Leaving.{BreaksOff, BreaksOffFirst, HasFiles, HasFirst, HasOldOrFront, LeavesAll, OtherThanStored, first_due, last_due, new_bytes, next_bytes}

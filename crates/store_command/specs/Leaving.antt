@@ -12,11 +12,11 @@ use Rattle.cloak_model.specs.StoredRun.{contents_of}
 use Rattle.command_words.specs.Command as spec
 use Rattle.io_traits.specs.Told.{Tells, Grows, OtherFiles}
 use Rattle.command_parts.specs.declared.status.Status.{Status}
-use Rattle.command_parts.specs.Files.{TellsFront}
 use Rattle.command_parts.specs.Outside.{Outside, Raised}
 use Rattle.command_parts.specs.Storing.{StoreSources}
 use Rattle.run_command.specs.Outlet.{Cut, pieces_left, FailedAt}
 use Rattle.run_command.specs.Running.{run_status}
+use Rattle.command_parts.specs.Files.{TellsFront}
 
 -- The files.
 

@@ -105,9 +105,6 @@ picture_of now inner given inside next same few room a i = (
 
 -- Attributes.
 
-pub attributes_none : AreAttributes [] 0
-attributes_none = record { attributes = []; text = refl; rising = omega arith }
-
 rises_more : (l : List Attribute) (a : Attribute) (from to : ℕ) → Rises from l to → to ≤ key_place a.name →
     Rises from (l ++ a ∷ []) (key_place a.name + 1)
 rises_more [] a from to rises less = (omega (arith, rises, less), omega arith)

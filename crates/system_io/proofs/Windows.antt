@@ -258,23 +258,6 @@ ends_filled told is_of is_at s file kept n kept_bytes filled_bytes ahead fills b
     (λ all read none. none_filled all kept_bytes filled_bytes s.position kept n before room read none)
     (fills s.name ahead.named s.position ahead.placed)
 
-ahead_none : (t : Option (List ℕ)) (window : List ℕ) (start : ℕ) → window ≡ [] →
-    IfSome t (λ all. window ≡ take (length window) (drop start all))
-ahead_none None window start none = tt
-ahead_none (Some all) window start none =
-    none ∙ sym (ap (λ (l : List ℕ). take (length l) (drop start all)) none)
-
--- a file that was opened just now
-pub reads_fresh : {F : Type 0} (told : List ℕ → Option (List ℕ)) (is_of : F → List ℕ → Type 0) (is_at : F → ℕ → Type 0)
-    (s : ReaderState F) (file : F) (name : List ℕ) → s.source ≡ Some file → s.name ≡ name → s.position ≡ 0 →
-    s.window ≡ [] → is_of file name → is_at file 0 → IsReading told is_of is_at s
-reads_fresh {F} told is_of is_at s file name source named place window of at =
-    subst (λ (o : Option F). IfSome o (IsAhead told is_of is_at s)) (sym source) (record {
-      named = subst (λ (m : List ℕ). is_of file m) (sym named) of;
-      placed = subst (λ (p : ℕ). is_at file p) (sym place) at;
-      ahead = ahead_none (told s.name) s.window s.start window;
-    })
-
 -- no bytes are copied from the end
 pub none_copied : (t : Option (List ℕ)) (at : ℕ) (old : List ℕ) → IfSome t (λ all. length all ≤ at) →
     IfSome t (λ all. IsCopied all at 0 old old)

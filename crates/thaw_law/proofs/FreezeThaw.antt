@@ -15,8 +15,8 @@ use Rattle.record_law.proofs.Writing.{writes_its_record}
 use Rattle.frozen_state.specs.Continuing.{first_turns, IsFrozenAfter, first_pieces, without_past, next_moment, run_on, pieces_after, report_after, due_after}
 use Rattle.thaw_law.specs.Past.{PastLoads, with_loads, with_past, turn_with_past, closed_with_past, loads_of}
 use Rattle.thaw_law.specs.FreezeThaw.{IsFirstAndRest, RunsAreFirstAndRest, StoppedRunsAreWhole}
-use Rattle.record_law.proofs.Pieces.{joint_after-append, last_stop-append, recorded_bytes-append, shown_bytes-append, turns_pieces-append}
-use Rattle.thaw_law.proofs.Pieces.{recorded-last, shown-last}
+use Rattle.cloak_model.proofs.Pieces.{recorded_bytes-append, shown_bytes-append, recorded-last, shown-last}
+use Rattle.record_law.proofs.Pieces.{joint_after-append, last_stop-append, turns_pieces-append}
 use Rattle.thaw_law.proofs.Runs.{is_after, joint_after_past, last_stop_after, turns_restored, restored, closing_keeps_past}
 use Rattle.thaw_law.proofs.Runs as past
 use Rattle.thaw_law.proofs.TwoParts.{runs_go_on, stopped_runs_stay}

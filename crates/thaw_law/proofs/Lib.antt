@@ -2,5 +2,4 @@ pub mod Programs
 pub mod Steps
 pub mod Runs
 pub mod TwoParts
-pub mod Pieces
 pub mod FreezeThaw

@@ -6,13 +6,15 @@ use Rattle.cloak_model.specs.Joint.{Moment, Turn, joint_step, after_turn, stop_o
 use Rattle.cloak_model.specs.Parts.{Joint}
 use Rattle.cloak_model.specs.Run.{unless_stopped, turns_from, joint_after, last_stop}
 use Rattle.record_law.proofs.Pieces.{joint_after-append, last_stop-append}
-use Rattle.thaw_law.specs.TwoParts.{moment_after, RunsGoOn, StoppedRunsStay}
+use Rattle.thaw_law.specs.TwoParts.{RunsGoOn, StoppedRunsStay}
+use Rattle.record_law.specs.Steps.{moment_after}
 
-after_none : (m : Moment) → moment_after m [] ≡ m
+-- the moment after no step, and after one and others
+pub after_none : (m : Moment) → moment_after m [] ≡ m
 unfolding joint_after
 after_none m i = record m { steps = (let e : m.steps + 0 ≡ m.steps = omega arith in e) i }
 
-after_one : (m : Moment) (t : Turn) (turns : List Turn) →
+pub after_one : (m : Moment) (t : Turn) (turns : List Turn) →
     moment_after (after_turn m t) turns ≡ moment_after m (t ∷ turns)
 unfolding joint_after
 after_one m t turns i = record {

@@ -1,16 +1,9 @@
 -- A run in two parts: at most n steps, and then k more from the moment after them.
-use Rattle.std.specs.Prelude.{ℕ, ◌≡◌, ◌+◌, List, ◌++◌, length, Some, None}
+use Rattle.std.specs.Prelude.{ℕ, ◌≡◌, ◌+◌, ◌++◌, length, Some, None}
 use Rattle.cloak_base.specs.declared.causes.Stop.{Stop}
-use Rattle.cloak_model.specs.Joint.{Moment, Turn}
-use Rattle.cloak_model.specs.Run.{turns_from, joint_after, last_stop}
-
--- the moment after these steps
-abbrev pub moment_after : Moment → List Turn → Moment
-moment_after m turns = record {
-  schedule = m.schedule;
-  steps = m.steps + length turns;
-  joint = joint_after m.joint turns;
-}
+use Rattle.cloak_model.specs.Joint.{Moment}
+use Rattle.cloak_model.specs.Run.{turns_from, last_stop}
+use Rattle.record_law.specs.Steps.{moment_after}
 
 -- None of the first n steps stopped the run: they are n, and k more are made from the moment after them.
 pub record GoesOn (n k : ℕ) (m : Moment) : Type 0 where

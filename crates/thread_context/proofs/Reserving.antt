@@ -1,30 +1,23 @@
 -- Reservations of contexts, when no context has one and when those of a word end.
-use Rattle.std.proofs.Common.{◌≡◌, ◌+◌, ◌≤◌, ◌<◌, ◌∙◌, ℕ, zero, suc, Bool, true, false, ◌||◌, List, [], ◌∷◌, Option, Some, None, refl, ap, sym, length, map, replicate, slice_index_or, slice_set, add-one, arith}
+use Rattle.std.proofs.Common.{◌≡◌, ◌+◌, ◌≤◌, ◌<◌, ◌∙◌, ℕ, zero, suc, Bool, false, List, [], ◌∷◌, Option, Some, None, refl, ap, sym, length, map, replicate, slice_index_or, slice_set, add-one, arith}
 use Rattle.std.specs.Prelude.{is_some}
 use Rattle.std.specs.List.{list_any}
 use Rattle.cloak_model.specs.declared.context.PageWord.{PageWord}
 use Rattle.cloak_model.specs.Contexts.{Context, context_at, with_context, started_contexts, is_reserved, unless_reserved}
 use Rattle.thread_context.specs.Reserved.{has_mark, has_marks}
+use Rattle.std.proofs.lemmas.Bool.{or_parts}
 
 -- Tests that no element passes.
 
-not_first : (a b : Bool) → (a || b) ≡ false → a ≡ false
-not_first true b none = cc
-not_first false b none = refl
-
-not_second : (a b : Bool) → (a || b) ≡ false → b ≡ false
-not_second true b none = cc
-not_second false b none = none
-
 none_with : {A : Type 0} (test : A → Bool) (xs : List A) (i : ℕ) (x : A) → test x ≡ false → list_any test xs ≡ false → list_any test (slice_set xs i x) ≡ false
 none_with test [] i x fails none = none
-none_with test (y ∷ ys) zero x fails none = rw fails (not_second (test y) _ none)
-none_with test (y ∷ ys) (suc i) x fails none = rw (not_first (test y) _ none) (none_with test ys i x fails (not_second (test y) _ none))
+none_with test (y ∷ ys) zero x fails none = rw fails (or_parts (test y) _ none).1
+none_with test (y ∷ ys) (suc i) x fails none = rw ((or_parts (test y) _ none).0) (none_with test ys i x fails ((or_parts (test y) _ none).1))
 
 none_at : {A : Type 0} (test : A → Bool) (xs : List A) (i : ℕ) (d : A) → test d ≡ false → list_any test xs ≡ false → test (slice_index_or xs i d) ≡ false
 none_at test [] i d fails none = fails
-none_at test (y ∷ ys) zero d fails none = not_first (test y) _ none
-none_at test (y ∷ ys) (suc i) d fails none = none_at test ys i d fails (not_second (test y) _ none)
+none_at test (y ∷ ys) zero d fails none = (or_parts (test y) _ none).0
+none_at test (y ∷ ys) (suc i) d fails none = none_at test ys i d fails ((or_parts (test y) _ none).1)
 
 -- Contexts of which none has a reservation.
 
@@ -62,8 +55,8 @@ same_context word (Some c) none = rw (not_reserved word c.mark none) refl
 pub same_contexts : (word : PageWord) (contexts : List (Option Context)) → has_marks contexts ≡ false → map (unless_reserved word) contexts ≡ contexts
 same_contexts word [] none = refl
 same_contexts word (c ∷ rest) none =
-    ap (λ (x : Option Context). x ∷ map (unless_reserved word) rest) (same_context word c (not_first (has_mark c) _ none))
-    ∙ ap (λ (xs : List (Option Context)). c ∷ xs) (same_contexts word rest (not_second (has_mark c) _ none))
+    ap (λ (x : Option Context). x ∷ map (unless_reserved word) rest) (same_context word c ((or_parts (has_mark c) _ none).0))
+    ∙ ap (λ (xs : List (Option Context)). c ∷ xs) (same_contexts word rest ((or_parts (has_mark c) _ none).1))
 
 -- A list whose elements are mapped one after another.
 

@@ -14,11 +14,6 @@ pub with_unnamed : (kinds : Kinds) (name : List ℕ) (names : List (List ℕ)) �
 with_unnamed kinds name names unnamed =
     ap (λ (k : Option Kinds). fold with_name (option_map (joined_kinds kinds) k) names) (sym unnamed) ∙ none_stays names
 
-pub with_named : (kinds more : Kinds) (name : List ℕ) (names : List (List ℕ)) → Some more ≡ kinds_named name →
-    fold with_name (Some (joined_kinds kinds more)) names ≡ fold with_name (Some kinds) (name ∷ names)
-with_named kinds more name names named =
-    ap (λ (k : Option Kinds). fold with_name (option_map (joined_kinds kinds) k) names) named
-
 -- the name at a place is that of no kind
 pub unnamed_at : (names : List (Bor (List ℕ))) (i : ℕ) (d : Bor (List ℕ)) (kinds : Kinds) (whole : Option Kinds) →
     i < length names → None ≡ kinds_named (get_or names i d).now →

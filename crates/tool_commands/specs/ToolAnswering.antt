@@ -22,8 +22,6 @@ use Rattle.std.specs.Option.{option_map_or}
 use Rattle.run_trace.specs.Answering.{TraceAnswers}
 use Rattle.run_trace.specs.declared.choice.TraceChoice.{TraceChoice}
 use Rattle.command_parts.specs.Outside.{Outside}
-use Rattle.command_parts.specs.Refusing.{Refuses}
-use Rattle.command_parts.specs.declared.refusal.Refusal.TheVariants as refusal
 use Rattle.command_parts.specs.declared.status.Status.{Status}
 use Rattle.command_parts.specs.declared.status.Status.TheVariants as status
 use Rattle.tool_words.specs.ToolCommand.{ToolAsked, Asm, Disasm, Pack, Show, Trace, Draw, Explain, AreFaulty, AreNotTaken, AsksTool}
@@ -34,6 +32,7 @@ use Rattle.tool_commands.specs.KindNames.{selection_asked}
 use Rattle.tool_commands.specs.declared.choosing.WordsMeant.{WordsMeant}
 use Rattle.tool_commands.specs.declared.choosing.WordsMeant.TheVariants.{FileFrom, PartOf, NoAddress, Several}
 use Rattle.tool_commands.specs.ToolSaying.{Says}
+use Rattle.command_parts.specs.Refusing.{LacksMemory}
 
 -- a name is that of no kind
 abbrev pub kinds_line : List ℕ
@@ -147,15 +146,10 @@ pub record SaysSomething {S O : Type 0} (meant : Status) (before after : Outside
   pub text : List ℕ
   pub says : Says text meant before after answer
 
--- The line of want of memory was shown, and no file was asked for anything.
-pub record LacksToolMemory {S O : Type 0} (before after : Outside S O) (answer : Status) : Type 0 where
-  pub line : Refuses before.output after.output refusal.NoMemory answer
-  pub untouched : after.files ≡ before.files
-
 -- How the tools answer words, of which the first is the program's name.
 abbrev pub WordsAnswers : {S O : Type 0} → List Text → Outside S O → Outside S O → Status → Type 0
 WordsAnswers words before after answer =
     DoesAsked words before after answer
     ⊎ ((AreNotTaken words true × SaysSomething status.Done before after answer)
     ⊎ ((AreFaulty words × SaysSomething status.Usage before after answer)
-    ⊎ LacksToolMemory before after answer))
+    ⊎ LacksMemory before after answer))

@@ -1,6 +1,6 @@
 //! A text that the tools say.
 ghost use Rattle.command_parts.specs.Outside.{output};
-ghost use Rattle.tool_commands.specs.ToolSaying.{ShowsText};
+ghost use Rattle.disassembly.specs.Disassembling.{ShowsText};
 
 use command_parts::Status;
 use io_traits::{Sink, put_all};

@@ -1,5 +1,5 @@
 -- What `clap` says of the tools' command, and what is read of it.
-use Rattle.std.proofs.Common.{◌≡◌, ◌≢◌, ◌^◌, ◌&&◌, ℕ, Bool, true, false, true≢false, List, [], ◌∷◌, length, nat_lt, refl, sym, ap, ap₂}
+use Rattle.std.proofs.Common.{◌≡◌, ◌≢◌, ◌^◌, ℕ, Bool, true, false, List, [], ◌∷◌, length, nat_lt, refl, sym, ap, ap₂}
 use Rattle.std.proofs.Common.{◌∙◌, inl, inr, lt-ltb, ltb-true, Option, Some, None, Result, Ok, Err}
 use Rattle.std.specs.Prelude.{option_and_then, option_map, unwrap_or}
 use Rattle.std.specs.Option.{option_map_or}
@@ -8,6 +8,7 @@ use Rattle.std.proofs.lemmas.Option.{same_Some, none-some}
 use Rattle.std.specs.List.{list_all}
 use Rattle.std.specs.Char.{digit_value}
 use Rattle.std.specs.Str.Parse.{AllDigits, ParsesUnsigned, digits_value, without_leading_plus}
+use Rattle.std.proofs.lemmas.Bool.{and_parts}
 use Rattle.clap.specs.Words.{App, HasKind, IsAmong, Kinds, ReadsOne, Row, fault_of, is_simple, is_simple_and_free, kind_of, subcommand_of}
 use Rattle.clap.specs.Walk.{Text}
 use Rattle.clap.specs.declared.error.Error.{Error}
@@ -85,14 +86,10 @@ digits_pass : (digits : List ℕ) → AllDigits 10 digits → list_all (λ d. na
 digits_pass [] all = refl
 digits_pass (d ∷ digits) all = rw (lt-ltb (digit_value d) 10 all.0) (digits_pass digits all.1)
 
-both : (a b : Bool) → (a && b) ≡ true → (a ≡ true) × (b ≡ true)
-both true b is = (refl, is)
-both false b is = absurd (true≢false (sym is))
-
 digits_from : (digits : List ℕ) → list_all (λ d. nat_lt (digit_value d) 10) digits ≡ true → AllDigits 10 digits
 digits_from [] pass = tt
 digits_from (d ∷ digits) pass =
-    let parts = both _ _ pass in
+    let parts = and_parts _ _ pass in
     (ltb-true _ _ parts.0, digits_from digits parts.1)
 
 text_read : {E : Type 0} (text : Text) (r : Result ℕ E) (otherwise : ℕ) → ParsesUnsigned 32 10 text r →
@@ -105,8 +102,8 @@ text_read text (Err e) otherwise h = go (is_step (without_leading_plus text)) re
     go : (b : Bool) → is_step (without_leading_plus text) ≡ b → otherwise ≡ step_or otherwise text
     go false is = rw is refl
     go true is =
-        let outer = both _ _ is in
-        let inner = both _ _ outer.1 in
+        let outer = and_parts _ _ is in
+        let inner = and_parts _ _ outer.1 in
         absurd (h ((ltb-true _ _ outer.0, digits_from (without_leading_plus text) inner.0), ltb-true _ _ inner.1))
 
 pub step_read : {E : Type 0} (P : Text → Result ℕ E → Type 0) (o : Option Text) (r : Option ℕ) (otherwise : ℕ) →
@@ -134,8 +131,8 @@ number_none text e h = go (is_step (without_leading_plus text)) refl
     go : (b : Bool) → is_step (without_leading_plus text) ≡ b → None ≡ number_in text
     go false is = rw is refl
     go true is =
-        let outer = both _ _ is in
-        let inner = both _ _ outer.1 in
+        let outer = and_parts _ _ is in
+        let inner = and_parts _ _ outer.1 in
         absurd (h ((ltb-true _ _ outer.0, digits_from (without_leading_plus text) inner.0), ltb-true _ _ inner.1))
 
 pub number_read : {E : Type 0} (P : Text → Result ℕ E → Type 0) (o : Option Text) (r : Option ℕ) →

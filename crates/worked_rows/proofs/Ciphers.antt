@@ -1,6 +1,6 @@
 -- Sizes: of a ciphertext, which has 4096 bytes as its page has, and of a record.
-use Rattle.std.proofs.Common.{◌≡◌, ◌<◌, ◌≤◌, ℕ, zero, suc, refl, ◌+◌, ◌*◌, ◌^◌, List, [], ◌∷◌, ◌++◌, length, drop, take, ◌∙◌, ap, sym, arith, length-append, length-drop}
-use Rattle.std.specs.Prelude.{All, nat_lt, Bool, true, false, bit_xor, ◌-◌, ◌%◌, if◌then◌else◌}
+use Rattle.std.proofs.Common.{◌≡◌, ◌<◌, ◌≤◌, ℕ, refl, ◌+◌, ◌^◌, List, [], ◌∷◌, ◌++◌, length, drop, take, ◌∙◌, ap, sym, arith, length-append, length-drop}
+use Rattle.std.specs.Prelude.{All, nat_lt, true, false, bit_xor, ◌-◌, ◌%◌, if◌then◌else◌}
 use Rattle.std.specs.Str.{bytes_eq}
 use Rattle.std.specs.Int.{bit_at}
 use Rattle.std.specs.Int.{w32, from_le_bytes, to_le_bytes}
@@ -8,41 +8,20 @@ use Rattle.std.proofs.lemmas.Nat.{from_le_bytes-to_le_bytes_4, xor_of_32}
 use Rattle.std.proofs.lemmas.Nat.Bits.{bit_at_xor, bit_at-lt}
 use Rattle.std.proofs.lemmas.Slice.Eq.{bytes_eq-Decides}
 use Rattle.std.proofs.lemmas.List.{length-take-le, drop_at}
-use Rattle.std.proofs.lemmas.List.Elements.{All-take, All-drop, All-append}
+use Rattle.std.proofs.lemmas.List.Elements.{All-drop}
 use Rattle.aes_block.specs.Bytes.{IsBytes}
-use Rattle.aes_block.proofs.Blocks.{IsBytes-block_sum, IsBytes-round_key, IsBytes-shift_rows, IsBytes-sub_bytes}
-use Rattle.aes_block.proofs.Rounds.{IsBytes-after_rounds}
 use Rattle.cloak_model.specs.Bits.{has_bit}
 use Rattle.cloak_model.specs.KernelStep.{extended}
 use Rattle.cloak_model.specs.Memory.{value_in, with_value_in}
-use Rattle.std.specs.List.{concat, flat_map, sum_by, list_all}
+use Rattle.std.specs.List.{flat_map, sum_by, list_all}
 use Rattle.std.proofs.lemmas.List.Sums.{AllPass-from_list_all}
-use Rattle.std.proofs.lemmas.Bool.{ltb-true}
+use Rattle.std.proofs.lemmas.Bool.{ltb-true, false_from_ne_true}
 use Rattle.std.proofs.lemmas.List.Concat.{length-flat_map}
-use Rattle.aes_block.specs.State.{block_sum, from_places}
-use Rattle.aes_block.specs.Cipher.{encrypted}
 use Rattle.cloak_model.specs.declared.item.Item.{Item}
 use Rattle.cloak_model.specs.Exchange.{item_bytes, record_magic, record_of}
-use Rattle.cloak_model.specs.Chain.{chained, blocks_of, cbc}
-
-length-encrypted : (key s : List ℕ) → length (encrypted key s) ≡ 16
-unfolding encrypted block_sum from_places
-length-encrypted key s = refl
-
--- n blocks, chained
-length-chained : (key : List ℕ) (n : ℕ) (last s : List ℕ) → length (concat (chained key last (blocks_of n s))) ≡ 16 * n
-unfolding chained blocks_of
-length-chained key zero last s = refl
-length-chained key (suc n) last s =
-    let c = encrypted key (block_sum (take 16 s) last) in
-    let later = length-chained key n c (drop 16 s) in
-    let joined = length-append c (concat (chained key c (blocks_of n (drop 16 s)))) in
-    let sixteen = length-encrypted key (block_sum (take 16 s) last) in
-    joined ∙ omega arith
-
-pub length-cbc : (key iv page : List ℕ) → length (cbc key iv page) ≡ 4096
-unfolding cbc
-length-cbc key iv page = length-chained key 256 iv page
+use Rattle.cloak_model.specs.Chain.{cbc}
+use Rattle.range_law.proofs.Bounds.{by_place}
+use Rattle.range_law.proofs.Ciphers.{block_bytes, cbc_long, sealed_fits}
 
 -- The size of a record: the magic, and each item's.
 pub length-record_of : (items : List Item) → length (record_of items) ≡ 8 + sum_by (λ i. length (item_bytes i)) items
@@ -50,35 +29,12 @@ length-record_of items =
     rw (length-append record_magic (flat_map item_bytes items), length-flat_map item_bytes items) refl
 
 -- The ciphertext of bytes is bytes.
-
-IsBytes-encrypted : (key s : List ℕ) → IsBytes 16 key → IsBytes 16 s → IsBytes 16 (encrypted key s)
-unfolding encrypted
-IsBytes-encrypted key s k b =
-    IsBytes-block_sum _ _ (IsBytes-shift_rows _ (IsBytes-sub_bytes _ (IsBytes-after_rounds key s k b 9)))
-    (IsBytes-round_key key k 10)
-
-block_bytes : (s : List ℕ) → 16 ≤ length s → All (λ b. b < 256) s → IsBytes 16 (take 16 s)
-block_bytes s long bytes = record { long = length-take-le 16 s long; bytes = All-take (λ b. b < 256) 16 s bytes }
-
-bytes-chained : (key : List ℕ) (n : ℕ) (last s : List ℕ) → IsBytes 16 key → IsBytes 16 last → 16 * n ≤ length s →
-    All (λ b. b < 256) s
-    → All (λ b. b < 256) (concat (chained key last (blocks_of n s)))
-unfolding chained blocks_of
-bytes-chained key zero last s k l long bytes = λ i d h. absurd (omega arith)
-bytes-chained key (suc n) last s k l long bytes =
-    let c = encrypted key (block_sum (take 16 s) last) in
-    let first : IsBytes 16 c =
-    IsBytes-encrypted key _ k (IsBytes-block_sum (take 16 s) last (block_bytes s (omega arith) bytes) l) in
-    let shorter = length-drop 16 s in
-    All-append (λ b. b < 256) c (concat (chained key c (blocks_of n (drop 16 s)))) first.bytes
-    (bytes-chained key n c (drop 16 s) k first (omega arith) (All-drop (λ b. b < 256) 16 s bytes))
-
 pub IsBytes-cbc : (key iv page : List ℕ) → IsBytes 16 key → IsBytes 16 iv → IsBytes 4096 page →
     IsBytes 4096 (cbc key iv page)
-unfolding cbc
 IsBytes-cbc key iv page k i p = record {
-  long = length-cbc key iv page;
-  bytes = let long = p.long in bytes-chained key 256 iv page k i (omega arith) p.bytes;
+  long = cbc_long key iv page;
+  bytes = by_place (λ b. b < 256) (cbc key iv page)
+      (sealed_fits key iv page k (block_bytes 16 iv i) (block_bytes 4096 page p)).bytes;
 }
 
 -- A page with another word at place 20 is another page.
@@ -116,13 +72,9 @@ flipped-other word same =
     let low = bit_at-lt word 0 in
     omega arith
 
-not_true : (b : Bool) → (b ≡ true → ⊥) → b ≡ false
-not_true true h = absurd (h refl)
-not_true false h = refl
-
 changed-differs : (page : List ℕ) (value : ℕ) → 24 ≤ length page → value < 2 ^ 32 → (value ≡ value_in page 20 4 → ⊥) →
     bytes_eq (with_value_in page 20 4 value) page ≡ false
-changed-differs page value long low other = not_true _ (λ e.
+changed-differs page value long low other = false_from_ne_true _ (λ e.
     let same : with_value_in page 20 4 value ≡ page = (bytes_eq-Decides (with_value_in page 20 4 value) page).0 e in
     other (sym (value_in-with_value_in page value long low) ∙ ap (λ (x : List ℕ). value_in x 20 4) same))
 

@@ -34,11 +34,12 @@ use Rattle.worked_rows.specs.Images.{keyed_program, keyed_image, image, halt, bo
 use Rattle.worked_rows.specs.Runs.{running, registers_from}
 use Rattle.worked_rows.specs.JointRuns.{one_key, seen, seen_of, read_off, counted, key, draw_1, draw_2, csrs_of, inside_hart, outside_hart}
 use Rattle.worked_rows.specs.JointRows.{whole_image, whole_items, other_opening, other_closing, OtherKey, opening_cipher, closing_cipher, program_with, started_context, not_started, answered_context, gone_program, shown_exit, whole, WholeRun, ThreeDraws, TwoDraws, OtherRoot, AfterExit, flipped_frame, FlippedBit, NothingFlipped}
-use Rattle.worked_rows.proofs.Ciphers.{length-cbc, length-record_of, IsBytes-cbc, IsBytes-computed, flipped-differs}
+use Rattle.worked_rows.proofs.Ciphers.{length-record_of, IsBytes-cbc, IsBytes-computed, flipped-differs}
 use Rattle.worked_rows.proofs.Computing.{joint_steps, joint_runs}
 use Rattle.worked_rows.proofs.Offers.{refused_events, reach-shown, reach-changed}
 use Rattle.worked_rows.proofs.Turns.{first_turns, moment_after, goes_on, plus, turns_from-step, turns_from-plus}
 use Rattle.worked_rows.proofs.Whole.{FirstDraws, first_shown, page, ram_of, plain_of, bare_root, opened_memory, resumed_memory, stored_page, stored_plain, first_hart, program_hart, machine, at_step, opened_moment, left_moment, fetched_step, cloak_for, fetch_granted, joint_step-of, turns_from-boot, turns_to_call, turns_from-call}
+use Rattle.range_law.proofs.Ciphers.{cbc_long}
 
 -- Runs of a program of one page, by the words of its kernel after the boot.
 abbrev pub opened : List ℕ → List ℕ → FirstDraws → RunEdge
@@ -100,7 +101,7 @@ halted = refl
 whole_size : length (record_of whole.items) ≡ 8355
 unfolding exchange.item_bytes
 whole_size = length-record_of whole.items
-    ∙ rw (length-cbc key draw_1 words_page, length-cbc key draw_2 (with_value_in words_page 0x100 4 7)) refl
+    ∙ rw (cbc_long key draw_1 words_page, cbc_long key draw_2 (with_value_in words_page 0x100 4 7)) refl
 
 pub whole_program : WholeRun
 unfolding joint_runs zero_page bundle.bundle_bytes

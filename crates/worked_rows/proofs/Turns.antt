@@ -1,6 +1,7 @@
 -- The steps of a run by stretches.
-use Rattle.std.proofs.Common.{◌≡◌, ℕ, zero, suc, refl, Bool, true, false, List, [], ◌∷◌, ◌++◌, Option, None, Some, ◌∙◌, ap}
+use Rattle.std.proofs.Common.{◌≡◌, ℕ, zero, suc, refl, Bool, true, List, [], ◌∷◌, ◌++◌, Option, None, Some, ◌∙◌, ap}
 use Rattle.std.specs.Prelude.{◌&&◌, is_none}
+use Rattle.std.proofs.lemmas.Bool.{and_parts}
 use Rattle.cloak_base.specs.declared.causes.Stop.{Stop}
 use Rattle.cloak_model.specs.Joint.{Moment, Turn, joint_step, after_turn, stop_of}
 use Rattle.cloak_model.specs.Run.{turns_from}
@@ -24,10 +25,6 @@ abbrev pub plus : ℕ → ℕ → ℕ
 plus zero n = n
 plus (suc k) n = suc (plus k n)
 
-both : (a b : Bool) → (a && b) ≡ true → (a ≡ true) × (b ≡ true)
-both true b h = (refl, h)
-both false b h = (h, absurd (cc))
-
 none : (o : Option Stop) → is_none o ≡ true → o ≡ None
 none None h = refl
 none (Some s) h = absurd (cc)
@@ -45,6 +42,6 @@ unfolding first_turns moment_after goes_on
 turns_from-plus zero n m h = refl
 turns_from-plus (suc k) n m h =
     let t = joint_step m in
-    let parts = both (is_none (stop_of t)) (goes_on k (after_turn m t)) h in
+    let parts = and_parts (is_none (stop_of t)) (goes_on k (after_turn m t)) h in
     turns_from-step (plus k n) m t refl (none (stop_of t) parts.0)
     ∙ ap (λ (ts : List Turn). t ∷ ts) (turns_from-plus k n (after_turn m t) parts.1)

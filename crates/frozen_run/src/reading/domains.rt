@@ -3,7 +3,8 @@ ghost use Rattle.std.specs.Prelude.{◌≡◌, ◌≤◌, ◌<◌, ◌^◌, leng
 ghost use Rattle.cloak_model.specs.Fields.{first_in, parts, after_parts};
 ghost use Rattle.frozen_state.specs.declared.fault.FrozenFault.TheVariants as faults;
 ghost use Rattle.frozen_state.specs.FrozenFault.{maybe_fields, after_maybe, violation_fields, after_violation, domain_fields, after_domain};
-ghost use Rattle.frozen_run.specs.Reading.{TellsFirst, fault_of, values, maybe_in, violation_in, domain_in, domains_in};
+ghost use Rattle.field_facts.specs.Faults.{fault_of};
+ghost use Rattle.frozen_run.specs.Reading.{TellsFirst, values, maybe_in, violation_in, domain_in, domains_in};
 
 use super::fields::{byte_below, maybe_word, meta, read_page, word, word_below};
 use cloak_base::{Frame, Meta, PageId, Violation};

@@ -6,7 +6,8 @@ ghost use Rattle.cloak_model.specs.Fields.{fault_in, first_in};
 ghost use Rattle.cloak_model.specs.StoreFault.{long_at};
 ghost use Rattle.frozen_state.specs.FrozenFault as format;
 ghost use Rattle.frozen_state.specs.FrozenFault.{any_in, maybe_fields, after_maybe, page_at};
-ghost use Rattle.frozen_run.specs.Reading.{fault_of, maybe_in, meta_in};
+ghost use Rattle.field_facts.specs.Faults.{fault_of};
+ghost use Rattle.frozen_run.specs.Reading.{maybe_in, meta_in};
 
 use cloak_base::{Meta, PageId};
 use frozen_state::FrozenFault;

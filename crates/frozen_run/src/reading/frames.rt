@@ -7,7 +7,8 @@ ghost use Rattle.cloak_model.specs.Fields.{first_in, after_parts};
 ghost use Rattle.frozen_state.specs.declared.fault.FrozenFault.TheVariants as faults;
 ghost use Rattle.frozen_state.specs.FrozenFault.{page_at, page_fields, frames_fields, after_frame};
 ghost use Rattle.frozen_run.specs.OwedPages.{TellsOwed};
-ghost use Rattle.frozen_run.specs.Reading.{TellsFirst, fault_of, values, meta_in, frame_in, frame_fields, seen_after};
+ghost use Rattle.field_facts.specs.Faults.{fault_of};
+ghost use Rattle.frozen_run.specs.Reading.{TellsFirst, values, meta_in, frame_in, frame_fields, seen_after};
 
 use super::fields::{byte_below, meta, page_id, read_page};
 use super::owed::{none_owed, note_owed};

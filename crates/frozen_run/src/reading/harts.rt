@@ -6,7 +6,8 @@ ghost use Rattle.frozen_state.specs.Ranges as ranges;
 ghost use Rattle.frozen_state.specs.Ranges.{has_only, kept_bits};
 ghost use Rattle.frozen_state.specs.FrozenFault as format;
 ghost use Rattle.frozen_state.specs.FrozenFault.{any_in, ruled_in, csr_fields, mark_fields, hart_fields, after_maybe, after_hart};
-ghost use Rattle.frozen_run.specs.Reading.{TellsFirst, fault_of, values, after_word, maybe_in, mode_in, hart_in};
+ghost use Rattle.field_facts.specs.Faults.{fault_of};
+ghost use Rattle.frozen_run.specs.Reading.{TellsFirst, values, after_word, maybe_in, mode_in, hart_in};
 
 use super::fields::{byte_below, maybe_word, word};
 use cloak_base::{Mode, RAM_START, Regs, ram_end};

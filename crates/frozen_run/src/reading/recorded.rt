@@ -4,7 +4,8 @@ ghost use Rattle.cloak_model.specs.Fields.{first_in};
 ghost use Rattle.frozen_state.specs.Ranges as ranges;
 ghost use Rattle.frozen_state.specs.FrozenFault as format;
 ghost use Rattle.frozen_state.specs.FrozenFault.{page_at, page_fields, recorded_fields};
-ghost use Rattle.frozen_run.specs.Reading.{TellsFirst, fault_of, values, recorded_in, after_recorded};
+ghost use Rattle.field_facts.specs.Faults.{fault_of};
+ghost use Rattle.frozen_run.specs.Reading.{TellsFirst, values, recorded_in, after_recorded};
 
 use super::fields::{meta, page_id};
 use cloak_base::PageId;

@@ -5,7 +5,7 @@ use Rattle.sha2.specs.Hashers.{Holds256}
 use Rattle.sha2.specs.Sha256.{sha256}
 use Rattle.cloak_pager.specs.State.{PagerState}
 use Rattle.kernel_report.proofs.Joined.{concat-take_more}
-use Rattle.cloak_machine.proofs.ShownFrames.{frames_seen}
+use Rattle.joint_machine.proofs.Showing.{frames_shown}
 use Rattle.cloak_machine.proofs.frames.digest_of.Goals as goal
 
 pub loop-f-preserved : goal.loop-f-preserved
@@ -28,4 +28,4 @@ returns c m holds =
     let frames = c.args.memory.now.pager.frames in
     c.finalize.ensures _ c.loop-f.invariant.hashed ∙ ap (λ (l : List (List ℕ)). sha256 (concat l))
     (take_all c.loop-f.f frames (omega (arith, c.count-f-end.ensures.value))
-    ∙ frames_seen _ holds.wiped m holds.pager c.requires)
+    ∙ frames_shown _ holds.wiped m holds.pager c.requires)

@@ -1,4 +1,4 @@
-use Rattle.command_parts.proofs.RefusalFacts.{puts}
+use Rattle.io_traits.proofs.ToldFacts.{puts}
 use Rattle.command_parts.proofs.refusal.show.Goals as goal
 
 pub returns : goal.returns

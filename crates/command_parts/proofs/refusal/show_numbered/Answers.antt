@@ -1,6 +1,6 @@
 use Rattle.std.proofs.Common.{◌++◌, codes, Ok, Err}
 use Rattle.std.specs.Prelude.{decimal}
-use Rattle.command_parts.proofs.RefusalFacts.{puts-first, puts-then, puts-failed}
+use Rattle.io_traits.proofs.ToldFacts.{puts-first, puts-then, puts-failed}
 use Rattle.command_parts.proofs.refusal.show_numbered.Goals as goal
 
 pub returns-in_err-show_decimal : goal.returns-in_err-show_decimal

@@ -1,12 +1,12 @@
-use Rattle.run_command.proofs.OutletFacts.{emits_none, gave_all}
-use Rattle.run_command.proofs.RunFacts.{some_then}
+use Rattle.run_command.proofs.OutletFacts.{emits_failed, gave_all}
+use Rattle.cloak_model.proofs.Emitting.{some_then}
 use Rattle.frozen_commands.proofs.FirstFacts.{first_ended, first_front, first_reached, first_unended}
 use Rattle.frozen_commands.proofs.first.write_first.Goals as goal
 
 pub returns-then-outlet-clause-writes : goal.returns-then-outlet-clause-writes
 returns-then-outlet-clause-writes g c = λ b from o opens same stands none.
     first_front b c.args.steps o (c.write_steps-stopped.ensures.runs b from o opens same stands none) c.if-outlet.true
-    (λ ps. emits_none _ _ _ ps c.if-outlet.true)
+    (λ ps. emits_failed _ _ _ ps c.if-outlet.true)
 
 pub returns-in_default-clause-writes : goal.returns-in_default-clause-writes
 returns-in_default-clause-writes g c = λ b from o opens same stands none.

@@ -1,7 +1,7 @@
 use Rattle.std.proofs.Common.{◌≡◌, ◌∙◌, true, false, sym}
 use Rattle.frozen_state.specs.Continuing.{next_moment}
-use Rattle.run_command.proofs.OutletFacts.{emits_none, gave_all}
-use Rattle.run_command.proofs.RunFacts.{some_then}
+use Rattle.run_command.proofs.OutletFacts.{emits_failed, gave_all}
+use Rattle.cloak_model.proofs.Emitting.{some_then}
 use Rattle.frozen_commands.proofs.RestFacts.{rest_front, rest_unclashed, rest_whole}
 use Rattle.frozen_commands.proofs.rest.write_rest.Goals as goal
 
@@ -9,7 +9,7 @@ pub returns-then-outlet-clause-writes : goal.returns-then-outlet-clause-writes
 returns-then-outlet-clause-writes g c = λ b n j stands none.
     rest_front _ b n j c.args.steps
     (c.run_steps-stopped.ensures.runs (next_moment b n j) stands (rest_unclashed b n j c.args.steps none))
-    c.if-outlet.true (λ ps. emits_none _ _ _ ps c.if-outlet.true)
+    c.if-outlet.true (λ ps. emits_failed _ _ _ ps c.if-outlet.true)
 
 pub returns-then-outlet-clause-some_stop : goal.returns-then-outlet-clause-some_stop
 returns-then-outlet-clause-some_stop g c = λ unfailed.

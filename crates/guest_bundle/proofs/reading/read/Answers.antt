@@ -7,12 +7,13 @@ use Rattle.guest_bundle.specs.Fields.{Gives}
 use Rattle.cloak_model.specs.BundleFault.{bundle_fault}
 use Rattle.guest_bundle.specs.Reading.{bundle_at}
 use Rattle.guest_bundle.proofs.Loop.{failed}
-use Rattle.guest_bundle.proofs.Steps.{IsBytes, ok_is}
+use Rattle.guest_bundle.proofs.Steps.{ok_is}
 use Rattle.guest_bundle.proofs.Found.{bundle_takes}
 use Rattle.guest_bundle.proofs.Only.{bundle_again}
 use Rattle.guest_bundle.proofs.Tells.{Tells}
 use Rattle.guest_bundle.proofs.Faulty.{bundle_tells}
 use Rattle.guest_bundle.proofs.reading.read.Goals as goal
+use Rattle.cloak_base.proofs.Lists.{IsBytes}
 
 is_found : (file : List ℕ) (r : Result Bundle BundleFault) → IsBytes file → Gives (λ x. x) r (bundle_at file) →
     IfOk r (λ bundle. IsBundle file bundle)

@@ -1,8 +1,9 @@
 use Rattle.std.proofs.Common.{◌≡◌, ◌+◌, ◌++◌, ◌∷◌, [], length, take, ap, ◌∙◌, sym, arith}
 use Rattle.std.proofs.lemmas.List.{take_more}
 use Rattle.cloak_model.specs.Bundle.{segment_bytes}
-use Rattle.guest_bundle.proofs.Lengths.{segment_bytes-length, front_shorter, one_more}
+use Rattle.guest_bundle.proofs.Lengths.{front_shorter, one_more}
 use Rattle.guest_bundle.proofs.writing.segments_length.Goals as goal
+use Rattle.cloak_model.proofs.Lengths.{length-segment_bytes}
 
 pub overflow_add-size-in-loop-s : goal.overflow_add-size-in-loop-s
 overflow_add-size-in-loop-s c =
@@ -14,7 +15,7 @@ overflow_add-size-in-loop-s c =
       arith,
       one_more segment_bytes xs i c.s-item.result next,
       front_shorter segment_bytes xs (i + 1),
-      segment_bytes-length c.s-item.result,
+      length-segment_bytes c.s-item.result,
       ap length c.as_slice.ensures,
       c.loop-s.invariant,
       c.requires,

@@ -1,7 +1,7 @@
 use Rattle.std.proofs.Common.{◌++◌}
 use Rattle.cloak_machine.specs.Ending.{end_short_report}
 use Rattle.guest_kernel.specs.Summary.{summary_line}
-use Rattle.command_parts.proofs.RefusalFacts.{puts-failed, puts-first, puts-then}
+use Rattle.io_traits.proofs.ToldFacts.{puts-failed, puts-first, puts-then}
 use Rattle.image_commands.proofs.demonstrating.show_demo.Goals as goal
 
 pub returns-in_err-put_summary : goal.returns-in_err-put_summary

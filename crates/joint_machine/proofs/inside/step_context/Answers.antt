@@ -1,7 +1,7 @@
 use Rattle.std.proofs.Common.{◌∙◌, subst, ℕ, ap, false, refl, sym, true}
 use Rattle.cloak_model.specs.Csr.{interrupt_due}
 use Rattle.cloak_model.specs.Hart.{Hart}
-use Rattle.cloaked_side.proofs.Emitting.{some_then}
+use Rattle.cloak_model.proofs.Emitting.{some_then}
 use Rattle.joint_machine.proofs.Insides.{begun_is, turns_interrupted, turns_now, turns_stepping, steps_on}
 use Rattle.cloak_base.specs.declared.names.SpaceId.{SpaceId}
 use Rattle.space_law.specs.Mapping.{AreWhole}
@@ -18,7 +18,7 @@ returns-then-due-clause-turns g c j was stands holds are unclashed =
     c.take_interrupt.ensures.unmarks are (c.take_interrupt.ensures.interrupts j was stands)) unclashed
 
 pub returns-clause-emits_some : goal.returns-clause-emits_some
-returns-clause-emits_some g c = some_then g.E.Emit.gave _ c.step_domain.new.e _ c.step_domain.ensures.emits_some c.go_on.ensures.emits_some
+returns-clause-emits_some g c = some_then c.step_domain.ensures.emits_some c.go_on.ensures.emits_some
 
 pub returns-clause-turns : goal.returns-clause-turns
 returns-clause-turns g c j was stands holds are unclashed =

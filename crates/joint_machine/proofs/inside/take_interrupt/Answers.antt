@@ -1,4 +1,4 @@
-use Rattle.cloaked_side.proofs.Emitting.{emits_then}
+use Rattle.cloak_model.proofs.Emitting.{emits_then}
 use Rattle.joint_machine.proofs.Insides.{interrupts_out}
 use Rattle.joint_machine.proofs.inside.take_interrupt.Goals as goal
 

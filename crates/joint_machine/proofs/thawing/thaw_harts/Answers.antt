@@ -2,21 +2,21 @@ use Rattle.std.proofs.Common.{refl, arith}
 use Rattle.std.proofs.lemmas.Option.{slice_get_read}
 use Rattle.joint_machine.specs.Thawing.{IsSteadyHart}
 use Rattle.joint_machine.proofs.ThawedParts.{harts_all, harts_next, harts_none}
-use Rattle.joint_machine.proofs.Thaws.{all_get}
 use Rattle.joint_machine.proofs.thawing.thaw_harts.Goals as goal
+use Rattle.resource_map.proofs.Lists.{All-slice_get}
 
 pub loop-number-init : goal.loop-number-init
 loop-number-init c = harts_none c.args.from.now c.new-harts.result.items c.new-harts.ensures.items
 
 pub thaw_hart-requires-clause-aligned : goal.thaw_hart-requires-clause-aligned
 thaw_hart-requires-clause-aligned c =
-    (all_get IsSteadyHart c.args.from.now c.loop-number.number c.index-from-number.result c.requires.harts
+    (All-slice_get IsSteadyHart c.args.from.now c.loop-number.number c.index-from-number.result c.requires.harts
     (slice_get_read c.args.from.now _ c.loop-number.number c.index-from-number.result refl c.loop-number-test.true
     c.index-from-number.is)).aligned
 
 pub thaw_hart-requires-clause-csrs : goal.thaw_hart-requires-clause-csrs
 thaw_hart-requires-clause-csrs c =
-    (all_get IsSteadyHart c.args.from.now c.loop-number.number c.index-from-number.result c.requires.harts
+    (All-slice_get IsSteadyHart c.args.from.now c.loop-number.number c.index-from-number.result c.requires.harts
     (slice_get_read c.args.from.now _ c.loop-number.number c.index-from-number.result refl c.loop-number-test.true
     c.index-from-number.is)).csrs
 

@@ -1,4 +1,4 @@
-use Rattle.command_parts.proofs.RefusalFacts.{puts}
+use Rattle.io_traits.proofs.ToldFacts.{puts}
 use Rattle.read_back.proofs.ending.show_fault.Goals as goal
 
 pub returns-in-Unfit : goal.returns-in-Unfit

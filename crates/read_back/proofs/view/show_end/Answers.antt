@@ -1,6 +1,6 @@
 use Rattle.std.proofs.Common.{codes, Ok, Err}
 use Rattle.cloak_model.specs.Report.{kernel_lines}
-use Rattle.command_parts.proofs.RefusalFacts.{puts, puts-first, puts-then, puts-failed}
+use Rattle.io_traits.proofs.ToldFacts.{puts, puts-first, puts-then, puts-failed}
 use Rattle.read_back.specs.Text.{lines_or_fault}
 use Rattle.read_back.proofs.Lines.{fault_lines}
 use Rattle.read_back.proofs.view.show_end.Goals as goal

@@ -8,5 +8,5 @@ pub returns-clause-shows : goal.returns-clause-shows
 returns-clause-shows g c =
     let counted = c.count_items-ending.ensures.counts in
     answers (json_by true c.args.selection.now) c.args.name.now _ _ counted.items c.count_items-ending.result.1
-    c.put_ending-so_far.result c.answer.result counted.read
-    (Puts-all _ _ _ refl (then (c.put_counts-so_far.ensures _ counted.counted) c.put_ending-so_far.ensures)) c.answer.ensures
+    c.put_ending-so_far.result c.status_of.result counted.read
+    (Puts-all _ _ _ refl (then (c.put_counts-so_far.ensures _ counted.counted) c.put_ending-so_far.ensures)) c.status_of.ensures

@@ -8,7 +8,7 @@ pub returns-in-Ok-clause-shows : goal.returns-in-Ok-clause-shows
 returns-in-Ok-clause-shows g c =
     let shown = c.in-Ok.ensures.shows in
     answers (text_by false c.args.selection.now) c.args.name.now _ _ shown.items c.in-Ok.ending c.put_ending-so_far.result
-    c.answer.result shown.read (Puts-all _ _ _ refl (then shown.text c.put_ending-so_far.ensures)) c.answer.ensures
+    c.status_of.result shown.read (Puts-all _ _ _ refl (then shown.text c.put_ending-so_far.ensures)) c.status_of.ensures
 
 pub returns-in-Err-clause-shows : goal.returns-in-Err-clause-shows
 returns-in-Err-clause-shows g c =

@@ -2,8 +2,9 @@ use Rattle.std.proofs.Common.{[], ◌∙◌, ◌≡◌, ◌+◌, ◌-◌, ◌<�
 use Rattle.cloak_model.specs.Exchange.{Piece}
 use Rattle.cloak_model.specs.Joint.{Moment}
 use Rattle.cloak_machine.specs.declared.machine.Machine.{Machine}
-use Rattle.run_command.proofs.OutletFacts.{gave_all, emits_none}
-use Rattle.run_command.proofs.RunFacts.{GoesOn, emits_nothing, some_then, unclashed-next, goes_on-start, goes_on-more}
+use Rattle.run_command.proofs.OutletFacts.{gave_all, emits_failed}
+use Rattle.cloak_model.proofs.Emitting.{emits_none, some_then}
+use Rattle.run_command.proofs.RunFacts.{GoesOn, unclashed-next, goes_on-start, goes_on-more}
 use Rattle.run_command.proofs.RunFacts.{runs-all, runs-failed, stops-more}
 use Rattle.run_command.proofs.run.run_steps.Goals as goal
 
@@ -27,7 +28,7 @@ loop-left-init g c = record {
   same_out = refl;
   few = omega arith;
   made = refl;
-  some = ([], emits_nothing _);
+  some = ([], emits_none _ _);
   runs = λ m stands none.
       as_many (let none : 0 ≡ c.args.steps - c.args.steps = omega arith in none) (goes_on-start _ _ _ _ m stands);
 }
@@ -54,7 +55,7 @@ loop-left-preserved g c =
 pub returns-then-outlet-clause-runs : goal.returns-then-outlet-clause-runs
 returns-then-outlet-clause-runs g c = λ m stands none.
     runs-failed _ _ _ _ _ _ _ _ m (c.loop-left.invariant.runs m stands none) c.if-outlet.true
-    (λ ps. emits_none _ _ _ ps c.if-outlet.true)
+    (λ ps. emits_failed _ _ _ ps c.if-outlet.true)
 
 pub returns-in-Some-clause-runs : goal.returns-in-Some-clause-runs
 returns-in-Some-clause-runs g c = λ m stands none.

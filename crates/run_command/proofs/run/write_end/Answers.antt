@@ -1,7 +1,8 @@
 use Rattle.std.proofs.Common.{◌∙◌, ap}
 use Rattle.run_command.specs.Running.{status_of}
 use Rattle.run_command.proofs.OutletFacts.{gave_all}
-use Rattle.run_command.proofs.RunFacts.{ends_run, some_then}
+use Rattle.cloak_model.proofs.Emitting.{some_then}
+use Rattle.run_command.proofs.RunFacts.{ends_run}
 use Rattle.run_command.proofs.run.write_end.Goals as goal
 
 pub returns-clause-ends : goal.returns-clause-ends

@@ -1,14 +1,15 @@
 use Rattle.std.proofs.Common.{◌≡◌, ◌∙◌, true, false, sym}
 use Rattle.run_command.proofs.ClashFacts.{run_unclashed}
-use Rattle.run_command.proofs.OutletFacts.{emits_none, gave_all}
-use Rattle.run_command.proofs.RunFacts.{some_then, writes-front, writes-whole}
+use Rattle.run_command.proofs.OutletFacts.{emits_failed, gave_all}
+use Rattle.cloak_model.proofs.Emitting.{some_then}
+use Rattle.run_command.proofs.RunFacts.{writes-front, writes-whole}
 use Rattle.run_command.proofs.run.write_run.Goals as goal
 
 pub returns-then-outlet-clause-runs : goal.returns-then-outlet-clause-runs
 returns-then-outlet-clause-runs g c = λ b from o opens same stands none.
     writes-front _ b _ o
     (c.write_steps-stopped.ensures.runs b from o opens same stands (run_unclashed b c.args.steps o none))
-    c.if-outlet.true (λ ps. emits_none _ _ _ ps c.if-outlet.true)
+    c.if-outlet.true (λ ps. emits_failed _ _ _ ps c.if-outlet.true)
 
 pub returns-then-outlet-clause-some_stop : goal.returns-then-outlet-clause-some_stop
 returns-then-outlet-clause-some_stop g c = λ unfailed.

@@ -1,6 +1,7 @@
 use Rattle.cloak_model.specs.Run.{first_moment}
 use Rattle.run_command.proofs.OutletFacts.{gave_all}
-use Rattle.run_command.proofs.RunFacts.{begins_run, some_then}
+use Rattle.cloak_model.proofs.Emitting.{some_then}
+use Rattle.run_command.proofs.RunFacts.{begins_run}
 use Rattle.run_command.proofs.run.write_steps.Goals as goal
 
 pub returns-clause-runs : goal.returns-clause-runs

@@ -1,7 +1,8 @@
 use Rattle.std.proofs.Common.{List, ℕ, ◌∙◌, ap, sym, slice_index_or}
 use Rattle.cloak_model.specs.Hart.{Hart, started}
 use Rattle.step_lines.specs.Ahead.{ahead_of}
-use Rattle.run_trace.proofs.Harts.{hart_there, hart_past}
+use Rattle.alone_views.proofs.KernelHarts.{hart_there}
+use Rattle.run_trace.proofs.Harts.{hart_past}
 use Rattle.run_trace.proofs.kernel_side.ahead_at.Goals as goal
 
 pub returns-then-number-harts : goal.returns-then-number-harts

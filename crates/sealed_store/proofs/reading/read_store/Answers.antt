@@ -5,7 +5,8 @@ use Rattle.cloak_model.specs.StoredFiles.{StoredFile, IsStore}
 use Rattle.cloak_model.specs.Fields.{number}
 use Rattle.cloak_model.specs.StoreFault.{form_fault, body_of, store_fault}
 use Rattle.field_facts.proofs.Stands.{AreBytes}
-use Rattle.sealed_store.specs.Reading.{fault_of, files_in}
+use Rattle.field_facts.specs.Faults.{fault_of}
+use Rattle.sealed_store.specs.Reading.{files_in}
 use Rattle.sealed_store.proofs.Sealed.{spells}
 use Rattle.sealed_store.proofs.reading.read_store.Goals as goal
 

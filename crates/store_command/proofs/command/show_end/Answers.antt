@@ -1,6 +1,6 @@
 use Rattle.std.proofs.Common.{◌++◌, codes, Ok, Err}
 use Rattle.cloak_machine.specs.Ending.{end_report}
-use Rattle.command_parts.proofs.RefusalFacts.{puts, puts-first, puts-then, puts-failed}
+use Rattle.io_traits.proofs.ToldFacts.{puts, puts-first, puts-then, puts-failed}
 use Rattle.store_command.proofs.command.show_end.Goals as goal
 
 pub returns-in_err-put_all : goal.returns-in_err-put_all

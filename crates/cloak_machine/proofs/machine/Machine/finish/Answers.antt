@@ -1,6 +1,6 @@
 use Rattle.std.proofs.Common.{◌<◌, ◌^◌, ℕ, arith}
 use Rattle.cloak_model.specs.Run.{closing}
-use Rattle.cloaked_side.proofs.Emitting.{emits_then}
+use Rattle.cloak_model.proofs.Emitting.{emits_then}
 use Rattle.cloak_machine.proofs.Closed.{are_parts, console_closed}
 use Rattle.cloak_machine.proofs.Stepping.{finishes_as, few_closed}
 use Rattle.cloak_machine.proofs.machine.Machine.finish.Goals as goal

@@ -3,7 +3,7 @@ use Rattle.cloak_model.specs.Ledger.{Keys}
 use Rattle.cloak_model.specs.Run.{closing}
 use Rattle.cloak_model.specs.StoredFiles.{StandsForFiles}
 use Rattle.cloak_model.specs.StoredRun.{contents_of}
-use Rattle.cloaked_side.proofs.Emitting.{emits_then}
+use Rattle.cloak_model.proofs.Emitting.{emits_then}
 use Rattle.cloak_machine.proofs.Closed.{are_parts, console_closed}
 use Rattle.cloak_machine.proofs.Keys.{closing_disk, closing_keys, not_missed}
 use Rattle.cloak_machine.proofs.Stepping.{finishes_as, few_closed}

@@ -2,7 +2,7 @@ use Rattle.std.proofs.Common.{refl, sym, ap, subst, ◌≡◌, ◌∷◌, [], fa
 use Rattle.cloak_model.specs.declared.item.Item.{Item}
 use Rattle.cloak_model.specs.Exchange.{Emits, item_pieces}
 use Rattle.cloak_model.specs.Joint.{Turn}
-use Rattle.cloaked_side.proofs.Emitting.{emits_then}
+use Rattle.cloak_model.proofs.Emitting.{emits_then}
 use Rattle.cloak_machine.proofs.Stepping.{counts_behind, next_number, next_turn, reads_behind, step_made}
 use Rattle.cloak_machine.proofs.machine.Machine.step.Goals as goal
 

@@ -2,7 +2,7 @@ use Rattle.std.proofs.Common.{rules, arith, length, ◌+◌, ℕ, ◌≡◌, ◌
 use Rattle.cloak_model.specs.Cloaking.{settle}
 use Rattle.cloak_pager.specs.State.{held_in}
 use Rattle.cloaked_side.proofs.Settling.{settle_missed}
-use Rattle.cloaked_side.proofs.Emitting.{emits_then, emits_ciphers}
+use Rattle.cloak_model.proofs.Emitting.{emits_then, emits_ciphers}
 use Rattle.cloaked_side.proofs.Rooming.{rooms_spend, rooms_missed, rooms_alone, rooms_home, rest_by, home_gone, outside_still}
 use Rattle.std.proofs.lemmas.List.{length-append}
 use Rattle.cloaked_side.specs.Tracking.{spent_in}

@@ -5,7 +5,7 @@ use Rattle.cloak_pager.proofs.Calls.{stands_read}
 use Rattle.shadow_fold.specs.Table.{Table}
 use Rattle.cloaked_side.proofs.Settling.{settled_so, settled_spends}
 use Rattle.cloaked_side.proofs.Spending.{killed_misses, touch_shows_frame, touch_shows_none}
-use Rattle.cloaked_side.proofs.Emitting.{emits_none}
+use Rattle.cloak_model.proofs.Emitting.{emits_none}
 use Rattle.cloaked_side.proofs.Translating.{quiet_agrees, settled_agrees, read_agrees, ended_frames}
 use Rattle.cloaked_side.proofs.Tracking.{settle_tracks, quiet_ends, loud_ends, read_held}
 use Rattle.cloaked_side.proofs.memory.Memory.settle.Goals as goal

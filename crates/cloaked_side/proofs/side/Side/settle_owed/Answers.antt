@@ -4,9 +4,10 @@ use Rattle.cloak_model.specs.World.{World}
 use Rattle.cloaked_side.specs.Holding.{frames_of}
 use Rattle.cloaked_side.specs.Seeing.{Sees}
 use Rattle.cloaked_side.proofs.Cleared.{cleared_next, none_owed}
-use Rattle.cloaked_side.proofs.Ended.{mark_of_all, settled_next, settled_none}
+use Rattle.cloaked_side.proofs.Ended.{settled_next, settled_none}
 use Rattle.cloaked_side.proofs.Sided.{within_of}
 use Rattle.cloaked_side.proofs.side.Side.settle_owed.Goals as goal
+use Rattle.cloak_model.proofs.Marks.{is_marked_all}
 
 pub loop-i-init : goal.loop-i-init
 loop-i-init g c = record {
@@ -45,4 +46,4 @@ returns-clause-cleared g c r low =
     let past : c.count-count.result ≤ c.loop-i.i = c.loop-i-test.false in
     let same : length p.frames ≡ c.count-count.result = c.loop-i.invariant.same_count in
     none_owed p c.args.domain all_marked c.whole.ensures
-    (λ k lt. c.loop-i.invariant.cleared k (omega (arith, lt, past, same))) r (mark_of_all r low)
+    (λ k lt. c.loop-i.invariant.cleared k (omega (arith, lt, past, same))) r (is_marked_all r low)

@@ -3,7 +3,7 @@ use Rattle.std.proofs.lemmas.List.{length-set}
 use Rattle.std.proofs.lemmas.Option.{slice_get_read}
 use Rattle.cloak_model.specs.DomainState as program
 use Rattle.cloak_pager.specs.State.{PagerState}
-use Rattle.cloaked_side.proofs.Emitting.{emits_then}
+use Rattle.cloak_model.proofs.Emitting.{emits_then}
 use Rattle.joint_machine.proofs.AfterEnd.{at_end, ends_domain, free_ended, goes_domain}
 use Rattle.joint_machine.specs.Programs.{AreFreeUnused}
 use Rattle.joint_machine.proofs.Places.{numbered_set}

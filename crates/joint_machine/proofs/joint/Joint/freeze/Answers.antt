@@ -1,7 +1,8 @@
 use Rattle.std.proofs.Common.{◌∙◌, Some, map, refl, ap, sym}
 use Rattle.frozen_state.specs.FrozenState.{hart_with}
-use Rattle.joint_machine.proofs.Freezes.{freezes_joint, frozen_none, frozen_undrawn, lent, room_for, tells_all, tells_frames}
+use Rattle.joint_machine.proofs.Freezes.{freezes_joint, frozen_none, frozen_undrawn, room_for, tells_all, tells_frames}
 use Rattle.joint_machine.proofs.joint.Joint.freeze.Goals as goal
+use Rattle.joint_machine.proofs.Lent.{lends_pager}
 
 pub returns-then-not-has_room-clause-state : goal.returns-then-not-has_room-clause-state
 returns-then-not-has_room-clause-state c j stands drawn room =
@@ -10,14 +11,14 @@ returns-then-not-has_room-clause-state c j stands drawn room =
 
 pub returns-in_err-frozen-clause-state : goal.returns-in_err-frozen-clause-state
 returns-in_err-frozen-clause-state c j stands drawn room =
-    let lends = c.reseal_all.ensures.lends j.memory (lent c.args.self j stands) stands.memory.stream in
+    let lends = c.reseal_all.ensures.lends j.memory (lends_pager c.args.self j stands) stands.memory.stream in
     rw c.from_residual.ensures
     (sym (frozen_none j c.args.steps c.args.ivs.now (c.in_err-frozen.ensures j
     (tells_all c.args.self j c.reseal_all.new.pager _ stands lends c.as_slice.ensures.value))))
 
 pub returns-in_err-frames-clause-state : goal.returns-in_err-frames-clause-state
 returns-in_err-frames-clause-state c j stands drawn room =
-    let lends = c.reseal_all.ensures.lends j.memory (lent c.args.self j stands) stands.memory.stream in
+    let lends = c.reseal_all.ensures.lends j.memory (lends_pager c.args.self j stands) stands.memory.stream in
     rw c.from_residual-in_err-frames.ensures
     (sym (frozen_undrawn j c.args.steps c.args.ivs.now c.freeze_domains.new.ivs _ (c.in_ok-frozen.ensures j
     (tells_all c.args.self j c.reseal_all.new.pager _ stands lends c.as_slice.ensures.value))
@@ -25,7 +26,7 @@ returns-in_err-frames-clause-state c j stands drawn room =
 
 pub returns-clause-state : goal.returns-clause-state
 returns-clause-state c j stands drawn room =
-    let lends = c.reseal_all.ensures.lends j.memory (lent c.args.self j stands) stands.memory.stream in
+    let lends = c.reseal_all.ensures.lends j.memory (lends_pager c.args.self j stands) stands.memory.stream in
     ap (λ f. Some f) c.fill.ensures
     ∙ freezes_joint c.args.self j c.args.steps c.args.ivs.now c.freeze_domains.new.ivs c.freeze_frames.new.ivs c.reseal_all.new.pager
     _ _ _ _ _ _ stands lends (c.in_ok-frozen.ensures j

@@ -5,8 +5,9 @@ use Rattle.cloak_model.specs.Beginning.{stored_keys}
 use Rattle.cloak_model.specs.Bundle.{IsInGrammar}
 use Rattle.cloak_model.specs.Opening.{groups, key_count}
 use Rattle.joint_machine.specs.Starting.{StartsParts}
-use Rattle.joint_machine.proofs.Opens.{low_keys, no_key, no_page_draw, has_keys, has_parts, opens_joint, length-started_harts}
+use Rattle.joint_machine.proofs.Opens.{low_keys, no_key, no_page_draw, has_keys, has_parts, opens_joint}
 use Rattle.joint_machine.proofs.joint.Joint.open.Goals as goal
+use Rattle.cloak_model.proofs.Opening.{length-started_harts}
 
 pub returns-in_default-clause-opens : goal.returns-in_default-clause-opens
 returns-in_default-clause-opens c =

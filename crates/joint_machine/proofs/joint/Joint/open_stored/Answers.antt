@@ -14,9 +14,9 @@ use Rattle.joint_machine.specs.Filing.{AddsTo}
 use Rattle.joint_machine.specs.Programs.{AreNumbered}
 use Rattle.joint_machine.specs.Standing.{AreDomains}
 use Rattle.joint_machine.specs.Starting.{StartsParts}
-use Rattle.joint_machine.proofs.Opens.{length-started_harts}
 use Rattle.joint_machine.proofs.OpensOver.{all_new, no_draw, no_room, opens_over, unshown_yet}
 use Rattle.joint_machine.proofs.joint.Joint.open_stored.Goals as goal
+use Rattle.cloak_model.proofs.Opening.{length-started_harts}
 
 pub start_parts-requires : goal.start_parts-requires
 start_parts-requires c =

@@ -1,6 +1,6 @@
 use Rattle.std.proofs.Common.{refl, subst, sym}
 use Rattle.cloak_model.specs.Joint.{outside_step}
-use Rattle.cloaked_side.proofs.Emitting.{some_then}
+use Rattle.cloak_model.proofs.Emitting.{some_then}
 use Rattle.joint_machine.proofs.Turns.{ends_stay, ends_trapped, ends_put, ends_halt, ends_resumed}
 use Rattle.cloak_model.specs.Joint.{hart_in}
 use Rattle.cloaked_side.specs.Tracking.{GoesBy}
@@ -29,7 +29,7 @@ returns-in-Halt-clause-turns g c j s unclashed =
     ends_halt g.E.Emit.gave _ _ c.step_plainly.new.self _ _ j c.args.number _ (c.step_plainly.ensures.steps j s unclashed) c.in-Halt.value c.in-Halt.is refl
 
 pub returns-in-Resume-clause-emits_some : goal.returns-in-Resume-clause-emits_some
-returns-in-Resume-clause-emits_some g c = some_then g.E.Emit.gave _ c.step_plainly.new.e _ c.step_plainly.ensures.emits_some c.resume.ensures.emits_some
+returns-in-Resume-clause-emits_some g c = some_then c.step_plainly.ensures.emits_some c.resume.ensures.emits_some
 
 pub returns-in-Resume-clause-turns : goal.returns-in-Resume-clause-turns
 unfolding outside_step

@@ -1,7 +1,7 @@
 use Rattle.std.proofs.Common.{◌∙◌, ap, refl}
 use Rattle.cloak_model.specs.Hart.{Hart}
 use Rattle.cloak_model.specs.Joint.{hart_in}
-use Rattle.cloaked_side.proofs.Emitting.{some_then}
+use Rattle.cloak_model.proofs.Emitting.{some_then}
 use Rattle.joint_machine.specs.Standing.{step_in, turn_in}
 use Rattle.joint_machine.proofs.AfterEnd.{answers_as, goes_step, takes_step}
 use Rattle.joint_machine.proofs.Clashed.{before_end}
@@ -10,7 +10,7 @@ use Rattle.joint_machine.proofs.Turns.{hart_is}
 use Rattle.joint_machine.proofs.joint.Joint.turn.Goals as goal
 
 pub returns-clause-emits_some : goal.returns-clause-emits_some
-returns-clause-emits_some g c = some_then g.E.Emit.gave _ c.step-ended.new.e _ c.step-ended.ensures.emits_some
+returns-clause-emits_some g c = some_then c.step-ended.ensures.emits_some
     c.answer_any.ensures.emits_some
 
 pub returns-clause-turns : goal.returns-clause-turns

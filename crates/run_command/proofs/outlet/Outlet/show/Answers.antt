@@ -1,9 +1,9 @@
 use Rattle.std.proofs.Common.{refl, sym, ◌∙◌}
-use Rattle.run_command.proofs.OutletFacts.{emits_none, emits_shown}
+use Rattle.run_command.proofs.OutletFacts.{emits_failed, emits_shown}
 use Rattle.run_command.proofs.outlet.Outlet.show.Goals as goal
 
 pub returns-then-has_failed-clause-emits : goal.returns-then-has_failed-clause-emits
-returns-then-has_failed-clause-emits g c = emits_none _ _ _ _ (sym c.has_failed.ensures.failed ∙ c.if-has_failed.true)
+returns-then-has_failed-clause-emits g c = emits_failed _ _ _ _ (sym c.has_failed.ensures.failed ∙ c.if-has_failed.true)
 
 pub returns-clause-emits : goal.returns-clause-emits
 returns-clause-emits g c =

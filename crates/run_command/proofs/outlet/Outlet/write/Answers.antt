@@ -1,9 +1,9 @@
 use Rattle.std.proofs.Common.{refl, sym, ◌∙◌}
-use Rattle.run_command.proofs.OutletFacts.{emits_none, emits_recorded, recorded_as}
+use Rattle.run_command.proofs.OutletFacts.{emits_failed, emits_recorded, recorded_as}
 use Rattle.run_command.proofs.outlet.Outlet.write.Goals as goal
 
 pub returns-then-has_failed : goal.returns-then-has_failed
-returns-then-has_failed g c = emits_none _ _ _ _ (sym c.has_failed.ensures.failed ∙ c.if-has_failed.true)
+returns-then-has_failed g c = emits_failed _ _ _ _ (sym c.has_failed.ensures.failed ∙ c.if-has_failed.true)
 
 pub returns-then-matches : goal.returns-then-matches
 returns-then-matches g c =

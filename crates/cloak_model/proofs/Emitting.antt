@@ -38,6 +38,7 @@ emits_ciphers {E} {gave} {e} {f} {h} cs ds first second =
     (sym (map-append (λ (c : ℕ × List ℕ). Cipher c.0 c.1) cs ds))
     (emits_items (cipher_items cs) (cipher_items ds) first second)
 
-pub some_then : {E : Type 0} (gave : E → E → List Piece → Type 0) (e f h : E) → EmitsSome gave e f →
-    EmitsSome gave f h → EmitsSome gave e h
-some_then gave e f h first second = (first.0 ++ second.0, emits_then first.1 second.1)
+-- some pieces, and then others
+pub some_then : {E : Type 0} {gave : E → E → List Piece → Type 0} {e f h : E} → EmitsSome gave e f → EmitsSome gave f h →
+    EmitsSome gave e h
+some_then {E} {gave} {e} {f} {h} first second = (first.0 ++ second.0, emits_then first.1 second.1)

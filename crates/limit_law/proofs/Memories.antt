@@ -1,16 +1,18 @@
 -- What each change of a memory keeps, a step of the joint machine keeps.
-use Rattle.std.proofs.Common.{◌≡◌, ℕ, zero, suc, Bool, true, false, List, find, slice_get, Option, Some, None, Result, Ok, Err}
+use Rattle.std.proofs.Common.{◌≡◌, ℕ, Bool, true, false, List, slice_get, Option, Some, None, Result, Ok, Err}
 use Rattle.cloak_base.specs.declared.causes.Violation.{Violation}
 use Rattle.cloak_base.specs.declared.names.SpaceId.{SpaceId}
 use Rattle.cloak_model.specs.declared.context.ResumeFault.{ResumeFault}
+use Rattle.cloak_model.specs.declared.image.Bundle.{Bundle}
 use Rattle.cloak_model.specs.declared.inside.Went.{Went}
 use Rattle.cloak_model.specs.declared.inside.Went.TheVariants as went
 use Rattle.cloak_model.specs.declared.item.Item.{Item}
 use Rattle.cloak_model.specs.declared.outcome.Kernel.{Kernel}
 use Rattle.cloak_model.specs.declared.outcome.Kernel.TheVariants.{Resume}
-use Rattle.cloak_model.specs.Ahead.{settle_while, settle_found, settle_touched, settled_step, made_after, is_owed}
+use Rattle.cloak_model.specs.Ahead.{settle_touched, settled_step, made_after}
 use Rattle.cloak_model.specs.Asking.{Told}
-use Rattle.cloak_model.specs.Cloaking.{CloakedMemory, AfterSettling, seen_in, with_seen, settle}
+use Rattle.cloak_model.specs.Beginning.{Beginning, opening_from}
+use Rattle.cloak_model.specs.Cloaking.{CloakedMemory, AfterSettling, seen_in, with_seen}
 use Rattle.cloak_model.specs.Contexts.{Admitted, context_at, domain_of, slot_of, forget_root}
 use Rattle.cloak_model.specs.DomainState.{Control, Domain}
 use Rattle.cloak_model.specs.DomainStep.{DomainStepped, domain_step}
@@ -20,17 +22,24 @@ use Rattle.cloak_model.specs.Hypercalls.{Stepped}
 use Rattle.cloak_model.specs.Joint.{Moment, Turn, next_hart, cloak_of, cloak_outside, memory_of, without_mark, without_root, outside_ended, after_outside, outside_step, domain_ended, after_domain_step, pages_for, interrupt_ended, after_interrupt, by_interrupt, by_running, inside_step, turn_of, end_domain, step_before_end, joint_step}
 use Rattle.cloak_model.specs.KernelStep.{kernel_step, ticked}
 use Rattle.cloak_model.specs.Memory.{Seen, with_mark}
+use Rattle.cloak_model.specs.Opening.{RunEdge}
 use Rattle.cloak_model.specs.Parts.{Joint}
 use Rattle.cloak_model.specs.Resuming.{resume}
+use Rattle.cloak_model.specs.Run.{Run, run_from}
 use Rattle.cloak_model.proofs.ResumeParts.{with_roots, by_root, by_context, by_domain}
 use Rattle.cloak_model.specs.World.{World, MidStep, Flat, Cloaked, Alone, seen_of}
+use Rattle.kernel_isolation.specs.Isolation.{joint_until}
+use Rattle.kernel_isolation.proofs.Ahead.{SettleKeeps, touched_keeps}
+use Rattle.kernel_isolation.proofs.Opened.{is_opened}
 use Rattle.kernel_isolation.proofs.Settlings.{HasPlaces}
+use Rattle.kernel_isolation.proofs.Turns.{IsSteady, turn_is_alone}
 use Rattle.limit_law.proofs.Endings.{answers_keep}
-use Rattle.chain_law.proofs.ZeroWorlds.{InWorld}
+use Rattle.limit_law.proofs.Moments.{at_every_moment}
+use Rattle.limit_law.proofs.Worlds.{InWorld, EachKeeps, step_in, end_keeps}
 
 -- What takes a memory from P, before a step, to Q.
 pub record Carries (P Q : CloakedMemory → Type 0) : Type 0 where
-  pub settled : (f : ℕ) (m : CloakedMemory) → P m → P (settle f m).memory
+  pub settled : SettleKeeps P
   pub later : (m : CloakedMemory) → P m → Q m
   pub stepped : (slot : ℕ) (was : Domain) (c : MidStep) → HasPlaces c.memory → P c.memory →
       InWorld Q (domain_step slot was (Cloaked c)).world
@@ -40,7 +49,7 @@ pub record Carries (P Q : CloakedMemory → Type 0) : Type 0 where
 
 -- The same of memories alone: what follows a step's world is the memory that the joint machine takes from it.
 pub record Moves (P Q : CloakedMemory → Type 0) : Type 0 where
-  pub settled : (f : ℕ) (m : CloakedMemory) → P m → P (settle f m).memory
+  pub settled : SettleKeeps P
   pub later : (m : CloakedMemory) → P m → Q m
   pub stepped : (slot : ℕ) (was : Domain) (c : MidStep) → HasPlaces c.memory → P c.memory → (m : CloakedMemory) → Q m →
       Q (memory_of (domain_step slot was (Cloaked c)).world m)
@@ -55,21 +64,6 @@ module _ (P Q : CloakedMemory → Type 0) (k : Moves P Q) where
   JointQ j = Q j.memory
 
   -- A hart outside.
-
-  found_kept : (o : Option ℕ) (next : CloakedMemory → AfterSettling) (m : CloakedMemory) → P m →
-      ((x : CloakedMemory) → P x → P (next x).memory) → P (settle_found o next m).memory
-  found_kept None next m here more = here
-  found_kept (Some f) next m here more = more (settle f m).memory (k.settled f m here)
-
-  while_kept : (frames : List (List ℕ) → List ℕ) (n : ℕ) (m : CloakedMemory) → P m → P (settle_while frames n m).memory
-  unfolding settle_while
-  while_kept frames zero m here = here
-  while_kept frames (suc n) m here =
-      found_kept (find (is_owed m) (frames m.ram)) (settle_while frames n) m here (λ x there. while_kept frames n x there)
-
-  touched_kept : (h : Hart) (disk : List ℕ) (m : CloakedMemory) → P m → P (settle_touched h disk m).memory
-  unfolding settle_touched
-  touched_kept h disk m here = while_kept _ _ m here
 
   root_kept : (j : Joint) (satp ctx reply : ℕ) (was : Domain) (control : Control) (admitted : Admitted)
       (answer : Result (Unit {0}) ResumeFault) → JointQ j → JointQ (by_root j satp ctx reply was control admitted answer).joint
@@ -107,7 +101,8 @@ module _ (P Q : CloakedMemory → Type 0) (k : Moves P Q) where
   outside_kept : (j : Joint) (number : ℕ) (h : Hart) → P j.memory → JointQ (outside_step j number h).joint
   unfolding outside_step settled_step
   outside_kept j number h here =
-      outside_by j number h (settle_touched h j.disk j.memory) (k.later _ (touched_kept h j.disk j.memory here))
+      outside_by j number h (settle_touched h j.disk j.memory)
+      (k.later _ (touched_keeps P k.settled h j.disk j.memory here))
 
   -- A hart inside.
 
@@ -185,7 +180,7 @@ module _ (P Q : CloakedMemory → Type 0) (k : Carries P Q) where
   memory_kept (Cloaked c) m there here = there
   memory_kept (Alone h) m there here = here
 
-  moves : Moves P Q
+  pub moves : Moves P Q
   moves = record {
     settled = k.settled;
     later = k.later;
@@ -200,3 +195,38 @@ module _ (P Q : CloakedMemory → Type 0) (k : Carries P Q) where
 
   pub step_carries : (m : Moment) → HasPlaces m.joint.memory → P m.joint.memory → Q (joint_step m).joint.memory
   step_carries m places here = step_moves P Q moves m places here
+
+-- what keeps it in each change, in a step too
+pub each_carries : (P : CloakedMemory → Type 0) → EachKeeps P →
+    ((s : Seen) (m : CloakedMemory) → P m → P (with_seen s m)) →
+    ((root : SpaceId → Option ℕ) (m : CloakedMemory) → P m → P (with_roots root m)) → Carries P P
+each_carries P k seen rooted = record {
+  settled = k.settles;
+  later = λ m here. here;
+  stepped = λ slot was c places here. step_in P k slot was (Cloaked c) here;
+  seen = seen;
+  rooted = rooted;
+  ended = λ d m here. end_keeps P k.settles k.drops d (Cloaked (cloak_for m d)) here;
+}
+
+-- At every moment of a run.
+
+pub record SteadyWith (P : CloakedMemory → Type 0) (j : Joint) : Type 0 where
+  pub steady : IsSteady j
+  pub memory : P j.memory
+
+pub moved_at : (P : CloakedMemory → Type 0) → Moves P P → (b : Bundle) (from : Beginning) (budget : ℕ) (r : Run) →
+    ((o : RunEdge) → opening_from b from ≡ Ok o → P o.joint.memory) → run_from b from budget ≡ Ok r → (n : ℕ) →
+    SteadyWith P (joint_until n r)
+moved_at P k b from budget r opened =
+    at_every_moment (SteadyWith P) b from budget r
+    (λ o opens. record { steady = (is_opened b from o opens).steady; memory = opened o opens })
+    (λ m same here. record {
+      steady = (turn_is_alone m here.steady).steady;
+      memory = step_moves P P k m here.steady.places here.memory;
+    })
+
+pub carried_at : (P : CloakedMemory → Type 0) → Carries P P → (b : Bundle) (from : Beginning) (budget : ℕ) (r : Run) →
+    ((o : RunEdge) → opening_from b from ≡ Ok o → P o.joint.memory) → run_from b from budget ≡ Ok r → (n : ℕ) →
+    SteadyWith P (joint_until n r)
+carried_at P k = moved_at P (moves P P k)
