@@ -232,14 +232,14 @@ module _ (q : PageId) (x : ℕ) where
 abbrev HasFrames : ℕ → CloakedMemory → Type 0
 HasFrames n m = length m.ram ≡ n
 
-count_owed : (f : ℕ) (q : PageId) (draw : Option (List ℕ × Random)) (m : CloakedMemory) → length (settle_owed f q draw m).memory.ram ≡ length m.ram
-unfolding settle_owed
-count_owed f q None m = length-set m.ram f _
-count_owed f q (Some draw) m = length-set m.ram f _
+-- a frame that is owed a page is settled so
+settled_as : (f : ℕ) (q : PageId) (m : CloakedMemory) → owed_in m f ≡ Some q → settle f m ≡ settle_owed f q (vector_of m.ledger q) m
+unfolding settle settle_if
+settled_as f q m is = ap (λ o. settle_if f o m) is
 
 counts : (n : ℕ) (q : PageId) → OfferKeeps q (HasFrames n) (HasFrames n)
 counts n q = record {
-  settles = λ f p m is same. count_owed f p (vector_of m.ledger p) m ∙ same;
+  settles = λ f p m is same. ap (λ (a : AfterSettling). length a.memory.ram) (sym (settled_as f p m is)) ∙ (count_settle f m ∙ same);
   compares = λ a b m same. same;
   takes = λ g m clean same. same;
   stays = λ m same. same;
