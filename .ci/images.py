@@ -12,11 +12,9 @@ def words(*numbers):
     return struct.pack(f"<{len(numbers)}I", *numbers)
 
 
-def bundle(segments=(), programs=(), turns=(0,), blocks=0):
-    """Returns an image of 64 frames, in version 1: addresses and bytes of segments, numbers and bytes of programs, zeros for
-    blocks.
-    """
-    numbers = [1, 64, max(turns) + 1, len(turns), 0x80000000, len(segments), blocks, len(programs)]
+def bundle(segments=(), programs=(), turns=(0,), blocks=0, frames=64):
+    """Returns an image in version 1: addresses and bytes of segments, numbers and bytes of programs, zeros for blocks."""
+    numbers = [1, frames, max(turns) + 1, len(turns), 0x80000000, len(segments), blocks, len(programs)]
     made = b"CLOAKBND" + words(*numbers) + bytes(turns)
     for address, data in segments:
         made += words(address, len(data)) + data

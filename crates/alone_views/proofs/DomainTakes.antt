@@ -3,8 +3,9 @@ use Rattle.std.proofs.Common.{◌≡◌, ◌≢◌, ◌∙◌, ◌<◌, ◌/◌,
 use Rattle.std.specs.Prelude.{is_some}
 use Rattle.cloak_model.specs.declared.answer.Answer.{Answer}
 use Rattle.cloak_model.specs.declared.context.ResumeFault.{ResumeFault}
-use Rattle.cloak_model.specs.declared.item.Item.{Item}
-use Rattle.cloak_model.specs.declared.item.Item.TheVariants as item
+use Rattle.cloak_model.specs.Items.{Item, item_of}
+use Rattle.cloak_model.specs.declared.item.Item as code
+use Rattle.cloak_model.specs.declared.item.Item.TheVariants as made
 use Rattle.cloak_model.specs.Contexts.{Context, context_at}
 use Rattle.cloak_model.specs.DomainState.{Control}
 use Rattle.cloak_model.specs.DomainStep.{interrupt, interrupt_if, resume_slot}
@@ -414,19 +415,19 @@ pub takes_as_at : (old machine : DomainAlone) (number : ℕ) (schedule : List �
 takes_as_at old machine number schedule i j same takes = subst (λ (x : Item). TakesAs old machine (domain_takes number schedule x)) (sym same) takes
 
 -- an item that is of another half
-pub ignored : (machine : DomainAlone) (d : ℕ) (schedule : List ℕ) (i : Item) (s : model.DomainAlone) → ((n : ℕ) → i ≡ item.Step n → ⊥) → ((n : ℕ) → i ≡ item.Close n → ⊥) →
-    ((n : ℕ) → i ≡ item.Ok n → ⊥) → ((n k : ℕ) → i ≡ item.Absent n k → ⊥) → ((n k : ℕ) → i ≡ item.Word n k → ⊥) → ((n : ℕ) → i ≡ item.Timer n → ⊥) →
-    ((n c r : ℕ) → i ≡ item.Resume n c r → ⊥) → ((n : ℕ) → i ≡ item.Stopped n → ⊥) → ((n : ℕ) → i ≡ item.Ended n → ⊥) → StandsForState machine s → StandsForState machine (domain_takes d schedule i s)
+pub ignored : (machine : DomainAlone) (d : ℕ) (schedule : List ℕ) (i : code.Item) (s : model.DomainAlone) → ((n : ℕ) → i ≡ made.Step n → ⊥) → ((n : ℕ) → i ≡ made.Close n → ⊥) →
+    ((n : ℕ) → i ≡ made.Ok n → ⊥) → ((n k : ℕ) → i ≡ made.Absent n k → ⊥) → ((n k : ℕ) → i ≡ made.Word n k → ⊥) → ((n : ℕ) → i ≡ made.Timer n → ⊥) →
+    ((n c r : ℕ) → i ≡ made.Resume n c r → ⊥) → ((n : ℕ) → i ≡ made.Stopped n → ⊥) → ((n : ℕ) → i ≡ made.Ended n → ⊥) → StandsForState machine s → StandsForState machine (domain_takes d schedule (item_of i) s)
 unfolding domain_takes
-ignored machine d schedule (item.Step n) s step close ok absent word timer resume stop over stands = absurd (step n refl)
-ignored machine d schedule (item.Close n) s step close ok absent word timer resume stop over stands = absurd (close n refl)
-ignored machine d schedule (item.Ok n) s step close ok absent word timer resume stop over stands = absurd (ok n refl)
-ignored machine d schedule (item.Absent n k) s step close ok absent word timer resume stop over stands = absurd (absent n k refl)
-ignored machine d schedule (item.Word n k) s step close ok absent word timer resume stop over stands = absurd (word n k refl)
-ignored machine d schedule (item.Timer n) s step close ok absent word timer resume stop over stands = absurd (timer n refl)
-ignored machine d schedule (item.Resume n c r) s step close ok absent word timer resume stop over stands = absurd (resume n c r refl)
-ignored machine d schedule (item.Stopped n) s step close ok absent word timer resume stop over stands = absurd (stop n refl)
-ignored machine d schedule (item.Ended n) s step close ok absent word timer resume stop over stands = absurd (over n refl)
+ignored machine d schedule (made.Step n) s step close ok absent word timer resume stop over stands = absurd (step n refl)
+ignored machine d schedule (made.Close n) s step close ok absent word timer resume stop over stands = absurd (close n refl)
+ignored machine d schedule (made.Ok n) s step close ok absent word timer resume stop over stands = absurd (ok n refl)
+ignored machine d schedule (made.Absent n k) s step close ok absent word timer resume stop over stands = absurd (absent n k refl)
+ignored machine d schedule (made.Word n k) s step close ok absent word timer resume stop over stands = absurd (word n k refl)
+ignored machine d schedule (made.Timer n) s step close ok absent word timer resume stop over stands = absurd (timer n refl)
+ignored machine d schedule (made.Resume n c r) s step close ok absent word timer resume stop over stands = absurd (resume n c r refl)
+ignored machine d schedule (made.Stopped n) s step close ok absent word timer resume stop over stands = absurd (stop n refl)
+ignored machine d schedule (made.Ended n) s step close ok absent word timer resume stop over stands = absurd (over n refl)
 ignored machine d schedule _ s step close ok absent word timer resume stop over stands = stands
 
 -- The answer of a call.

@@ -7,8 +7,8 @@ use Rattle.cloak_model.specs.KernelAlone as model
 use Rattle.cloak_model.specs.KernelAlone.{take_cipher, take_put, kernel_takes, take_kernel_item, kernel_step_ended, take_leave, take_kernel_step}
 use Rattle.cloak_model.specs.Record.{IsItem}
 use Rattle.cloak_model.specs.Effect.{IsWidth}
-use Rattle.cloak_model.specs.declared.item.Item.{Item}
-use Rattle.cloak_model.specs.declared.item.Item.TheVariants as item
+use Rattle.cloak_model.specs.Items.{Item}
+use Rattle.cloak_model.specs.Items as item
 use Rattle.alone_views.specs.KernelChanges.{ChangesTo}
 use Rattle.alone_views.specs.KernelStanding.{Gains, StandsForKernel, turns_of, unfit_step}
 use Rattle.alone_views.specs.declared.kernel.KernelAlone.{KernelAlone}

@@ -6,6 +6,7 @@ mod KernelItems
 mod KernelRam
 mod KernelSteps
 pub mod DomainAsks
+pub mod DomainFiles
 pub mod DomainHarts
 pub mod DomainLoads
 pub mod DomainPlaces

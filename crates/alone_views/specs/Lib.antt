@@ -1,3 +1,4 @@
+pub mod DomainBeginning
 pub mod DomainMoments
 pub mod DomainPages
 pub mod DomainStanding

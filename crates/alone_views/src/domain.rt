@@ -1,4 +1,5 @@
 //! A program that runs alone.
+ghost use Rattle.cloak_model.specs.Items.{item_of};
 ghost use Rattle.std.specs.Prelude.{ℕ, List, None, false, ◌≡◌, ◌<◌, ◌==◌, ◌^◌, [], ◌∷◌, ◌++◌, All, IfOk, IfSome, length, option_map, if◌then◌else◌};
 ghost use Rattle.cloak_model.specs.Bundle.{IsKernelImage, IsProgramIn};
 ghost use Rattle.cloak_model.specs.Contexts.{Context, context_at};
@@ -84,10 +85,10 @@ impl DomainAlone {
 
     /// Takes the next item. An item of another half or of another domain is ignored. Once an item was unfit, nothing
     /// changes any more.
-    pub fn take(&mut self, i: &Item) -> Result<(), Unfit>
+    pub fn take(&mut self, i: &Item<'_>) -> Result<(), Unfit>
         ensures takes { (number : ℕ) (schedule : List ℕ) (s : spec.DomainAlone) →
             StandsForDomain number schedule self.old s →
-            TakesDomainItem number schedule self.new result (spec.take_domain_item number schedule s i.now) }
+            TakesDomainItem number schedule self.new result (spec.take_domain_item number schedule s (item_of i.now)) }
         ensures stays_unfit { (u : Unfit) → unfit_in self.old ≡ Some u → (result ≡ Err u) × (self.new ≡ self.old) }
     {
         match self.unfit {
@@ -139,9 +140,9 @@ impl DomainAlone {
     }
 
     /// Takes an item if none was unfit.
-    fn take_fit(&mut self, i: &Item)
+    fn take_fit(&mut self, i: &Item<'_>)
         ensures takes { TakesAs self.old self.new
-            (spec.domain_takes (number_in self.old) (schedule_in self.old) i.now) }
+            (spec.domain_takes (number_in self.old) (schedule_in self.old) (item_of i.now)) }
         ensures keeps { KeepsSetting self.old self.new }
     {
         match *i {

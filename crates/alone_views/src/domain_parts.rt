@@ -1,8 +1,8 @@
 //! What a program that runs alone is at a moment.
-ghost use Rattle.std.specs.Prelude.{◌≡◌, ◌<◌, ℕ, List, None, IfSome, option_map};
+ghost use Rattle.std.specs.Prelude.{◌≡◌, ◌<◌, ℕ, List, None, IfSome, is_some, option_map};
 ghost use Rattle.cloak_model.specs.Contexts.{context_at};
 ghost use Rattle.cloak_model.specs.DomainAlone as spec;
-ghost use Rattle.cloak_model.specs.Resources.{page_at};
+ghost use Rattle.cloak_model.specs.Resources.{page_at, resource_at};
 
 use crate::domain::{DomainAlone, DomainStage};
 use cloak_base::PageId;
@@ -62,6 +62,15 @@ impl DomainAlone {
         ensures page { IfSome result (λ q. q.page < 1024) }
     {
         self.domain.space_page(space, address)
+    }
+
+    /// There is a resource of this number.
+    pub fn has_resource(&self, resource: u32) -> bool
+        ensures { (number : ℕ) (schedule : List ℕ) (s : spec.DomainAlone) →
+            StandsForDomain number schedule self.now s → s.unfit ≡ None →
+            result ≡ is_some (resource_at s.part.domain.control.resources resource) }
+    {
+        self.domain.pages(resource).is_some()
     }
 
     /// The bytes of a page.

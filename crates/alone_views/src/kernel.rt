@@ -1,6 +1,7 @@
 //! The kernel alone: it takes the items of a record one after another, and ignores the inward ones. A step of a hart
 //! outside shows the step's Ciphers and then makes the plain step, once the step's end has been read. A step of a hart
 //! inside counts the timer, and shows what the step's Ciphers, Puts and Leave say.
+ghost use Rattle.cloak_model.specs.Items.{item_of};
 ghost use Rattle.std.specs.Prelude.{◌≡◌, ◌<◌, ◌≤◌, ◌^◌, ℕ, true, None, List, length, All, IfOk, IsSome};
 ghost use Rattle.cloak_model.specs.Bundle.{IsKernelImage};
 ghost use Rattle.cloak_model.specs.Exchange.{EmitsSome};
@@ -84,10 +85,10 @@ impl KernelAlone {
     }
 
     /// Takes an item if none was unfit.
-    fn take_fit<E: Emit>(&mut self, i: &Item, e: &mut E)
-        ensures gains { (turns : List ℕ) (s : spec.KernelAlone) → IsItem i.now → StandsForKernel self.old turns s →
-            Gains E.gave e.old e.new self.new turns s (spec.kernel_takes turns i.now s) }
-        ensures ending { is_end i.now ≡ true → EndsAs self.old self.new }
+    fn take_fit<E: Emit>(&mut self, i: &Item<'_>, e: &mut E)
+        ensures gains { (turns : List ℕ) (s : spec.KernelAlone) → IsItem (item_of i.now) → StandsForKernel self.old turns s →
+            Gains E.gave e.old e.new self.new turns s (spec.kernel_takes turns (item_of i.now) s) }
+        ensures ending { is_end (item_of i.now) ≡ true → EndsAs self.old self.new }
         ensures schedule { turns_of self.new ≡ turns_of self.old }
         ensures emits_some { EmitsSome E.gave e.old e.new }
     {
@@ -116,10 +117,10 @@ impl KernelAlone {
     }
 
     /// Takes an item, unless one was unfit.
-    fn take_next<E: Emit>(&mut self, i: &Item, e: &mut E)
-        ensures gains { (turns : List ℕ) (s : spec.KernelAlone) → IsItem i.now → StandsForKernel self.old turns s →
-            Gains E.gave e.old e.new self.new turns s (spec.take_kernel_item turns s i.now) }
-        ensures ending { is_end i.now ≡ true → unfit_step self.old ≡ None → EndsAs self.old self.new }
+    fn take_next<E: Emit>(&mut self, i: &Item<'_>, e: &mut E)
+        ensures gains { (turns : List ℕ) (s : spec.KernelAlone) → IsItem (item_of i.now) → StandsForKernel self.old turns s →
+            Gains E.gave e.old e.new self.new turns s (spec.take_kernel_item turns s (item_of i.now)) }
+        ensures ending { is_end (item_of i.now) ≡ true → unfit_step self.old ≡ None → EndsAs self.old self.new }
         ensures stays { IsSome (unfit_step self.old) → (self.new ≡ self.old) × (e.new ≡ e.old) }
         ensures schedule { turns_of self.new ≡ turns_of self.old }
         ensures emits_some { EmitsSome E.gave e.old e.new }
@@ -142,10 +143,10 @@ impl KernelAlone {
 
     /// Takes the next item, and shows what the console gains. Once an item was unfit, each is answered so, and nothing
     /// changes.
-    pub fn take<E: Emit>(&mut self, i: &Item, e: &mut E) -> Result<(), Unfit>
-        ensures takes { (turns : List ℕ) (s : spec.KernelAlone) → IsItem i.now → StandsForKernel self.old turns s →
-            TakesItem E.gave e.old e.new self.new result turns s (spec.take_kernel_item turns s i.now) }
-        ensures ending { is_end i.now ≡ true → unfit_step self.old ≡ None → EndsAs self.old self.new }
+    pub fn take<E: Emit>(&mut self, i: &Item<'_>, e: &mut E) -> Result<(), Unfit>
+        ensures takes { (turns : List ℕ) (s : spec.KernelAlone) → IsItem (item_of i.now) → StandsForKernel self.old turns s →
+            TakesItem E.gave e.old e.new self.new result turns s (spec.take_kernel_item turns s (item_of i.now)) }
+        ensures ending { is_end (item_of i.now) ≡ true → unfit_step self.old ≡ None → EndsAs self.old self.new }
         ensures answer { result ≡ answer_for (unfit_step self.new) }
         ensures stays { IsSome (unfit_step self.old) → (self.new ≡ self.old) × (e.new ≡ e.old) }
         ensures emits_some { EmitsSome E.gave e.old e.new }

@@ -6,7 +6,8 @@
 //! stood for, `take` tells whether the item fits or the step at which one did not, and the machine then stands for the
 //! state after the item; the kernel's `take` also emits the byte that its console gains. Once an item was unfit nothing
 //! changes. `harts`, `frames`, `step`, `stage`, `ending`, `context` and `asked` tell what a machine is at a moment (no clause
-//! says what `asked` tells). `report` writes the machine's lines of the report. After the opening no call takes memory.
+//! says what `asked` tells). `report` writes the machine's lines of the report. Before the first item `add_file` and `set_page` give a program the files
+//! of an earlier run. After the opening no call takes memory.
 //!
 //! `FlatRam` is the memory of a kernel alone: frames in which nothing is settled, and the reservations of its harts. The plain
 //! step and the walk are made over it as over any `Ram`.
@@ -14,6 +15,7 @@
 
 mod asked;
 mod domain;
+mod domain_files;
 mod domain_parts;
 mod kernel;
 mod kernel_ciphers;

@@ -21,7 +21,7 @@ faulty_line fault = None
 abbrev pub fault_words : TextFault → List ℕ
 fault_words NoBytes = codes "the file is empty, or is not there"
 fault_words TooLarge = codes "the file has more than 16777216 bytes"
-fault_words NotText = codes "the file is no text in UTF-8"
+fault_words NotText = codes "the file is not text in UTF-8"
 fault_words (Faulty (asm.UnknownWord n)) = codes "the first word is no instruction, and no label with its colon"
 fault_words (Faulty (asm.BadOperand n)) =
     codes "an operand is missing, extra, not of the kind that stands here, or out of its range"

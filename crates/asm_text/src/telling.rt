@@ -79,7 +79,7 @@ fn fault_words(fault: TextFault) -> &'static str
     match fault {
         TextFault::NoBytes => "the file is empty, or is not there",
         TextFault::TooLarge => "the file has more than 16777216 bytes",
-        TextFault::NotText => "the file is no text in UTF-8",
+        TextFault::NotText => "the file is not text in UTF-8",
         TextFault::Faulty(AsmFault::UnknownWord(_)) => {
             "the first word is no instruction, and no label with its colon"
         }

@@ -9,7 +9,7 @@ use Rattle.cloak_base.proofs.Pages.{same_page-self}
 use Rattle.cloak_base.specs.declared.names.PageId.{PageId}
 use Rattle.cloak_base.specs.Random.{Random}
 use Rattle.cloak_model.specs.Cloaking.{CloakedMemory, AfterSettling, AfterOffer, owed_in, owes, owing_frame, settle, settle_if, settle_owed, settle_frame_if, with_comparison, taken, compared, unless_missed, offer}
-use Rattle.cloak_model.specs.Ledger.{vector_of}
+use Rattle.cloak_model.specs.Ledger.{next_vector}
 use Rattle.cause_law.specs.Presented.{Differs, at_comparison}
 use Rattle.cause_law.proofs.Kept.{IsKept, IsHome, kept_settled, housed}
 use Rattle.cause_law.proofs.Settled.{settles}
@@ -28,7 +28,7 @@ owed_marks f q (Some draw) m = refl
 if_marks : (f : ℕ) (o : Option PageId) (m : CloakedMemory) → Marks (settle_if f o m) m
 unfolding settle_if
 if_marks f None m = refl
-if_marks f (Some q) m = owed_marks f q (vector_of m.ledger q) m
+if_marks f (Some q) m = owed_marks f q (next_vector m.ledger) m
 
 settle_marks : (f : ℕ) (m : CloakedMemory) → Marks (settle f m) m
 unfolding settle

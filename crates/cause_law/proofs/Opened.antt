@@ -12,7 +12,7 @@ use Rattle.cloak_model.specs.declared.image.Program.{Program}
 use Rattle.cloak_model.specs.Beginning.{Beginning, opening_from}
 use Rattle.cloak_model.specs.Cloaking.{CloakedMemory, owed_in}
 use Rattle.cloak_model.specs.Contexts.{Context, context_at}
-use Rattle.cloak_model.specs.Ledger.{Keys, vector_of}
+use Rattle.cloak_model.specs.Ledger.{Keys, next_vector}
 use Rattle.cloak_model.specs.Opening.{RunEdge, started_ledger, started_memory, started_joint, place_pages, place_programs}
 use Rattle.cloak_model.specs.PageMoves.{place_with, place}
 use Rattle.cloak_model.specs.Parts.{Joint}
@@ -34,7 +34,7 @@ place_with_owed q f bytes (Some draw) m = refl
 
 place_owed : (q : PageId) (f : ℕ) (bytes : List ℕ) (m : CloakedMemory) → HasOwed m.ledger.owed (place q f bytes m)
 unfolding place
-place_owed q f bytes m = place_with_owed q f bytes (vector_of m.ledger q) m
+place_owed q f bytes m = place_with_owed q f bytes (next_vector m.ledger) m
 
 then_owed : (owed : List (Option PageId)) (next : CloakedMemory → Option CloakedMemory) (o : Option CloakedMemory) →
     HasOwed owed o → ((m : CloakedMemory) → HasOwed m.ledger.owed (next m)) → HasOwed owed (option_and_then next o)

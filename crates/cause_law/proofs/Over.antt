@@ -14,7 +14,7 @@ use Rattle.cloak_model.specs.declared.inside.Copied.TheVariants as copied
 use Rattle.cloak_model.specs.declared.inside.Ran.{Ran}
 use Rattle.cloak_model.specs.declared.inside.Ran.TheVariants as ran
 use Rattle.cloak_model.specs.declared.inside.Went.TheVariants as went
-use Rattle.cloak_model.specs.declared.item.Item.{Item}
+use Rattle.cloak_model.specs.Items.{Item}
 use Rattle.cloak_model.specs.declared.image.Program.{Program}
 use Rattle.cloak_model.specs.declared.outcome.Kernel.{Kernel}
 use Rattle.cloak_model.specs.declared.outcome.Kernel.TheVariants as kernel
@@ -167,7 +167,7 @@ unfolding step_if
 over_if None slot d w = refl
 over_if (Some c) slot d w = over_phase c.phase slot c d w
 
-over_step : (slot : ℕ) (d : Domain) (w : World) → (domain_step slot d w).answer.domain.control.ended ≡ d.control.ended
+pub over_step : (slot : ℕ) (d : Domain) (w : World) → (domain_step slot d w).answer.domain.control.ended ≡ d.control.ended
 unfolding domain_step domain_script
 over_step slot d w = over_if _ slot d w
 
@@ -176,7 +176,7 @@ unfolding interrupt_if
 over_interrupt_if None slot d = refl
 over_interrupt_if (Some c) slot d = refl
 
-over_interrupt : (slot : ℕ) (d : Control) → (interrupt slot d).control.ended ≡ d.ended
+pub over_interrupt : (slot : ℕ) (d : Control) → (interrupt slot d).control.ended ≡ d.ended
 unfolding interrupt
 over_interrupt slot d = over_interrupt_if _ slot d
 
@@ -208,7 +208,7 @@ resumed_empty : (slot hart answer : ℕ) (d : Control) → IsEmptyIf d → IsEmp
 unfolding resume_slot resume_at
 resumed_empty slot hart answer d is = resumed_if slot hart answer d _ is refl
 
-resumed_over : (slot hart answer : ℕ) (d : Control) → (resume_slot slot hart answer d).control.ended ≡ d.ended
+pub resumed_over : (slot hart answer : ℕ) (d : Control) → (resume_slot slot hart answer d).control.ended ≡ d.ended
 unfolding resume_slot
 resumed_over slot hart answer d = over_told slot answer _ _
 

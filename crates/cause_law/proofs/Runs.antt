@@ -249,13 +249,13 @@ same_moment (suc n) schedule steps j (t ∷ turns) le =
 
 -- A run.
 
-record RunReaches (b : Bundle) (r : Run) (n : ℕ) : Type 0 where
+pub record RunReaches (b : Bundle) (r : Run) (n : ℕ) : Type 0 where
   pub steady : IsSteady (moment_at b r n).joint
   pub sound : IsSound (moment_at b r n).joint
   pub next : (moment_at b r (suc n)).joint ≡ (joint_step (moment_at b r n)).joint
 
 -- what every run has
-record RunSo (b : Bundle) (r : Run) : Type 0 where
+pub record RunSo (b : Bundle) (r : Run) : Type 0 where
   pub reaches : (n : ℕ) → n < length r.turns → RunReaches b r n
   pub sound : IsSound r.opened.joint
   pub listed : r.opened.joint.ended ≡ replicate 4 None
@@ -297,7 +297,7 @@ opened_so b from budget o opens =
       };
     }
 
-run_so : (b : Bundle) (from : Beginning) (budget : ℕ) (r : Run) → run_from b from budget ≡ Ok r → RunSo b r
+pub run_so : (b : Bundle) (from : Beginning) (budget : ℕ) (r : Run) → run_from b from budget ≡ Ok r → RunSo b r
 run_so b from budget r is = of_opened b budget (RunSo b) (opening_from b from) r is (opened_so b from budget)
 
 sound_at : (b : Bundle) (r : Run) → RunSo b r → (n : ℕ) → n ≤ length r.turns → IsSound (moment_at b r n).joint

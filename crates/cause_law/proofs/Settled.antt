@@ -7,7 +7,7 @@ use Rattle.cloak_base.specs.declared.names.PageId.{PageId}
 use Rattle.cloak_base.specs.Random.{Random}
 use Rattle.cloak_model.specs.Ahead.{is_owed}
 use Rattle.cloak_model.specs.Cloaking.{CloakedMemory, AfterSettling, owed_in, settle_owed, settle_if, settle}
-use Rattle.cloak_model.specs.Ledger.{vector_of}
+use Rattle.cloak_model.specs.Ledger.{next_vector}
 use Rattle.kernel_isolation.proofs.Settlings.{HasPlaces}
 use Rattle.cloak_model.proofs.Owing.{owed_within}
 
@@ -65,7 +65,7 @@ if_settles f None m places is = record {
   spared = λ none. refl;
   shown = ap (λ (o : Option PageId). shown_if (is_some o) f (slice_index_or m.ram f [])) (sym is);
 }
-if_settles f (Some q) m places is = owed_settles f q (vector_of m.ledger q) m places is
+if_settles f (Some q) m places is = owed_settles f q (next_vector m.ledger) m places is
 
 pub settles : (f : ℕ) (m : CloakedMemory) → HasPlaces m → Settles f m (settle f m)
 unfolding settle

@@ -1,7 +1,7 @@
 -- What the closing of a run leaves: nothing is kept from the kernel in a frame of RAM.
 use Rattle.std.specs.Prelude.{ℕ, ◌≡◌, false, List, [], length, map, filter, None, Ok, slice_index_or}
 use Rattle.cloak_model.specs.declared.image.Bundle.{Bundle}
-use Rattle.cloak_model.specs.declared.item.Item.TheVariants as item
+use Rattle.cloak_model.specs.Items as item
 use Rattle.cloak_model.specs.Ahead.{is_owed}
 use Rattle.cloak_model.specs.Beginning.{Beginning}
 use Rattle.cloak_model.specs.Cloaking.{CloakedMemory, owed_in}

@@ -12,7 +12,7 @@ use Rattle.cloak_base.proofs.Pages.{same_page_tells, is_of_tells}
 use Rattle.cloak_model.specs.declared.access.Walked.{Walked}
 use Rattle.cloak_model.specs.declared.answer.Answer.{Answer}
 use Rattle.cloak_model.specs.declared.answer.Answer.TheVariants as told
-use Rattle.cloak_model.specs.declared.item.Item.{Item}
+use Rattle.cloak_model.specs.Items.{Item}
 use Rattle.cloak_model.specs.Asking.{Told, Asking}
 use Rattle.cloak_model.specs.AskPages.{answer_item, is_store, replies, if_drawn, ask_led_inside, offered_by, ask_offer, reached, reach_by_table, is_marked, settled_if_marked, clear_from, ask_reach, ask_write, ask_get, ask_put, ask_clear, ask_copy, ask_forget}
 use Rattle.cloak_model.specs.Cloaking.{CloakedMemory, owed_in, settle, offer}

@@ -9,7 +9,7 @@ use Rattle.cloak_base.specs.Random.{Random}
 use Rattle.cloak_base.specs.declared.names.PageId.{PageId}
 use Rattle.cloak_base.proofs.Pages.{same_page-self}
 use Rattle.cloak_model.specs.Cloaking.{CloakedMemory, AfterSettling, AfterOffer, owed_in, settle_owed, settle_if, settle, settle_frame_if, owing_frame, owes, with_owed, with_comparison, taken, compared, unless_missed, offer}
-use Rattle.cloak_model.specs.Ledger.{vector_of}
+use Rattle.cloak_model.specs.Ledger.{next_vector}
 use Rattle.domain_isolation.proofs.InOrder.{decided}
 use Rattle.kernel_isolation.proofs.Settlings.{HasPlaces}
 use Rattle.chain_law.specs.Zeros.{IsFresh, HaveVectors}
@@ -91,7 +91,7 @@ settle_owed_fresh f p (Some draw) m owed = record {
 
 -- after a settling
 stay_settled : (m : CloakedMemory) → SettlesKept (FreshStay m)
-stay_settled m f p x owed stay = fresh_then m x _ stay (settle_owed_fresh f p (vector_of x.ledger p) x owed)
+stay_settled m f p x owed stay = fresh_then m x _ stay (settle_owed_fresh f p (next_vector x.ledger) x owed)
 
 pub settle_fresh : (f : ℕ) (m : CloakedMemory) → FreshStay m (settle f m).memory
 settle_fresh f m = settle_keeps (FreshStay m) (stay_settled m) f m (fresh_same m)
@@ -111,7 +111,7 @@ if_others : (f : ℕ) (o : Option PageId) (m : CloakedMemory) (g : ℕ) → g �
     owed_in (settle_if f o m).memory g ≡ owed_in m g
 unfolding settle_if
 if_others f None m g other = refl
-if_others f (Some p) m g other = owed_others f p (vector_of m.ledger p) m g other
+if_others f (Some p) m g other = owed_others f p (next_vector m.ledger) m g other
 
 pub settle_others : (f : ℕ) (m : CloakedMemory) (g : ℕ) → g ≢ f → owed_in (settle f m).memory g ≡ owed_in m g
 unfolding settle

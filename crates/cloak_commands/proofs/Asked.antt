@@ -15,6 +15,7 @@ use Rattle.image_commands.specs.Demonstrating.{DemoAnswers}
 use Rattle.image_commands.specs.Generating.{GenAnswers}
 use Rattle.image_commands.proofs.Upgraded.{upgrade_refuses}
 use Rattle.read_back.proofs.Answered.{view_refuses, solo_refuses}
+use Rattle.read_back.proofs.AnsweredOver.{over_refuses}
 use Rattle.run_command.proofs.AnswerFacts.{answers_no_run, same_files}
 use Rattle.stats_command.proofs.AnswerFacts.{answers_no_run as counts_no_run}
 use Rattle.store_command.proofs.AnswerFacts.{answers_no_run as stored_no_run, same_files as stored_same}
@@ -70,6 +71,9 @@ wants_memory (spec.View bundle record_name) before after given same low refuses 
     view_refuses {asked = spec.View bundle record_name} {r = refusal.NoMemory} tt (no_run _ _ _ same) low refuses
 wants_memory (spec.Solo domain bundle record_name) before after given same low refuses =
     solo_refuses {asked = spec.Solo domain bundle record_name} {r = refusal.NoMemory} tt (no_run _ _ _ same) low refuses
+wants_memory (spec.SoloOver domain bundle record_name old) before after given same low refuses =
+    over_refuses {asked = spec.SoloOver domain bundle record_name old} {r = refusal.NoMemory} tt (no_run _ _ _ same) low
+    refuses
 wants_memory (spec.Gen number bundle_name) before after given same low refuses =
     gen_lacks number bundle_name before after given same low refuses
 wants_memory (spec.Demo number steps) before after given same low refuses =
@@ -93,6 +97,7 @@ keeps_same (spec.Run bundle record_name steps randomness) given held =
     same_files (spec.Run bundle record_name steps randomness) given held held (λ name. refl)
 keeps_same (spec.View bundle record_name) given held = λ name. refl
 keeps_same (spec.Solo domain bundle record_name) given held = λ name. refl
+keeps_same (spec.SoloOver domain bundle record_name old) given held = λ name. refl
 keeps_same (spec.Gen number bundle_name) given held = λ other apart. refl
 keeps_same (spec.Demo number steps) given held = λ name. refl
 keeps_same (spec.Stats bundle steps randomness) given held = λ name. refl

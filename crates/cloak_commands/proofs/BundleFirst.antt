@@ -16,6 +16,7 @@ use Rattle.command_parts.specs.NoRun.{AsksFile, HasCause, IsReadFault, IsRefused
 use Rattle.command_parts.specs.Order.{FromBundleOn, IsNextToRead}
 use Rattle.command_parts.specs.Outside.{FilesOutside, Outside}
 use Rattle.command_parts.specs.Refusal.{status_of_refusal}
+use Rattle.read_back.specs.AnsweringOver.{HasCauseOver}
 use Rattle.cloak_commands.specs.Answering.{Answers}
 use Rattle.cloak_commands.specs.BundleFirst.{JudgesBundleFirst}
 use Rattle.guest_bundle.proofs.Faultless.{no_fault}
@@ -45,6 +46,8 @@ next_is (spec.View bundle record_name) held name bytes file fault asks told faul
     next ∙ (let named : Some bundle ≡ Some name = asks in cc)
 next_is (spec.Solo domain bundle record_name) held name bytes file fault asks told faulty next =
     next ∙ (let named : Some bundle ≡ Some name = asks in cc)
+next_is (spec.SoloOver domain bundle record_name old) held name bytes file fault asks told faulty next =
+    is_first held bundle name bytes file fault (let named : Some bundle ≡ Some name = asks in cc) told faulty next
 next_is (spec.Gen number bundle_name) held name bytes file fault asks told faulty next = absurd next
 next_is (spec.Demo number steps) held name bytes file fault asks told faulty next = absurd next
 next_is (spec.Stats bundle steps randomness) held name bytes file fault asks told faulty next =
@@ -95,6 +98,34 @@ of_refused {S} {O} asked before after name bytes fault asks told faulty given =
     subst (λ (n : List ℕ). Tells after.files.unread n)
     (next_is asked before.files.held name bytes cause.name fault asks told faulty cause.next) cause.unread
 
+-- With that status the bundle was read before the files of the earlier run, so it has no fault.
+no_over : {S : Type 0} (d : ℕ) (n r : List ℕ) (old : spec.OldFiles) (name bytes : List ℕ) (fault : BundleFault)
+    (refused : Refusal) (before after : FilesOutside S) → AsksFile (spec.SoloOver d n r old) name →
+    before.held name ≡ Some bytes → bundle_fault bytes ≡ Some fault → status.ReadFault ≡ status_of_refusal refused →
+    HasCauseOver (spec.SoloOver d n r old) refused before after → ⊥
+no_over {S} d n r old name bytes fault refusal.NoSuchDomain before after asks told faulty is cause =
+    let no : status.ReadFault ≡ status.Usage = is in cc
+no_over {S} d n r old name bytes fault refusal.ReadFault before after asks told faulty is cause =
+    let named : Some n ≡ Some name = asks in
+    let soloed : spec.SoloOver d n r old ≡ spec.SoloOver cause.d cause.asks.bundle_name cause.record_name cause.old =
+    cause.asks.solo in
+    is_none before.held cause.asks.bundle_name name bytes fault cause.bundle (cc) told faulty cause.asks.file
+no_over {S} d n r old name bytes fault refusal.NoMemory before after asks told faulty is cause =
+    let no : status.ReadFault ≡ status.NoMemory = is in cc
+no_over {S} d n r old name bytes fault refusal.ShortSecret before after asks told faulty is cause =
+    let no : status.ReadFault ≡ status.BadStore = is in cc
+no_over {S} d n r old name bytes fault (refusal.BadStore other) before after asks told faulty is cause =
+    let no : status.ReadFault ≡ status.BadStore = is in cc
+no_over {S} d n r old name bytes fault (refusal.NoRoom domain) before after asks told faulty is cause =
+    let no : status.ReadFault ≡ status.BadStore = is in cc
+no_over {S} d n r old name bytes fault (refusal.Usage other) before after asks told faulty is cause = cause.lacks
+no_over {S} d n r old name bytes fault (refusal.BadBundle other) before after asks told faulty is cause = cause.lacks
+no_over {S} d n r old name bytes fault refusal.NoKey before after asks told faulty is cause = cause.lacks
+no_over {S} d n r old name bytes fault refusal.NoPageDraw before after asks told faulty is cause = cause.lacks
+no_over {S} d n r old name bytes fault (refusal.BadState other) before after asks told faulty is cause = cause.lacks
+no_over {S} d n r old name bytes fault (refusal.ChangedDomain domain) before after asks told faulty is cause = cause.lacks
+no_over {S} d n r old name bytes fault (refusal.ChangedFrame frame) before after asks told faulty is cause = cause.lacks
+
 of_read : {S O : Type 0} (asked : spec.Asked) (before after : Outside S O) → Answers asked before after status.ReadFault →
     (name bytes : List ℕ) (fault : BundleFault) → AsksFile asked name → before.files.held name ≡ Some bytes →
     bundle_fault bytes ≡ Some fault → Tells after.files.unread name
@@ -114,6 +145,18 @@ of_read {S} {O} (spec.Solo domain bundle record_name) before after (inr given) n
     let named : Some bundle ≡ Some name = asks in
     let soloed : spec.Solo domain bundle record_name ≡ spec.Solo given.d given.asks.bundle_name given.record_name =
     given.asks.solo in
+    absurd (is_none before.files.held given.asks.bundle_name name bytes fault given.bundle (cc) told faulty given.asks.file)
+of_read {S} {O} (spec.SoloOver domain bundle record_name old) before after (inl given) name bytes fault asks told faulty =
+    of_refused (spec.SoloOver domain bundle record_name old) before after name bytes fault asks told faulty given
+of_read {S} {O} (spec.SoloOver domain bundle record_name old) before after (inr (inl given)) name bytes fault asks told
+    faulty =
+    absurd (no_over domain bundle record_name old name bytes fault given.refused before.files after.files asks told faulty
+    given.status given.cause)
+of_read {S} {O} (spec.SoloOver domain bundle record_name old) before after (inr (inr given)) name bytes fault asks told
+    faulty =
+    let named : Some bundle ≡ Some name = asks in
+    let soloed : spec.SoloOver domain bundle record_name old
+    ≡ spec.SoloOver given.d given.asks.bundle_name given.record_name given.old = given.asks.solo in
     absurd (is_none before.files.held given.asks.bundle_name name bytes fault given.bundle (cc) told faulty given.asks.file)
 of_read {S} {O} (spec.Gen number bundle_name) before after given name bytes fault asks told faulty = absurd given
 of_read {S} {O} (spec.Demo number steps) before after given name bytes fault asks told faulty =

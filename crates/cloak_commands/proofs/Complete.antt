@@ -6,6 +6,7 @@ use Rattle.completeness.proofs.Faults.{never_rose}
 use Rattle.completeness.proofs.Freezes.{freezes_are_complete}
 use Rattle.completeness.proofs.Images.{demos_are_complete, gens_are_complete}
 use Rattle.completeness.proofs.Runs.{runs_are_complete}
+use Rattle.completeness.proofs.SoloOvers.{solo_overs_are_complete}
 use Rattle.completeness.proofs.Stats.{stats_are_complete}
 use Rattle.completeness.proofs.Stores.{stores_are_complete}
 use Rattle.completeness.proofs.Thaws.{thaws_are_complete}
@@ -31,6 +32,8 @@ complete_by {S} {O} (spec.View bundle record_name) answer before after low given
     views_are_complete S O bundle record_name answer before after low given
 complete_by {S} {O} (spec.Solo domain bundle record_name) answer before after low given =
     solos_are_complete S O domain bundle record_name answer before after low given
+complete_by {S} {O} (spec.SoloOver domain bundle record_name old) answer before after low given =
+    solo_overs_are_complete S O domain bundle record_name old answer before after low given
 complete_by {S} {O} (spec.Gen number bundle_name) answer before after low given =
     gens_are_complete S O number bundle_name answer before after given
 complete_by {S} {O} (spec.Demo number steps) answer before after low given =

@@ -11,6 +11,7 @@ use Rattle.command_parts.specs.declared.status.Status.{Status}
 use Rattle.command_parts.specs.NoRun.{OnlyRefuses}
 use Rattle.command_parts.specs.Outside.{Outside}
 use Rattle.read_back.specs.Answering.{ViewAnswers, SoloAnswers}
+use Rattle.read_back.specs.AnsweringOver.{SoloOverAnswers}
 use Rattle.run_command.specs.Answering.{RunAnswers, KeepsFiles}
 use Rattle.stats_command.specs.Answering.{StatsAnswers}
 use Rattle.store_command.specs.Answering.{StoreAnswers}
@@ -28,6 +29,8 @@ Answers (spec.Run bundle record_name steps randomness) before after answer =
 Answers (spec.View bundle record_name) before after answer = ViewAnswers (spec.View bundle record_name) before after answer
 Answers (spec.Solo domain bundle record_name) before after answer =
     SoloAnswers (spec.Solo domain bundle record_name) before after answer
+Answers (spec.SoloOver domain bundle record_name old) before after answer =
+    SoloOverAnswers (spec.SoloOver domain bundle record_name old) before after answer
 Answers (spec.Gen number bundle_name) before after answer = GenAnswers number bundle_name before after answer
 Answers (spec.Demo number steps) before after answer = Demonstrates number steps before after answer
 Answers (spec.Stats bundle steps randomness) before after answer =
@@ -48,6 +51,7 @@ KeepsOthers (spec.Run bundle record_name steps randomness) answer held held' =
     KeepsFiles (spec.Run bundle record_name steps randomness) answer held held'
 KeepsOthers (spec.View bundle record_name) answer held held' = SameFiles held held'
 KeepsOthers (spec.Solo domain bundle record_name) answer held held' = SameFiles held held'
+KeepsOthers (spec.SoloOver domain bundle record_name old) answer held held' = SameFiles held held'
 KeepsOthers (spec.Gen number bundle_name) answer held held' = OtherFiles bundle_name held held'
 KeepsOthers (spec.Demo number steps) answer held held' = SameFiles held held'
 KeepsOthers (spec.Stats bundle steps randomness) answer held held' = SameFiles held held'

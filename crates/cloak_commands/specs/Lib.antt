@@ -1,3 +1,4 @@
 pub mod Answering
 pub mod BundleFirst
 pub mod Program
+pub mod OnDisk

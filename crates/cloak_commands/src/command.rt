@@ -11,7 +11,7 @@ use command_words::{Request, read_words};
 use frozen_commands::{freeze_command, thaw_command};
 use image_commands::{demo_command, gen_command, upgrade_command};
 use io_traits::{Shelf, Sink};
-use read_back::{solo_command, view_command};
+use read_back::{solo_command, solo_over_command, view_command};
 use run_command::run_command;
 use stats_command::stats_command;
 use std::alloc::Global;
@@ -42,6 +42,7 @@ fn carry_out<S: Shelf, O: Sink>(
         Request::Run(run) => run_command(alloc, &run, shelf, out),
         Request::View(files) => view_command(alloc, &files, shelf, out),
         Request::Solo(solo) => solo_command(alloc, &solo, shelf, out),
+        Request::SoloOver(over) => solo_over_command(alloc, &over, shelf, out),
         Request::Gen(image) => gen_command(alloc, image.number, image.bundle, shelf, out),
         Request::Demo(demo) => demo_command(alloc, demo.number, demo.steps, out),
         Request::Stats(stats) => stats_command(alloc, &stats, shelf, out),

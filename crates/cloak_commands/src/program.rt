@@ -5,7 +5,7 @@ ghost use Rattle.command_parts.specs.Exiting.{Exits};
 ghost use Rattle.command_parts.specs.Outside.{outside};
 ghost use Rattle.status_sentence.specs.Sentence as spec;
 ghost use Rattle.status_sentence.specs.Showing.{sentence_text};
-ghost use Rattle.cloak_commands.specs.Program.{AnswersWords, TakesMemory, asked_by, asked_in};
+ghost use Rattle.cloak_commands.specs.Program.{AnswersWords, CompletesWords, JudgesWords, TakesMemory, asked_by, asked_in};
 
 use crate::command::cloak;
 use crate::words::ProgramWords;
@@ -49,6 +49,10 @@ pub fn run_program<S: Shelf, O: Sink>(
     requires writing { S.writing_faults shelf.old < 2 ^ 64 - 1 }
     requires output { O.faults out.old < 2 ^ 64 - 1 }
     ensures exits { Exits (AnswersWords words.now)
+        (outside S.Shelf O.Sink shelf.old out.old) (outside S.Shelf O.Sink shelf.new out.new) result }
+    ensures complete { Exits (CompletesWords words.now)
+        (outside S.Shelf O.Sink shelf.old out.old) (outside S.Shelf O.Sink shelf.new out.new) result }
+    ensures bundle_first { Exits (JudgesWords words.now)
         (outside S.Shelf O.Sink shelf.old out.old) (outside S.Shelf O.Sink shelf.new out.new) result }
     ensures files { result ≢ Status.WriteFault → S.is_settled shelf.new }
     ensures shown { result ≢ Status.WriteFault → O.is_settled out.new }

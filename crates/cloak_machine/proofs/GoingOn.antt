@@ -11,8 +11,8 @@ use Rattle.cloak_model.specs.Exchange.{Emits, Piece, item_pieces}
 use Rattle.cloak_model.specs.Ledger.{Keys}
 use Rattle.cloak_model.specs.Opening.{Lack, RunEdge, drawn_keys, is_placed, key_count, keys_for, numbers_below, opened_by, opened_with, opening, opening_items, started_joint, started_ledger, started_memory}
 use Rattle.cloak_model.specs.declared.image.Program.{Program}
-use Rattle.cloak_model.specs.declared.item.Item.{Item}
-use Rattle.cloak_model.specs.declared.item.Item.TheVariants.{Cipher}
+use Rattle.cloak_model.specs.Items.{Item}
+use Rattle.cloak_model.specs.Items.{Cipher}
 use Rattle.cloak_pager.specs.State.{owed_under, page_of, right_at}
 use Rattle.cloak_pager.specs.declared.frame_right.FrameRight.{FrameRight}
 use Rattle.cloak_pager.specs.declared.frame_right.FrameRight.TheVariants.{Outside, Clean, Changed, Spent}

@@ -6,7 +6,7 @@ use Rattle.cloak_base.specs.declared.causes.Stop.TheVariants as stop
 use Rattle.cloak_base.specs.declared.names.PageId.{PageId}
 use Rattle.cloak_model.specs.Cloaking.{CloakedMemory, settle, settle_owed}
 use Rattle.cloak_model.specs.Joint.{cloak_outside, hart_in}
-use Rattle.cloak_model.specs.Ledger.{vector_of}
+use Rattle.cloak_model.specs.Ledger.{next_vector}
 use Rattle.cloak_model.specs.Parts.{Joint}
 use Rattle.cloak_model.proofs.Offering.{settle_keeps}
 use Rattle.cloak_model.specs.Run.{closing, settled_below}
@@ -21,7 +21,7 @@ owed_keys f q (Some draw) m = refl
 settle_keys : (f : ℕ) (m : CloakedMemory) → (settle f m).memory.ledger.keys ≡ m.ledger.keys
 settle_keys f m =
     settle_keeps (λ x. x.ledger.keys ≡ m.ledger.keys)
-    (λ g q x is same. owed_keys g q (vector_of x.ledger q) x ∙ same) f m refl
+    (λ g q x is same. owed_keys g q (next_vector x.ledger) x ∙ same) f m refl
 
 below_keys : (n : ℕ) (c : MidStep) → (settled_below n c).memory.ledger.keys ≡ c.memory.ledger.keys
 unfolding settled_below

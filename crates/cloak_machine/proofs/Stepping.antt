@@ -9,7 +9,7 @@ use Rattle.std.specs.List.{concat, flat_map}
 use Rattle.cloak_base.specs.declared.causes.Stop.{Stop}
 use Rattle.cloak_base.specs.declared.causes.Stop.TheVariants as cause
 use Rattle.cloak_model.specs.declared.image.Bundle.{Bundle}
-use Rattle.cloak_model.specs.declared.item.Item.TheVariants as item
+use Rattle.cloak_model.specs.Items as item
 use Rattle.cloak_model.specs.DomainState.{Domain, domain_line}
 use Rattle.cloak_model.specs.Exchange.{Piece, Emits, item_pieces, shown_each}
 use Rattle.cloak_model.specs.Joint.{Moment, Turn, joint_step, next_hart}

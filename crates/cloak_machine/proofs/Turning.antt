@@ -15,7 +15,7 @@ use Rattle.cloak_model.specs.declared.inside.Ran.{Ran}
 use Rattle.cloak_model.specs.declared.inside.Ran.TheVariants as ran
 use Rattle.cloak_model.specs.declared.inside.Went.{Went}
 use Rattle.cloak_model.specs.declared.inside.Went.TheVariants as went
-use Rattle.cloak_model.specs.declared.item.Item.{Item}
+use Rattle.cloak_model.specs.Items.{Item}
 use Rattle.cloak_model.specs.declared.outcome.Kernel.{Kernel}
 use Rattle.cloak_model.specs.declared.outcome.Kernel.TheVariants.{Stay, Put, Resume}
 use Rattle.cloak_model.specs.Asking.{Told}

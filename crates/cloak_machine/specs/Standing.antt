@@ -3,7 +3,7 @@ use Rattle.std.specs.Prelude.{ℕ, ◌≡◌, ◌≤◌, ◌+◌, List, [], ◌�
 use Rattle.cloak_base.specs.Random.{Random}
 use Rattle.cloak_base.specs.declared.causes.Stop.{Stop}
 use Rattle.cloak_model.specs.declared.image.Bundle.{Bundle}
-use Rattle.cloak_model.specs.declared.item.Item.TheVariants as item
+use Rattle.cloak_model.specs.Items as item
 use Rattle.cloak_model.specs.DomainState.{Domain, domain_line}
 use Rattle.cloak_model.specs.Exchange.{Piece, Emits, item_pieces}
 use Rattle.cloak_model.specs.Opening.{RunEdge, NoKey, NoPageDraw, NoRoom, opening}

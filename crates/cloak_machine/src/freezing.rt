@@ -12,7 +12,7 @@ ghost use Rattle.cloak_machine.specs.Thawing.{ThawsMachine};
 use crate::machine::Machine;
 use crate::schedule::Schedule;
 use arrayvec::ArrayVec;
-use cloak_model::{Bundle, Item};
+use cloak_model::Bundle;
 use frozen_state::{Frozen, FrozenRoom};
 use io_traits::Stream;
 use joint_machine::{Joint, ThawFault};
@@ -55,7 +55,6 @@ impl Machine {
             schedule,
             steps,
             console: Console::new(),
-            marker: Item::Step { number: 0 },
             placings: ArrayVec::new(),
         })
     }

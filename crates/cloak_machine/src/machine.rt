@@ -36,24 +36,12 @@ pub struct Machine {
     pub(crate) schedule: Schedule,
     pub(crate) steps: u32,
     pub(crate) console: Console,
-    /// The marker of the last step. It is kept, since an item has room for a page, and to build one clears it.
-    pub(crate) marker: Item,
     /// Where the programs are placed, which is asked for once, by the opening.
     pub(crate) placings: ArrayVec<Placing, 4>,
     ghost turns: { All (λ h. h < harts_of joint) schedule.turns.items },
     ghost counted: { console.count ≤ steps },
     ghost settled: { steps ≡ 0 → AreOwedOrOutside joint.memory.pager },
     ghost outside: { steps ≡ 0 → placings.items ≢ [] → AllOutside joint },
-}
-
-/// Makes an item the marker of a step.
-fn set_number(marker: &mut Item, number: u32)
-    ensures { marker.new ≡ Item.Step number }
-{
-    match marker {
-        Item::Step { number: n } => *n = number,
-        _ => *marker = Item::Step { number },
-    }
 }
 
 /// Shows the byte of a step, if there is one.
@@ -103,7 +91,6 @@ impl Machine {
             schedule,
             steps: 0,
             console: Console::new(),
-            marker: Item::Step { number: 0 },
             placings,
         })
     }
@@ -136,7 +123,6 @@ impl Machine {
             schedule,
             steps: 0,
             console: Console::new(),
-            marker: Item::Step { number: 0 },
             placings,
         })
     }
@@ -196,8 +182,7 @@ impl Machine {
     {
         let number = self.schedule.next();
         self.steps += 1;
-        set_number(&mut self.marker, self.steps);
-        e.item(&self.marker);
+        e.item(&Item::Step { number: self.steps });
         let turned = self.joint.turn(number, e);
         show(&mut self.console, turned.console, e);
         turned.stop

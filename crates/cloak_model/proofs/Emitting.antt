@@ -1,8 +1,8 @@
 -- What is given to an emitter, one after another.
 use Rattle.std.proofs.Common.{ℕ, List, [], ◌++◌, append_assoc, sym, subst}
 use Rattle.std.proofs.lemmas.List.{append-nil, map-append}
-use Rattle.cloak_model.specs.declared.item.Item.{Item}
-use Rattle.cloak_model.specs.declared.item.Item.TheVariants.{Cipher}
+use Rattle.cloak_model.specs.Items.{Item}
+use Rattle.cloak_model.specs.Items.{Cipher}
 use Rattle.cloak_model.specs.World.{cipher_items}
 use Rattle.cloak_model.specs.Exchange.{Piece, Emits, EmitsSome, item_pieces, recorded, item_bytes}
 

@@ -5,7 +5,7 @@ use Rattle.cloak_base.specs.Random.{Random}
 use Rattle.cloak_base.specs.declared.names.PageId.{PageId}
 use Rattle.cloak_base.proofs.Choices.{either}
 use Rattle.cloak_base.proofs.Lists.{emptied}
-use Rattle.cloak_model.specs.Ledger.{vector_of}
+use Rattle.cloak_model.specs.Ledger.{next_vector}
 use Rattle.cloak_model.specs.Cloaking.{CloakedMemory, AfterSettling, AfterOffer, owed_in, owing_frame, owes, settle_owed, settle_if, settle, settle_frame_if, with_owed, with_comparison, taken, compared, unless_missed, offer}
 
 -- Settling.
@@ -14,7 +14,7 @@ use Rattle.cloak_model.specs.Cloaking.{CloakedMemory, AfterSettling, AfterOffer,
 abbrev pub SettlesKept : (CloakedMemory → Type 0) → Type 0
 SettlesKept P =
     (f : ℕ) (q : PageId) (m : CloakedMemory) → owed_in m f ≡ Some q → P m →
-    P (settle_owed f q (vector_of m.ledger q) m).memory
+    P (settle_owed f q (next_vector m.ledger) m).memory
 
 module _ (P : CloakedMemory → Type 0) (settles : SettlesKept P) where
   by_owed : (f : ℕ) (o : Option PageId) (m : CloakedMemory) → owed_in m f ≡ o → P m → P (settle_if f o m).memory
@@ -49,7 +49,7 @@ clean_by g f q (Some draw) m clean = still_empty m.ledger.owed f g clean
 pub frame_stays_clean : (g : ℕ) (o : Option ℕ) (m : CloakedMemory) → owed_in m g ≡ None →
     owed_in (settle_frame_if o m).memory g ≡ None
 frame_stays_clean g o m clean =
-    settle_frame_keeps (λ x. owed_in x g ≡ None) (λ f q x is here. clean_by g f q (vector_of x.ledger q) x here) o m clean
+    settle_frame_keeps (λ x. owed_in x g ≡ None) (λ f q x is here. clean_by g f q (next_vector x.ledger) x here) o m clean
 
 cleans_by : (f : ℕ) (q : PageId) (draw : Option (List ℕ × Random)) (m : CloakedMemory) →
     owed_in (settle_owed f q draw m).memory f ≡ None
@@ -60,7 +60,7 @@ cleans_by f q (Some draw) m = emptied m.ledger.owed f
 cleans_if : (f : ℕ) (o : Option PageId) (m : CloakedMemory) → owed_in m f ≡ o → owed_in (settle_if f o m).memory f ≡ None
 unfolding settle_if
 cleans_if f None m is = is
-cleans_if f (Some q) m is = cleans_by f q (vector_of m.ledger q) m
+cleans_if f (Some q) m is = cleans_by f q (next_vector m.ledger) m
 
 pub settle_cleans : (f : ℕ) (m : CloakedMemory) → owed_in (settle f m).memory f ≡ None
 unfolding settle

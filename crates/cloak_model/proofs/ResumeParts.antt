@@ -3,7 +3,7 @@ use Rattle.std.proofs.Common.{◌≡◌, ℕ, List, [], ◌∷◌, Option, Some,
 use Rattle.cloak_base.specs.declared.names.SpaceId.{SpaceId}
 use Rattle.cloak_base.specs.declared.causes.Violation.TheVariants as violation
 use Rattle.cloak_model.specs.declared.context.ResumeFault.{ResumeFault}
-use Rattle.cloak_model.specs.declared.item.Item.TheVariants.{Resume}
+use Rattle.cloak_model.specs.Items.{Resume}
 use Rattle.cloak_model.specs.Cloaking.{CloakedMemory}
 use Rattle.cloak_model.specs.Contexts.{Context, context_at, domain_of, slot_of, Admitted, admit}
 use Rattle.cloak_model.specs.DomainState.{Control, Domain}

@@ -7,6 +7,7 @@ use Rattle.cloak_model.specs.declared.image.Bundle.{Bundle}
 use Rattle.cloak_model.specs.declared.resource.MapFault.{MapFault}
 use Rattle.cloak_model.specs.Resources.{Resources}
 use Rattle.cloak_model.specs.Files.{file_resource}
+use Rattle.cloak_model.specs.Sealing.{Chained}
 use Rattle.cloak_model.specs.Ledger.{Keys}
 use Rattle.cloak_model.specs.Cloaking.{CloakedMemory}
 use Rattle.cloak_model.specs.DomainState.{Domain, with_resources}
@@ -71,7 +72,7 @@ opened_over b files bare (Some m) =
 
 -- four keys by their numbers, for the programs of an image
 abbrev pub stored_keys : Bundle → List (List ℕ) → Keys
-stored_keys b keys = record { numbered = keys; group = groups b.programs }
+stored_keys b keys = record { numbered = keys; group = groups b.programs; seal = Chained }
 
 -- The keys are handed in, and each program page takes one draw.
 unfoldable pub opening_stored : Bundle → List (List ℕ) → Random → List FileContents → Result RunEdge Lack

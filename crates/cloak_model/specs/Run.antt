@@ -8,8 +8,8 @@ use Rattle.cloak_base.specs.declared.causes.Stop.{Stop}
 use Rattle.cloak_base.specs.declared.causes.Violation.{Violation}
 use Rattle.cloak_base.specs.declared.causes.Stop.TheVariants as stop
 use Rattle.cloak_model.specs.declared.image.Bundle.{Bundle}
-use Rattle.cloak_model.specs.declared.item.Item.{Item}
-use Rattle.cloak_model.specs.declared.item.Item.TheVariants as item
+use Rattle.cloak_model.specs.Items.{Item}
+use Rattle.cloak_model.specs.Items as item
 use Rattle.cloak_model.specs.World.{MidStep, settled_in}
 use Rattle.cloak_model.specs.Exchange.{Piece, recorded, shown, record_magic, record_of, items_in_order, item_pieces, shown_each}
 use Rattle.cloak_model.specs.Halves as half

@@ -1,5 +1,5 @@
 -- The first fault of a file that is no store file under a key for codes and a counter. The tests stand in their order.
-use Rattle.std.specs.Prelude.{ℕ, zero, suc, ◌+◌, ◌-◌, ◌==◌, not, ◌&&◌, ◌||◌, Bool, List, [], ◌∷◌, ◌++◌, length, take, drop, slice_index, codes, Option, Some, None, nat_lt, nat_le, if◌then◌else◌}
+use Rattle.std.specs.Prelude.{ℕ, zero, suc, ◌+◌, ◌-◌, ◌==◌, not, ◌&&◌, ◌||◌, Bool, true, List, [], ◌∷◌, ◌++◌, length, take, drop, slice_index, codes, Option, Some, None, nat_lt, nat_le, if◌then◌else◌}
 use Rattle.std.specs.Int.{w64, from_le_bytes}
 use Rattle.std.specs.Str.{bytes_eq}
 use Rattle.cloak_model.specs.Fields as grammar
@@ -49,7 +49,7 @@ domain_rises None d = nat_lt d 4
 domain_rises (Some last) d = nat_lt d 4 && nat_le last.0 d
 
 abbrev pub number_rises : Option (ℕ × ℕ) → ℕ → ℕ → Bool
-number_rises None d n = nat_lt 0 1
+number_rises None d n = true
 number_rises (Some last) d n = nat_lt last.0 d || nat_lt last.1 n
 
 -- 1 to 1024 pages, and at most 4096 with those of the files before it

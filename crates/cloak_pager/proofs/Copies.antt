@@ -6,6 +6,7 @@ use Rattle.aes_block.specs.Bytes.{IsBytes}
 use Rattle.cloak_base.specs.Random.{next_draw}
 use Rattle.cloak_base.specs.declared.names.PageId.{PageId}
 use Rattle.cloak_base.specs.Pages.{zero_page, is_of, page_in, with_resource, with_copied}
+use Rattle.cloak_model.specs.Ledger.{Keys}
 use Rattle.cloak_model.specs.Cloaking.{CloakedMemory}
 use Rattle.cloak_model.specs.PageMoves.{copy_pages, drop_pages}
 use Rattle.cloak_base.specs.declared.names.Meta.{Meta}
@@ -43,6 +44,7 @@ stands_moved p p' w w' m m' metas s v =
     record {
       whole = whole_still p p' p.frames metas s.whole t refl (λ k o held shown. rw (v.held k o held).2 shown);
       keys = v.keys ∙ (s.keys ∙ sym t.keys_stay);
+      chained = ap (λ (k : Keys). k.seal) t.keys_stay ∙ s.chained;
       count = rw (v.ram, t.frames_are) s.count;
       frames = λ f inside.
           let there : f < length p.frames = rw t.frames_are at inside in

@@ -45,6 +45,7 @@ stands_same p w m m' s ram plain keys stream recorded vectors owed =
     let here : StandsForMemory p w mixed = record {
       whole = s.whole;
       keys = s.keys;
+      chained = s.chained;
       count = s.count;
       frames = λ f inside. frame_same f (right_at p f) (s.frames f inside);
       owed = s.owed;

@@ -5,6 +5,7 @@ use Rattle.std.proofs.lemmas.List.{get_or-map, get_or_past, length-map, length-r
 use Rattle.std.proofs.lemmas.Option.{get_or_from_slice_get}
 use Rattle.std.proofs.lemmas.Bool.{cases_lt}
 use Rattle.cloak_base.specs.declared.names.Frame.{Frame}
+use Rattle.cloak_model.specs.Sealing.{Chained}
 use Rattle.cloak_model.specs.Ledger.{Keys}
 use Rattle.cloak_base.specs.declared.names.Meta.{Meta}
 use Rattle.cloak_pager.specs.Homes.{HomeTable}
@@ -75,10 +76,11 @@ none_owed (x ∷ xs) h =
     λ i. sym here i ∷ later i
 
 pub opened_stands : (n domains : ℕ) (keys : Keys) (p : PagerState) → IsNewPager n domains keys p → n ≤ 4096 →
-    StandsBlank n keys p
-opened_stands n domains keys p o few m b = record {
+    keys.seal ≡ Chained → StandsBlank n keys p
+opened_stands n domains keys p o few chained m b = record {
   whole = opened_whole n domains keys p o few;
   keys = b.keys_are ∙ sym o.keys_are;
+  chained = ap (λ (k : Keys). k.seal) o.keys_are ∙ chained;
   count = ap (λ (x : List (List ℕ)). length x) (b.ram ∙ sym o.zeros);
   frames = λ f h.
       let there : f < n = rw (o.zeros, length-replicate) at h in

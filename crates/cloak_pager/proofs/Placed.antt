@@ -10,6 +10,7 @@ use Rattle.cloak_base.specs.declared.names.PageId.{PageId}
 use Rattle.cloak_base.specs.Pages.{with_page}
 use Rattle.cloak_base.specs.Random.{Random, next_draw}
 use Rattle.cloak_model.specs.Chain.{cbc}
+use Rattle.cloak_model.specs.Sealing.{Sealing, Chained, sealed_by}
 use Rattle.cloak_model.specs.Ledger.{key_of}
 use Rattle.cloak_model.specs.Cloaking.{CloakedMemory, with_shown_frame, with_record}
 use Rattle.cloak_model.specs.PageMoves.{place, place_with, with_newest}
@@ -26,7 +27,7 @@ use Rattle.cloak_pager.proofs.Pages.{with_page-same, with_page-other}
 use Rattle.cloak_pager.proofs.Keeping.{HasRight, whole_still, outside_right}
 use Rattle.cloak_pager.proofs.Turned.{set_keeps}
 use Rattle.cloak_pager.proofs.Stands.{stands_turned, owed_by_right}
-use Rattle.cloak_pager.proofs.Touches.{page_is, vector_is, other_page, kept_by_draw}
+use Rattle.cloak_pager.proofs.Touches.{page_is, vector_is, other_page, kept_by_draw, chained_in}
 
 -- Restoring.
 
@@ -136,10 +137,16 @@ stands_placed p p' w m q f r bytes d s right fresh is_page drawn turns =
       drained = λ o lost. absurd (let no : false ≡ true = sym (kept_by_draw p w m s o d drawn) ∙ lost in cc);
     })
 
+-- what placing with this ciphertext comes to
+abbrev placed_to : PageId → ℕ → List ℕ → List ℕ × Random → List ℕ → CloakedMemory → Option CloakedMemory
+placed_to q f bytes d c m = Some (with_record q c d (with_shown_frame f c (with_newest q bytes m)))
+
 pub place_draw : (q : PageId) (f : ℕ) (bytes : List ℕ) (m : CloakedMemory) (d : List ℕ × Random) →
-    next_draw m.ledger.stream ≡ Some d → place q f bytes m ≡ Some (placed_memory m q f bytes d)
+    m.ledger.keys.seal ≡ Chained → next_draw m.ledger.stream ≡ Some d → place q f bytes m ≡ Some (placed_memory m q f bytes d)
 unfolding place place_with
-place_draw q f bytes m d drawn = ap (λ (x : Option (List ℕ × Random)). place_with q f bytes x m) drawn
+place_draw q f bytes m d chained drawn =
+    ap (λ (x : Option (List ℕ × Random)). place_with q f bytes x m) drawn
+    ∙ ap (λ (seal : Sealing). placed_to q f bytes d (sealed_by seal (key_of m.ledger q) d.0 bytes) m) chained
 
 pub place_none : (q : PageId) (f : ℕ) (bytes : List ℕ) (m : CloakedMemory) → next_draw m.ledger.stream ≡ None →
     place q f bytes m ≡ None
@@ -157,7 +164,7 @@ placed_follows p p' q f bytes iv stream left inside outside fresh is_page drawn 
     let right = outside_right p s.whole f inside outside in
     let there : next_draw m.ledger.stream ≡ Some (iv, left) = rw e drawn in
     let M : Option CloakedMemory → Type 0 = λ o. FollowsCallFrom p' left true (after_placing o w m) in
-    subst M (sym (place_draw q f bytes m (iv, left) there)) (record {
+    subst M (sym (place_draw q f bytes m (iv, left) (chained_in p w m s) there)) (record {
       answer = refl;
       stands = stands_placed p p' w m q f right.0 bytes (iv, left) s right.1 fresh is_page there turns;
       drawn = refl;

@@ -112,6 +112,7 @@ pub stands_turned : (p p' : PagerState) (w w' : PageId → Bool) (m m' : Cloaked
 stands_turned p p' w w' m m' f h bytes q s t = record {
   whole = t.whole;
   keys = t.keys_same ∙ (s.keys ∙ sym t.keys);
+  chained = ap (λ (k : Keys). k.seal) t.keys ∙ s.chained;
   count = t.ram ∙ (s.count ∙ sym (rw t.frames (length-set p.frames f bytes)));
   frames = λ g inside.
       let there : g < length p.frames = rw (t.frames, length-set) at inside in

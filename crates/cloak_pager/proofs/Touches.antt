@@ -8,7 +8,8 @@ use Rattle.cloak_base.specs.declared.names.PageId.{PageId}
 use Rattle.cloak_base.specs.Pages.{with_page}
 use Rattle.cloak_base.specs.Random.{Random, next_draw}
 use Rattle.cloak_model.specs.Chain.{cbc}
-use Rattle.cloak_model.specs.Ledger.{key_of}
+use Rattle.cloak_model.specs.Sealing.{Sealing, Chained, sealed_by}
+use Rattle.cloak_model.specs.Ledger.{Keys, key_of}
 use Rattle.cloak_base.specs.Pages.{zero_page}
 use Rattle.cloak_model.specs.Cloaking.{CloakedMemory, AfterSettling, settle, settle_if, settle_owed, owed_in}
 use Rattle.cloak_model.specs.Cloaking.{with_shown_frame, with_owed, with_record, with_miss}
@@ -205,7 +206,19 @@ stands_wiped p p' w m f r s whole inside at none t =
 
 -- Settling.
 
-pub settle_draw : (f : ℕ) (m : CloakedMemory) (q : PageId) (d : List ℕ × Random) → owed_in m f ≡ Some q →
+-- what a settling to this ciphertext comes to
+abbrev settled_to : ℕ → PageId → List ℕ × Random → List ℕ → CloakedMemory → AfterSettling
+settled_to f q d c m = record {
+  memory = with_record q c d (with_owed f None (with_shown_frame f c m));
+  ciphers = (f, c) ∷ [];
+  missed = false;
+}
+
+-- the memory's seal is the one under which the pager seals
+pub chained_in : (p : PagerState) (w : PageId → Bool) (m : CloakedMemory) → StandsForMemory p w m → m.ledger.keys.seal ≡ Chained
+chained_in p w m s = ap (λ (k : Keys). k.seal) s.keys ∙ s.chained
+
+pub settle_draw : (f : ℕ) (m : CloakedMemory) (q : PageId) (d : List ℕ × Random) → m.ledger.keys.seal ≡ Chained → owed_in m f ≡ Some q →
     next_draw m.ledger.stream ≡ Some d →
     settle f m ≡ record {
       memory = sealed_memory m f q d;
@@ -213,8 +226,9 @@ pub settle_draw : (f : ℕ) (m : CloakedMemory) (q : PageId) (d : List ℕ × Ra
       missed = false;
     }
 unfolding settle settle_if settle_owed
-settle_draw f m q d e drawn =
-    ap (λ (x : Option PageId). settle_if f x m) e ∙ ap (λ (x : Option (List ℕ × Random)). settle_owed f q x m) drawn
+settle_draw f m q d chained e drawn =
+    ap (λ (x : Option PageId). settle_if f x m) e ∙ (ap (λ (x : Option (List ℕ × Random)). settle_owed f q x m) drawn
+    ∙ ap (λ (seal : Sealing). settled_to f q d (sealed_by seal (key_of m.ledger q) d.0 (m.plain q)) m) chained)
 
 pub settle_miss : (f : ℕ) (m : CloakedMemory) (q : PageId) → owed_in m f ≡ Some q → next_draw m.ledger.stream ≡ None →
     settle f m ≡ record { memory = wiped_memory m f; ciphers = (f, zero_page) ∷ []; missed = true }
@@ -283,7 +297,7 @@ touch_follows p p' f stream left result inside cause drew turns w m s e =
         let shown : bytes_in p' f ≡ cbc (key_of m.ledger r.page) d.0 (m.plain r.page) =
         rw turns.frames_are (get_or-set_same p.frames f c [] inside ∙ rw (same, s.keys) refl) in
         let M : AfterSettling → Type 0 = λ x. FollowsCallFrom p' left (shown_by Sealed f p') (after_settling x (owed_in m f) w) in
-        subst Goal (sym cause) (subst M (sym (settle_draw f m r.page d owes there)) (record {
+        subst Goal (sym cause) (subst M (sym (settle_draw f m r.page d (chained_in p w m s) owes there)) (record {
           answer = ap (λ (x : List ℕ). ((f, x) ∷ [], false)) shown;
           stands = stands;
           drawn = sym drew;

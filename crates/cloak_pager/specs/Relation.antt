@@ -6,6 +6,7 @@ use Rattle.aes_block.specs.Bytes.{IsBytes}
 use Rattle.cloak_base.specs.declared.names.PageId.{PageId}
 use Rattle.cloak_base.specs.Random.{next_draw}
 use Rattle.cloak_model.specs.Chain.{cbc}
+use Rattle.cloak_model.specs.Sealing.{Chained}
 use Rattle.cloak_model.specs.Ledger.{key_of}
 use Rattle.cloak_base.specs.Pages.{zero_page}
 use Rattle.cloak_model.specs.Cloaking.{CloakedMemory, owed_in}
@@ -56,6 +57,7 @@ vector_in t = option_map (λ (x : Meta). x.iv) t
 pub record StandsForMemory (p : PagerState) (wiped : PageId → Bool) (m : CloakedMemory) : Type 0 where
   pub whole : IsWholePager p
   pub keys : m.ledger.keys ≡ p.keys
+  pub chained : p.keys.seal ≡ Chained
   -- each frame holds what it must hold, and is owed a page exactly if it holds a changed one
   pub count : length m.ram ≡ length p.frames
   pub frames : (f : ℕ) → f < length p.frames → FrameStands p wiped m f (right_at p f)

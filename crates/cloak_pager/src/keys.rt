@@ -1,4 +1,5 @@
 ghost use Rattle.std.specs.Prelude.{◌≡◌, ◌<◌, All};
+ghost use Rattle.cloak_model.specs.Sealing.{Chained};
 ghost use Rattle.cloak_model.specs.Ledger.{domain_key, key_in};
 
 use aes_block::KeySchedule;
@@ -14,11 +15,12 @@ pub(crate) struct KeyRing {
 
 impl Model for KeyRing {
     ghost use Rattle.std.specs.Prelude.{◌<◌, All};
+    ghost use Rattle.cloak_model.specs.Sealing.{Chained};
     ghost use Rattle.cloak_model.specs.Ledger.{Keys};
 
     ghost Value = { Keys };
 
-    ghost view = { λ r. record { numbered = r.numbered; group = r.group } };
+    ghost view = { λ r. record { numbered = r.numbered; group = r.group; seal = Chained } };
 
     ghost invariant = { λ r. All (λ g. g < 4) r.group };
 }
@@ -27,7 +29,7 @@ impl KeyRing {
     /// Expands each key, once for all pages under it.
     pub(crate) fn new(keys: [[u8; 16]; 4], group: [u32; 4]) -> KeyRing
         requires groups { All (λ g. g < 4) group }
-        ensures { result ≡ record { numbered = keys; group = group } }
+        ensures { result ≡ record { numbered = keys; group = group; seal = Chained } }
     {
         let [first, second, third, fourth] = &keys;
         KeyRing {

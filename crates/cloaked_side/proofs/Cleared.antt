@@ -9,7 +9,7 @@ use Rattle.cloak_base.specs.Pages.{is_of}
 use Rattle.cloak_base.proofs.Pages.{is_of_tells}
 use Rattle.cloak_model.specs.declared.answer.Answer.{Answer}
 use Rattle.cloak_model.specs.declared.answer.Answer.TheVariants.{Stopped, Ok as Granted}
-use Rattle.cloak_model.specs.declared.item.Item.{Item}
+use Rattle.cloak_model.specs.Items.{Item}
 use Rattle.cloak_model.specs.Cloaking.{AfterSettling, CloakedMemory, owed_in, settle}
 use Rattle.cloak_model.specs.PageMoves.{copy_pages, drop_pages}
 use Rattle.cloak_model.specs.Events.{Drop}

@@ -11,8 +11,8 @@ use Rattle.cloak_base.specs.declared.names.Frame.{Frame}
 use Rattle.cloak_base.specs.declared.names.Kind.{Kind}
 use Rattle.cloak_base.specs.declared.names.PageId.{PageId}
 use Rattle.cloak_base.specs.declared.names.SpaceId.{SpaceId}
-use Rattle.cloak_model.specs.declared.item.Item.{Item}
-use Rattle.cloak_model.specs.declared.item.Item.TheVariants.{Cipher}
+use Rattle.cloak_model.specs.Items.{Item}
+use Rattle.cloak_model.specs.Items.{Cipher}
 use Rattle.cloak_model.specs.Events.{Event, Look, Touch, Offer, Born, Read, Write, Drop, Space}
 use Rattle.cloak_model.specs.Record.{is_cipher}
 use Rattle.cloak_model.specs.World.{cipher_items}

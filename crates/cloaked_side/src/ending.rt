@@ -11,7 +11,6 @@ ghost use Rattle.cloaked_side.specs.Ending.{EndsPages, ended_world};
 ghost use Rattle.cloaked_side.specs.Holding.{Holds, SameSize, domains_in, frames_of};
 ghost use Rattle.cloaked_side.specs.Tracking.{GoesBy};
 
-use crate::kept_put::KeptPut;
 use crate::memory::Memory;
 use crate::side::{OUTSIDE, Side};
 use cloak_base::Frame;
@@ -64,7 +63,7 @@ impl<'m, 'e, E: Emit> Side<'m, 'e, E> {
 
 /// Ends a domain's pages: frames that are owed one of them are settled by rising number, even after a missing draw;
 /// then the pages of each resource are dropped, and the frames that held one show what was last shown.
-pub fn end_pages<E: Emit>(memory: &mut Memory, items: &mut KeptPut, domain: u8, e: &mut E)
+pub fn end_pages<E: Emit>(memory: &mut Memory, domain: u8, e: &mut E)
     requires there { domain < domains_in memory.old }
     ensures size { SameSize memory.old memory.new }
     ensures counting { memory.new.counting ≡ memory.old.counting }
@@ -81,7 +80,6 @@ pub fn end_pages<E: Emit>(memory: &mut Memory, items: &mut KeptPut, domain: u8, 
     let mut side = Side {
         memory,
         emitter: e,
-        items,
         violation: None,
         domain,
         regime: OUTSIDE,

@@ -3,7 +3,6 @@ ghost use Rattle.std.specs.Prelude.{◌≡◌, ◌≢◌, ◌<◌, ◌%◌, ◌^
 ghost use Rattle.cloak_model.specs.AskPages as inside;
 ghost use Rattle.cloak_model.specs.Effect.{IsWidth};
 
-use crate::kept_put::set_put;
 use crate::leading::{Found, Led, handed_on};
 use crate::program_side::ProgramSide;
 use crate::side::Side;
@@ -32,7 +31,7 @@ fn is_store(kind: Kind) -> bool
 }
 
 impl<'m, 'e, E: Emit> Side<'m, 'e, E> {
-    ghost use Rattle.cloak_model.specs.declared.item.Item.TheVariants as item;
+    ghost use Rattle.cloak_model.specs.Items as item;
     ghost use Rattle.cloak_model.specs.World.{written};
     ghost use Rattle.cloaked_side.specs.Seeing.{Becomes, WritesOnly};
 
@@ -42,15 +41,19 @@ impl<'m, 'e, E: Emit> Side<'m, 'e, E> {
         ensures sees { Becomes E.gave self.old self.new (written (item.Put pa width (v % 2 ^ (8 * width)))) }
         ensures leaves { WritesOnly E.gave self.old self.new }
     {
-        let value = low_bytes(width, v);
-        set_put(&mut self.items.put, pa, width as u8, value);
-        self.emitter.item(&self.items.put);
+        let (address, width, value) = (pa, width as u8, low_bytes(width, v));
+        let put = Item::Put {
+            address,
+            width,
+            value,
+        };
+        self.emitter.item(&put);
     }
 }
 
 impl<'m, 'e, E: Emit> ProgramSide<'m, 'e, E> {
     ghost use Rattle.std.specs.Prelude.{IsTrue, Some};
-    ghost use Rattle.cloak_model.specs.declared.item.Item.TheVariants as item;
+    ghost use Rattle.cloak_model.specs.Items as item;
     ghost use Rattle.cloak_model.specs.World.{World, is_clashed, written};
     ghost use Rattle.cloak_model.specs.Asking.{FollowsFrom, Keeps};
     ghost use Rattle.cloak_base.specs.Constants.{is_in_frames, frame_of};
@@ -62,9 +65,7 @@ impl<'m, 'e, E: Emit> ProgramSide<'m, 'e, E> {
     ghost use Rattle.cloaked_side.specs.Seeing.{Sees, Becomes, FollowsAlways, FollowsInside, IsOwnPage, StaysWithin};
     ghost use Rattle.cloaked_side.specs.Seeing.{WritesOnly, space_in};
 
-    /// Writes that a page is absent. Kept out of line, since building an item clears room for a page.
-    #[cold]
-    #[inline(never)]
+    /// Writes that a page is absent.
     fn write_absent(&mut self, cause: u32)
         ensures sees { Becomes E.gave self.old.side self.new.side (written (item.Absent self.old.side.domain cause)) }
         ensures leaves { WritesOnly E.gave self.old.side self.new.side }
@@ -73,9 +74,7 @@ impl<'m, 'e, E: Emit> ProgramSide<'m, 'e, E> {
         self.side.emitter.item(&Item::Absent { domain, cause });
     }
 
-    /// Writes that a question stopped the run. Kept out of line, as `write_absent` is.
-    #[cold]
-    #[inline(never)]
+    /// Writes that a question was stopped.
     fn write_stopped(&mut self)
         ensures sees { Becomes E.gave self.old.side self.new.side (written (item.Stopped self.old.side.domain)) }
         ensures leaves { WritesOnly E.gave self.old.side self.new.side }
@@ -130,8 +129,8 @@ impl<'m, 'e, E: Emit> ProgramSide<'m, 'e, E> {
         a
     }
 
-    /// Answers that a question met what stops the run. Kept out of line, so that a question that is granted stays
-    /// short.
+    /// Answers that a question met a violation, which ends the program, or a missing draw, which stops the run. Kept
+    /// out of line, so that a question that is granted stays short.
     #[cold]
     #[inline(never)]
     fn stop(&mut self) -> Answer

@@ -6,7 +6,7 @@
 //! cloaked program asks (`PageSide` of `cloak_model`), and writes each answer. Whatever writes what the kernel sees
 //! ends the reservations of words that it wrote; a page that is sealed again as it was last shown was not written. A
 //! side holds no page and copies none. `outside_step` is the plain step over it, `end_pages` the end of a domain's
-//! pages. The item of stores is kept from step to step (`KeptPut`), and lent to the side.
+//! pages.
 //!
 //! The layer above may rely on this: for every joint world that a side stands for (`specs/Seeing`), each call returns
 //! what the definition tells, the emitter was given exactly the items that the world has written since, and the side
@@ -19,7 +19,6 @@ mod atomic;
 mod clearing;
 mod ending;
 mod inside;
-mod kept_put;
 mod leading;
 mod memory;
 mod outside;
@@ -27,7 +26,6 @@ mod program_side;
 mod side;
 
 pub use ending::end_pages;
-pub use kept_put::KeptPut;
 pub use memory::Memory;
 pub use outside::outside_step;
 pub use program_side::{ProgramSide, regime_inside, regime_of};

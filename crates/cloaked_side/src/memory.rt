@@ -1,11 +1,11 @@
 ghost use Rattle.std.specs.Prelude.{◌≡◌, ◌≢◌, ◌==◌, ◌^◌, IsTrue, ℕ, Bool, true, false, not, ◌<◌, ◌≤◌, [], ◌∷◌, Option, is_some, length, map};
 ghost use Rattle.cloak_base.specs.Constants.{frame_of, ram_start, is_in_frames};
-ghost use Rattle.cloak_model.specs.declared.item.Item.TheVariants.{Cipher};
+ghost use Rattle.cloak_model.specs.Items.{Cipher};
 ghost use Rattle.shadow_fold.specs.Entries.{is_of_space};
 ghost use Rattle.shadow_fold.specs.Table.{empty_table, ending, killed};
 
 use cloak_base::{Frame, PageId, SpaceId, is_in_frames};
-use cloak_model::Emit;
+use cloak_model::{Emit, Item};
 use cloak_pager::{Offered, Pager, Touched};
 use host_calls::Reservations;
 use io_traits::Stream;
@@ -242,6 +242,9 @@ impl Memory {
         ensures emits { Emits E.gave e.old e.new (item_pieces (Cipher f.0 (bytes_in self.old.pager f.0) ∷ [])) }
     {
         self.reservations.frame_written(f);
-        e.cipher(f.0, self.pager.read_outside(f));
+        e.item(&Item::Cipher {
+            frame: f.0,
+            bytes: self.pager.read_outside(f),
+        });
     }
 }

@@ -10,7 +10,6 @@ ghost use Rattle.cloaked_side.specs.Holding.{Holds, HoldsNoMore, SameSize};
 ghost use Rattle.cloaked_side.specs.Telling.{TellsSide};
 ghost use Rattle.cloaked_side.specs.Tracking.{GoesBy};
 
-use crate::kept_put::KeptPut;
 use crate::memory::Memory;
 use crate::side::{OUTSIDE, Side};
 use cloak_model::Emit;
@@ -18,13 +17,7 @@ use host_calls::{Disk, Hart, Kernel, kernel_step};
 
 /// Makes the plain step of a hart outside. Each frame that it reaches is settled at the access, which has the same
 /// result as settling all that it touches ahead of the step.
-pub fn outside_step<E: Emit>(
-    h: &mut Hart,
-    d: &mut Disk,
-    memory: &mut Memory,
-    items: &mut KeptPut,
-    e: &mut E,
-) -> Kernel
+pub fn outside_step<E: Emit>(h: &mut Hart, d: &mut Disk, memory: &mut Memory, e: &mut E) -> Kernel
     ensures size { SameSize memory.old memory.new }
     ensures no_more { HoldsNoMore memory.old.pager memory.new.pager }
     ensures counting { memory.new.counting ≡ memory.old.counting }
@@ -39,7 +32,6 @@ pub fn outside_step<E: Emit>(
     let mut side = Side {
         memory,
         emitter: e,
-        items,
         violation: None,
         domain: 0,
         regime: OUTSIDE,

@@ -1,7 +1,6 @@
 ghost use Rattle.std.specs.Prelude.{◌≡◌, ◌<◌, length, is_some};
 
 use crate::atomic::is_reserved;
-use crate::kept_put::KeptPut;
 use crate::memory::Memory;
 use cloak_base::{Frame, Mode, Violation, frame_of, place_of};
 use cloak_model::{Access, Emit, value_in};
@@ -15,8 +14,6 @@ use sv32_walk::WordMemory;
 pub struct Side<'m, 'e, E: Emit> {
     pub memory: &'m mut Memory,
     pub emitter: &'e mut E,
-    /// What an answer is written as.
-    pub items: &'m mut KeptPut,
     /// What the kernel presented in place of what is recorded.
     pub violation: Option<Violation>,
     /// The domain of the context that asks, or that ends; 0 outside.

@@ -41,6 +41,7 @@ bundle_is_next (spec.Faulty fault) held name asks = absurd (let no : None ≡ So
 bundle_is_next (spec.Run bundle record_name steps randomness) held name asks = inl (let named : Some bundle ≡ Some name = asks in cc)
 bundle_is_next (spec.View bundle record_name) held name asks = (let named : Some bundle ≡ Some name = asks in cc)
 bundle_is_next (spec.Solo domain bundle record_name) held name asks = (let named : Some bundle ≡ Some name = asks in cc)
+bundle_is_next (spec.SoloOver domain bundle record_name old) held name asks = inl (let named : Some bundle ≡ Some name = asks in cc)
 bundle_is_next (spec.Gen number bundle_name) held name asks = absurd (let no : None ≡ Some name = asks in cc)
 bundle_is_next (spec.Demo number steps) held name asks = absurd (let no : None ≡ Some name = asks in cc)
 bundle_is_next (spec.Stats bundle steps randomness) held name asks = inl (let named : Some bundle ≡ Some name = asks in cc)

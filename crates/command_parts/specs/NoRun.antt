@@ -32,6 +32,7 @@ bundle_named (spec.Faulty fault) = None
 bundle_named (spec.Run bundle record_name steps randomness) = Some bundle
 bundle_named (spec.View bundle record_name) = Some bundle
 bundle_named (spec.Solo domain bundle record_name) = Some bundle
+bundle_named (spec.SoloOver domain bundle record_name old) = Some bundle
 bundle_named (spec.Gen number bundle_name) = None
 bundle_named (spec.Demo number steps) = None
 bundle_named (spec.Stats bundle steps randomness) = Some bundle

@@ -23,6 +23,13 @@ FromSecretOn held names counter randomness name =
     ⊎ ((secret : Secret) × IsSecret (held names.secret_name) secret
     × FromOldOn held names counter randomness secret name)
 
+-- the secret of the files that a run went on from; or it is one, and the file is their store file, which is read unless the
+-- counter is 0
+abbrev pub FromOldFilesOn : (List ℕ → Option (List ℕ)) → spec.OldFiles → List ℕ → Type 0
+FromOldFilesOn held old name =
+    (name ≡ old.secret_name)
+    ⊎ ((secret : Secret) × IsSecret (held old.secret_name) secret × ((old.counter ≢ 0) × (name ≡ old.old_name)))
+
 -- The words name this file to be read, and each file that is judged before it is read is what it must be. (The state that
 -- `thaw` reads is judged after the random stream was read.)
 abbrev pub IsNextToRead : spec.Asked → (List ℕ → Option (List ℕ)) → List ℕ → Type 0
@@ -31,6 +38,8 @@ IsNextToRead (spec.Run bundle record_name steps randomness) held name =
     FromBundleOn held bundle (IsStreamFile randomness name) name
 IsNextToRead (spec.View bundle record_name) held name = name ≡ bundle
 IsNextToRead (spec.Solo domain bundle record_name) held name = name ≡ bundle
+IsNextToRead (spec.SoloOver domain bundle record_name old) held name =
+    FromBundleOn held bundle (FromOldFilesOn held old name) name
 IsNextToRead (spec.Gen number bundle_name) held name = ⊥
 IsNextToRead (spec.Demo number steps) held name = ⊥
 IsNextToRead (spec.Stats bundle steps randomness) held name =

@@ -91,7 +91,7 @@ fn show_usage<O: Sink>(out: &mut O, fault: UsageFault) -> Result<(), Failed>
         UsageFault::WrongWords => show(out, b"usage: words\n"),
         UsageFault::NoRandomness => show(out, b"usage: randomness\n"),
         UsageFault::WrongNumber => show(out, b"usage: number\n"),
-        UsageFault::SameName => show(out, b"usage: same name\n"),
+        UsageFault::SameName | UsageFault::SameSource => show(out, b"usage: same name\n"),
     }
 }
 

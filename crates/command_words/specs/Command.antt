@@ -1,11 +1,11 @@
 -- The words of a command line, and what they ask for. The first word is the command's name, and the words are read
 -- by the simple command of `clap` that the command is.
-use Rattle.std.specs.Prelude.{ℕ, ◌+◌, ◌-◌, ◌*◌, nat_le, Bool, ◌&&◌, ◌||◌, List, [], ◌∷◌, length, fold, codes}
+use Rattle.std.specs.Prelude.{ℕ, ◌+◌, ◌-◌, ◌*◌, nat_le, Bool, false, ◌&&◌, ◌||◌, List, [], ◌∷◌, length, fold, codes}
 use Rattle.std.specs.Prelude.{Option, Some, None, IsSome, unwrap_or, Result, Ok, Err, if◌then◌else◌}
 use Rattle.clap.specs.Words.{App, Kinds, Row, fault_of, first_of, matches_of}
 use Rattle.cloak_model.specs.Run.{most_steps}
 use Rattle.command_words.specs.declared.usage_fault.UsageFault.{UsageFault}
-use Rattle.command_words.specs.declared.usage_fault.UsageFault.TheVariants.{NoCommand, UnknownCommand, WrongWords, NoRandomness, WrongNumber, SameName}
+use Rattle.command_words.specs.declared.usage_fault.UsageFault.TheVariants.{NoCommand, UnknownCommand, WrongWords, NoRandomness, WrongNumber, SameName, SameSource}
 use Rattle.command_words.specs.declared.command_name.CommandName.{CommandName}
 use Rattle.command_words.specs.declared.command_name.CommandName.TheVariants as name
 use Rattle.command_words.specs.Forms.{form_of}
@@ -19,6 +19,7 @@ usage_line WrongWords = codes "usage: words\n"
 usage_line NoRandomness = codes "usage: randomness\n"
 usage_line WrongNumber = codes "usage: number\n"
 usage_line SameName = codes "usage: same name\n"
+usage_line SameSource = codes "usage: same name\n"
 
 -- where a run takes its randomness: the stream of a number, or the bytes of a file
 pub data Randomness : Type 0 where
@@ -53,6 +54,12 @@ pub record ThawNames : Type 0 where
   pub record_name : List ℕ
   pub state_name : List ℕ
 
+-- the cloaked files that a run went on from: the store file that it read, its counter, and the secret file
+pub record OldFiles : Type 0 where
+  pub old_name : List ℕ
+  pub secret_name : List ℕ
+  pub counter : ℕ
+
 -- what is asked for
 pub data Asked : Type 0 where
   Faulty : UsageFault → Asked
@@ -62,6 +69,8 @@ pub data Asked : Type 0 where
   View : (bundle record_name : List ℕ) → Asked
   -- what a program of a bundle, by its number and alone, makes of a record
   Solo : (domain : ℕ) → (bundle record_name : List ℕ) → Asked
+  -- the same of the record of a run that went on from cloaked files
+  SoloOver : (domain : ℕ) → (bundle record_name : List ℕ) → OldFiles → Asked
   -- the generated bundle of a number, written to a file
   Gen : (number : ℕ) → (bundle_name : List ℕ) → Asked
   -- the joint run of the generated bundle of a number, without files
@@ -133,20 +142,29 @@ writes_one_twice names =
     bytes_eq names.record_name names.new_name
     || (bytes_eq names.record_name names.next_name || bytes_eq names.new_name names.next_name)
 
--- a run over cloaked files whose values are read; the names are compared last
+-- the random bytes come from the file of this name
+abbrev pub is_drawn_from : Randomness → List ℕ → Bool
+is_drawn_from (Numbered number) name = false
+is_drawn_from (FromFile stream) name = bytes_eq stream name
+
+-- a run over cloaked files whose values are read; the names are compared last: first of the files that are written, and
+-- then of the random stream and the secret
 abbrev pub store_of_values : StoreNames → (counter steps : Option ℕ) → Result Randomness UsageFault → Asked
 store_of_values names counter steps (Err fault) = Faulty fault
 store_of_values names None steps (Ok randomness) = Faulty WrongNumber
 store_of_values names (Some counter) None (Ok randomness) = Faulty WrongNumber
 store_of_values names (Some counter) (Some steps) (Ok randomness) =
-    if writes_one_twice names then Faulty SameName else Store names counter steps randomness
+    if writes_one_twice names then Faulty SameName else
+    if is_drawn_from randomness names.secret_name then Faulty SameSource else Store names counter steps randomness
 
--- a run that is frozen, whose values are read; the names of the two files that are written are compared last
+-- a run that is frozen, whose values are read; the names are compared last: first of the two files that are written, and
+-- then of the random stream and the vectors
 abbrev pub freeze_of_values : FreezeNames → (steps : Option ℕ) → Result Randomness UsageFault → Asked
 freeze_of_values names steps (Err fault) = Faulty fault
 freeze_of_values names None (Ok randomness) = Faulty WrongNumber
 freeze_of_values names (Some steps) (Ok randomness) =
-    if bytes_eq names.record_name names.state_name then Faulty SameName else Freeze names steps randomness
+    if bytes_eq names.record_name names.state_name then Faulty SameName else
+    if is_drawn_from randomness names.vectors_name then Faulty SameSource else Freeze names steps randomness
 
 -- a run that goes on, whose values are read
 abbrev pub thaw_of_values : ThawNames → (steps : Option ℕ) → Result Randomness UsageFault → Asked
@@ -158,9 +176,29 @@ thaw_of_values names (Some steps) (Ok randomness) = Thaw names steps randomness
 abbrev pub last_domain : ℕ
 last_domain = 3
 
-abbrev pub solo_of_number : Option ℕ → (bundle record_name : List ℕ) → Asked
-solo_of_number None bundle record_name = Faulty WrongNumber
-solo_of_number (Some domain) bundle record_name = Solo domain bundle record_name
+abbrev pub old_of_counter : (old_name secret_name : List ℕ) → Option ℕ → Result (Option OldFiles) UsageFault
+old_of_counter old_name secret_name None = Err WrongNumber
+old_of_counter old_name secret_name (Some counter) =
+    Ok (Some (record { old_name = old_name; secret_name = secret_name; counter = counter }))
+
+-- Either a store file with its secret and its counter is named, or none of the three.
+unfoldable pub old_of_texts : (old secret counter : Option (List ℕ)) → Result (Option OldFiles) UsageFault
+old_of_texts None None None = Ok None
+old_of_texts None None (Some counter) = Err WrongWords
+old_of_texts None (Some secret) counter = Err WrongWords
+old_of_texts (Some old) None counter = Err WrongWords
+old_of_texts (Some old) (Some secret) None = Err WrongWords
+old_of_texts (Some old) (Some secret) (Some counter) = old_of_counter old secret (number_up_to last_counter counter)
+
+abbrev pub asked_solo : (domain : ℕ) → (bundle record_name : List ℕ) → Option OldFiles → Asked
+asked_solo domain bundle record_name None = Solo domain bundle record_name
+asked_solo domain bundle record_name (Some old) = SoloOver domain bundle record_name old
+
+abbrev pub solo_of_values :
+    Option ℕ → (bundle record_name : List ℕ) → Result (Option OldFiles) UsageFault → Asked
+solo_of_values domain bundle record_name (Err fault) = Faulty fault
+solo_of_values None bundle record_name (Ok old) = Faulty WrongNumber
+solo_of_values (Some domain) bundle record_name (Ok old) = asked_solo domain bundle record_name old
 
 abbrev pub gen_of_number : Option ℕ → (bundle_name : List ℕ) → Asked
 gen_of_number None bundle_name = Faulty WrongNumber
@@ -182,8 +220,9 @@ asked_with name.Run rows =
     (needed_text (codes "steps") rows) (first_of (codes "stream") rows) (first_of (codes "number") rows)
 asked_with name.View rows = View (needed_text (codes "BUNDLE") rows) (needed_text (codes "RECORD") rows)
 asked_with name.Solo rows =
-    solo_of_number (number_up_to last_domain (needed_text (codes "DOMAIN") rows))
+    solo_of_values (number_up_to last_domain (needed_text (codes "DOMAIN") rows))
     (needed_text (codes "BUNDLE") rows) (needed_text (codes "RECORD") rows)
+    (old_of_texts (first_of (codes "files") rows) (first_of (codes "secret") rows) (first_of (codes "counter") rows))
 asked_with name.Gen rows =
     gen_of_number (number_up_to last_stream (needed_text (codes "NUMBER") rows)) (needed_text (codes "BUNDLE") rows)
 asked_with name.Demo rows =

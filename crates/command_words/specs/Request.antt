@@ -1,13 +1,15 @@
 -- What a request stands for.
 use Rattle.command_words.specs.Command as spec
 use Rattle.command_words.specs.declared.request.Request.{Request}
-use Rattle.command_words.specs.declared.request.Request.TheVariants.{Faulty, Run, View, Solo, Gen, Demo, Stats, Upgrade, Store, Freeze, Thaw}
+use Rattle.command_words.specs.declared.request.Request.TheVariants.{Faulty, Run, View, Solo, SoloOver, Gen, Demo, Stats, Upgrade, Store, Freeze, Thaw}
 use Rattle.command_words.specs.declared.run_request.Randomness.{Randomness}
 use Rattle.command_words.specs.declared.run_request.Randomness.TheVariants.{Numbered, FromFile}
 use Rattle.command_words.specs.declared.run_request.RunRequest.{RunRequest}
 use Rattle.command_words.specs.declared.run_request.StatsRequest.{StatsRequest}
 use Rattle.command_words.specs.declared.record_request.RecordRequest.{RecordRequest}
+use Rattle.command_words.specs.declared.record_request.OldFiles.{OldFiles}
 use Rattle.command_words.specs.declared.record_request.SoloRequest.{SoloRequest}
+use Rattle.command_words.specs.declared.record_request.SoloOverRequest.{SoloOverRequest}
 use Rattle.command_words.specs.declared.generated_request.GenRequest.{GenRequest}
 use Rattle.command_words.specs.declared.generated_request.DemoRequest.{DemoRequest}
 use Rattle.command_words.specs.declared.upgrade_request.UpgradeRequest.{UpgradeRequest}
@@ -30,6 +32,13 @@ asked_of_view files = spec.View files.bundle.now files.record_name.now
 
 abbrev pub asked_of_solo : SoloRequest → spec.Asked
 asked_of_solo solo = spec.Solo solo.domain solo.files.bundle.now solo.files.record_name.now
+
+abbrev pub old_of : OldFiles → spec.OldFiles
+old_of old = record { old_name = old.old_name.now; secret_name = old.secret_name.now; counter = old.counter }
+
+abbrev pub asked_of_solo_over : SoloOverRequest → spec.Asked
+asked_of_solo_over over =
+    spec.SoloOver over.solo.domain over.solo.files.bundle.now over.solo.files.record_name.now (old_of over.old)
 
 abbrev pub asked_of_gen : GenRequest → spec.Asked
 asked_of_gen generated = spec.Gen generated.number generated.bundle.now
@@ -82,6 +91,7 @@ asked_of (Faulty fault) = spec.Faulty fault
 asked_of (Run run) = asked_of_run run
 asked_of (View files) = asked_of_view files
 asked_of (Solo solo) = asked_of_solo solo
+asked_of (SoloOver over) = asked_of_solo_over over
 asked_of (Gen generated) = asked_of_gen generated
 asked_of (Demo demo) = asked_of_demo demo
 asked_of (Stats stats) = asked_of_stats stats

@@ -68,7 +68,10 @@ fn solo_form<'a>(alloc: Global) -> Result<Command<'a>, NoMemory>
     let solo = bare_form(alloc, "solo")
         .arg(position(alloc, "DOMAIN"))?
         .arg(position(alloc, "BUNDLE"))?
-        .arg(position(alloc, "RECORD"))?;
+        .arg(position(alloc, "RECORD"))?
+        .arg(valued_option(alloc, "files"))?
+        .arg(valued_option(alloc, "secret"))?
+        .arg(valued_option(alloc, "counter"))?;
     Ok(solo)
 }
 

@@ -19,7 +19,7 @@ mod usage_fault;
 
 pub use frozen_request::{FreezeFiles, FreezeRequest, ThawFiles, ThawRequest};
 pub use generated_request::{DemoRequest, GenRequest};
-pub use record_request::{RecordRequest, SoloRequest};
+pub use record_request::{OldFiles, RecordRequest, SoloOverRequest, SoloRequest};
 pub use request::{Request, read_words};
 pub use run_request::{Randomness, RunRequest, StatsRequest};
 pub use store_request::{StoreFiles, StoreRequest};

@@ -1,10 +1,10 @@
 //! What the words of a command line ask for.
-ghost use Rattle.std.specs.Prelude.{◌≡◌, ◌≤◌, IfOk, OnErr, map, string_bytes, option_copied};
+ghost use Rattle.std.specs.Prelude.{◌≡◌, ◌≤◌, IfOk, OnErr, map, string_bytes, option_copied, option_map};
 ghost use Rattle.std.specs.Result.{result_map_both};
 ghost use Rattle.cloak_model.specs.Run.{most_steps};
 ghost use Rattle.clap.specs.Words.{found_of, rows_of};
 ghost use Rattle.command_words.specs.Command as spec;
-ghost use Rattle.command_words.specs.Request.{asked_of, freeze_names_of, names_of, randomness_of, thaw_names_of};
+ghost use Rattle.command_words.specs.Request.{asked_of, freeze_names_of, names_of, old_of, randomness_of, thaw_names_of};
 
 use crate::command_name::CommandName;
 use crate::form::form_of;
@@ -12,7 +12,7 @@ use crate::found::{found_in, given_text, needed_text};
 use crate::frozen_request::{FreezeFiles, FreezeRequest, ThawFiles, ThawRequest};
 use crate::generated_request::{DemoRequest, GenRequest};
 use crate::number::number_up_to;
-use crate::record_request::{RecordRequest, SoloRequest};
+use crate::record_request::{OldFiles, RecordRequest, SoloOverRequest, SoloRequest};
 use crate::run_request::{Randomness, RunRequest, StatsRequest};
 use crate::store_request::{StoreFiles, StoreRequest};
 use crate::upgrade_request::UpgradeRequest;
@@ -37,6 +37,7 @@ pub enum Request<'a> {
     Run(RunRequest<'a>),
     View(RecordRequest<'a>),
     Solo(SoloRequest<'a>),
+    SoloOver(SoloOverRequest<'a>),
     Gen(GenRequest<'a>),
     Demo(DemoRequest),
     Stats(StatsRequest<'a>),
@@ -121,6 +122,16 @@ fn writes_one_twice(files: &StoreFiles<'_>) -> bool
         || files.new_name == files.next_name
 }
 
+/// Whether the random bytes come from the file of this name.
+fn is_drawn_from(randomness: &Randomness<'_>, name: &str) -> bool
+    ensures { result ≡ spec.is_drawn_from (randomness_of randomness.now) name.now }
+{
+    match randomness {
+        Randomness::Numbered(_) => false,
+        Randomness::FromFile(stream) => *stream == name,
+    }
+}
+
 /// The run over cloaked files with these texts. The names are compared last.
 fn store_of_texts<'a>(
     files: StoreFiles<'a>,
@@ -145,6 +156,9 @@ fn store_of_texts<'a>(
     };
     if writes_one_twice(&files) {
         return Request::Faulty(UsageFault::SameName);
+    }
+    if is_drawn_from(&randomness, files.secret_name) {
+        return Request::Faulty(UsageFault::SameSource);
     }
     Request::Store(StoreRequest {
         files,
@@ -174,6 +188,9 @@ fn freeze_of_texts<'a>(
     };
     if files.record_name == files.state_name {
         return Request::Faulty(UsageFault::SameName);
+    }
+    if is_drawn_from(&randomness, files.vectors_name) {
+        return Request::Faulty(UsageFault::SameSource);
     }
     Request::Freeze(FreezeRequest {
         files,
@@ -207,16 +224,62 @@ fn thaw_of_texts<'a>(
     }
 }
 
-/// What the program of this number makes of a record, if it is one.
-fn solo_of_number<'a>(domain: &str, files: RecordRequest<'a>) -> Request<'a>
-    ensures { asked_of result ≡ spec.solo_of_number (spec.number_up_to spec.last_domain domain.now)
-        files.entry.bundle.now files.entry.record_name.now }
+/// The cloaked files with these texts that a run went on from. All three must be given, or none.
+#[tactic(auto, unfolding(crate::specs::Command::old_of_texts))]
+fn old_of_texts<'a>(
+    old: Option<&'a str>,
+    secret: Option<&'a str>,
+    counter: Option<&str>,
+) -> Result<Option<OldFiles<'a>>, UsageFault>
+    ensures { result_map_both (λ given. option_map old_of given) (λ fault. fault) result ≡
+        spec.old_of_texts (option_copied old.entry) (option_copied secret.entry) (option_copied counter.entry) }
 {
+    match (old, secret, counter) {
+        (None, None, None) => Ok(None),
+        (Some(old_name), Some(secret_name), Some(text)) => match number_up_to(text, LAST_COUNTER) {
+            Some(counter) => Ok(Some(OldFiles {
+                old_name,
+                secret_name,
+                counter,
+            })),
+            None => Err(UsageFault::WrongNumber),
+        },
+        _ => Err(UsageFault::WrongWords),
+    }
+}
+
+/// What a program makes of a record, of a run over cloaked files if some are given.
+fn asked_solo<'a>(solo: SoloRequest<'a>, old: Option<OldFiles<'a>>) -> Request<'a>
+    ensures { asked_of result ≡ spec.asked_solo solo.entry.domain solo.entry.files.bundle.now
+        solo.entry.files.record_name.now (option_map old_of old.entry) }
+{
+    match old {
+        None => Request::Solo(solo),
+        Some(old) => Request::SoloOver(SoloOverRequest { solo, old }),
+    }
+}
+
+/// What the program of this number makes of a record, if it is one.
+fn solo_of_texts<'a>(
+    domain: &str,
+    files: RecordRequest<'a>,
+    old: Option<&'a str>,
+    secret: Option<&'a str>,
+    counter: Option<&str>,
+) -> Request<'a>
+    ensures { asked_of result ≡ spec.solo_of_values (spec.number_up_to spec.last_domain domain.now)
+        files.entry.bundle.now files.entry.record_name.now
+        (spec.old_of_texts (option_copied old.entry) (option_copied secret.entry) (option_copied counter.entry)) }
+{
+    let old = match old_of_texts(old, secret, counter) {
+        Ok(old) => old,
+        Err(fault) => return Request::Faulty(fault),
+    };
     match number_up_to(domain, LAST_DOMAIN) {
-        Some(domain) => Request::Solo(SoloRequest {
-            domain: domain as u32,
-            files,
-        }),
+        Some(domain) => {
+            let domain = domain as u32;
+            asked_solo(SoloRequest { domain, files }, old)
+        }
         None => Request::Faulty(UsageFault::WrongNumber),
     }
 }
@@ -270,7 +333,13 @@ fn asked_with<'a>(command: CommandName, matches: &ArgMatches<'a>) -> Request<'a>
                 bundle: needed_text(matches, "BUNDLE"),
                 record_name: needed_text(matches, "RECORD"),
             };
-            solo_of_number(needed_text(matches, "DOMAIN"), files)
+            solo_of_texts(
+                needed_text(matches, "DOMAIN"),
+                files,
+                given_text(matches, "files"),
+                given_text(matches, "secret"),
+                given_text(matches, "counter"),
+            )
         }
         CommandName::Gen => gen_of_number(
             needed_text(matches, "NUMBER"),

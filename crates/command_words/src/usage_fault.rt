@@ -10,4 +10,6 @@ pub enum UsageFault {
     WrongNumber,
     /// Two of the files that are written have one name.
     SameName,
+    /// The random stream comes from the file of the secret or of the vectors, so keys would be shown as vectors.
+    SameSource,
 }

@@ -2,6 +2,7 @@ pub mod Faults
 pub mod Openings
 pub mod Runs
 pub mod Views
+pub mod SoloOvers
 pub mod Images
 pub mod Stats
 pub mod Sources

@@ -11,8 +11,8 @@ use Rattle.std.proofs.lemmas.List.Concat.{flat_map-cons}
 use Rattle.cloak_model.specs.declared.image.Bundle.{Bundle}
 use Rattle.cloak_model.specs.declared.image.KernelImage.{KernelImage}
 use Rattle.cloak_model.specs.declared.image.Program.{Program}
-use Rattle.cloak_model.specs.declared.item.Item.{Item}
-use Rattle.cloak_model.specs.DomainAlone.{domain_alone, opened_domain}
+use Rattle.cloak_model.specs.Items.{Item}
+use Rattle.cloak_model.specs.DomainAlone.{opened_domain, started_part}
 use Rattle.cloak_model.specs.BundleFault.{bundle_fault}
 use Rattle.cloak_model.specs.Exchange.{item_bytes, record_magic, byte_of}
 use Rattle.cloak_model.specs.Opening.{Lack, NoKey, NoPageDraw}
@@ -79,7 +79,7 @@ Stays unfit = (front more : List Item) (step : ℕ) → unfit front ≡ Some ste
 viewed_stays : (k : KernelImage) → Stays (viewed_unfit k)
 viewed_stays k = kernel_stays k.schedule (opened_kernel k)
 
-solo_stays : (d : ℕ) (k : KernelImage) (p : Program) → Stays (program_unfit d k p)
+solo_stays : (d : ℕ) (k : KernelImage) (p : Program) → Stays (program_unfit d k (started_part d p))
 solo_stays d k p = program_stays d k.schedule (opened_domain d p)
 
 -- How reading ends.
@@ -312,9 +312,9 @@ solo_refused {S} {O} d n r b p answer before after file there nothing given =
 
 soloed : {S O : Type 0} (d : ℕ) (n r : List ℕ) (b : Bundle) (p : Program) (items : List Item) (answer : Status)
     (before after : Outside S O) → before.files.reading < 2 ^ 64 - 1 → IsBundleFile before.files.held n b →
-    slice_get b.programs d ≡ Some p → IsRecordFile before.files.held r items → program_unfit d b.kernel p items ≡ None →
+    slice_get b.programs d ≡ Some p → IsRecordFile before.files.held r items → program_unfit d b.kernel (started_part d p) items ≡ None →
     NothingRose before after → HasSolo (spec.Solo d n r) answer before after →
-    ShowsAll (program_text d b.kernel p items (Some ending.Whole)) answer before after
+    ShowsAll (program_text d b.kernel (started_part d p) items (Some ending.Whole)) answer before after
 soloed {S} {O} d n r b p items answer before after low file has_p there fits nothing has =
     let names = solo_names d has.d n has.asks.bundle_name r has.record_name has.asks.solo in
     let bundle = same_bundle (before.files.held n) file.bytes b has.bundle file.told file.is
@@ -324,17 +324,17 @@ soloed {S} {O} d n r b p items answer before after low file has_p there fits not
     (subst (λ (x : Bundle). slice_get x.programs has.d ≡ Some has.p) bundle has.asks.program) in
     let both : Some has.p ≡ Some p = sym theirs ∙ has_p in
     let program : has.p ≡ p = cc in
-    shows_all (program_unfit d b.kernel p) (program_text d b.kernel p) r items answer before after there
+    shows_all (program_unfit d b.kernel (started_part d p)) (program_text d b.kernel (started_part d p)) r items answer before after there
     (record { is = there.is; fits = fits; stays = solo_stays d b.kernel p; low = low; same = nothing.reading })
     has.only.held
-    (subst (λ (x : List ℕ). ReadsRecord (program_unfit d b.kernel p) (program_text d b.kernel p) x answer before after)
-    names.2
-    (subst (λ (x : Program). ReadsRecord (program_unfit d b.kernel x) (program_text d b.kernel x) has.record_name answer
-    before after) program
-    (subst (λ (x : ℕ). ReadsRecord (program_unfit x b.kernel has.p) (program_text x b.kernel has.p) has.record_name answer
-    before after) names.0
-    (subst (λ (x : Bundle). ReadsRecord (program_unfit has.d x.kernel has.p) (program_text has.d x.kernel has.p)
-    has.record_name answer before after) bundle has.reads))))
+    (subst (λ (x : List ℕ). ReadsRecord (program_unfit d b.kernel (started_part d p))
+    (program_text d b.kernel (started_part d p)) x answer before after) names.2
+    (subst (λ (x : Program). ReadsRecord (program_unfit d b.kernel (started_part d x))
+    (program_text d b.kernel (started_part d x)) has.record_name answer before after) program
+    (subst (λ (x : ℕ). ReadsRecord (program_unfit x b.kernel (started_part x has.p))
+    (program_text x b.kernel (started_part x has.p)) has.record_name answer before after) names.0
+    (subst (λ (x : Bundle). ReadsRecord (program_unfit has.d x.kernel (started_part has.d has.p))
+    (program_text has.d x.kernel (started_part has.d has.p)) has.record_name answer before after) bundle has.reads))))
 
 pub solos_are_complete : (S O : Type 0) → SolosAreComplete S O
 solos_are_complete S O d n r status.Done before after low given b p items file has there fits nothing =

@@ -10,6 +10,7 @@ use Rattle.completeness.specs.Stats.{CompletesStats}
 use Rattle.completeness.specs.Upgrades.{CompletesUpgrade}
 use Rattle.completeness.specs.Stores.{CompletesStore}
 use Rattle.completeness.specs.Thaws.{CompletesThaw}
+use Rattle.completeness.specs.SoloOvers.{CompletesSoloOver}
 use Rattle.completeness.specs.Views.{CompletesSolo, CompletesView}
 
 -- By what the words ask for: faulty ones are refused with their line.
@@ -21,6 +22,8 @@ IsComplete (spec.Run bundle record_name steps randomness) answer before after =
 IsComplete (spec.View bundle record_name) answer before after = CompletesView bundle record_name answer before after
 IsComplete (spec.Solo domain bundle record_name) answer before after =
     CompletesSolo domain bundle record_name answer before after
+IsComplete (spec.SoloOver domain bundle record_name old) answer before after =
+    CompletesSoloOver domain bundle record_name old answer before after
 IsComplete (spec.Gen number bundle_name) answer before after = CompletesGen number bundle_name answer before after
 IsComplete (spec.Demo number steps) answer before after = CompletesDemo number steps answer before.output after.output
 IsComplete (spec.Stats bundle steps randomness) answer before after =

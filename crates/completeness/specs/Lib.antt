@@ -1,5 +1,6 @@
 pub mod Asked
 pub mod Runs
+pub mod SoloOvers
 pub mod Views
 pub mod Images
 pub mod Stats

@@ -2,7 +2,8 @@
 use Rattle.std.specs.Prelude.{ℕ, ◌≡◌, ◌⊎◌, ◌<◌, ◌-◌, ◌^◌, List, slice_get, Option, Some, None}
 use Rattle.cloak_model.specs.declared.image.Bundle.{Bundle}
 use Rattle.cloak_model.specs.declared.image.Program.{Program}
-use Rattle.cloak_model.specs.declared.item.Item.{Item}
+use Rattle.cloak_model.specs.DomainAlone.{started_part}
+use Rattle.cloak_model.specs.Items.{Item}
 use Rattle.cloak_model.specs.Record.{IsRecord}
 use Rattle.record_reader.specs.Ahead.{readable}
 use Rattle.command_words.specs.Command as spec
@@ -39,8 +40,10 @@ abbrev pub CompletesSolo : {S O : Type 0} → ℕ → (bundle_name record_name :
 CompletesSolo d bundle_name record_name answer before after =
     (b : Bundle) (p : Program) (items : List Item) →
     IsBundleFile before.files.held bundle_name b → slice_get b.programs d ≡ Some p →
-    IsRecordFile before.files.held record_name items → program_unfit d b.kernel p items ≡ None → NothingRose before after →
-    WantsMemory answer before after ⊎ ShowsAll (program_text d b.kernel p items (Some ending.Whole)) answer before after
+    IsRecordFile before.files.held record_name items → program_unfit d b.kernel (started_part d p) items ≡ None →
+    NothingRose before after →
+    WantsMemory answer before after
+    ⊎ ShowsAll (program_text d b.kernel (started_part d p) items (Some ending.Whole)) answer before after
 
 -- (A count that stands at its last value cannot rise any more.)
 abbrev pub ViewsAreComplete : (S O : Type 0) → Type 0

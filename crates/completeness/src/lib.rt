@@ -26,6 +26,7 @@
 
 ghost use Rattle.completeness.specs.Runs.{RunsAreComplete};
 ghost use Rattle.completeness.specs.Stats.{StatsAreComplete};
+ghost use Rattle.completeness.specs.SoloOvers.{SoloOversAreComplete};
 ghost use Rattle.completeness.specs.Views.{SolosAreComplete, ViewsAreComplete};
 ghost use Rattle.completeness.specs.ReadingBack.{RunsAreSoloed, RunsAreViewed};
 ghost use Rattle.completeness.specs.Images.{DemosAreComplete, GensAreComplete};
@@ -67,11 +68,12 @@ pub fn law_of_complete_stats<S: Shelf, O: Sink>()
     ensures { StatsAreComplete S O }
 {}
 
-/// If no call fails and the record fits, `view` and `solo` read it to its end. It does nothing: its contract is the
-/// law.
+/// If no call fails and the record fits, `view` and `solo` read it to its end; `solo` over cloaked files refuses the files,
+/// or reads the record to its end or its first fault. It does nothing: its contract is the law.
 pub fn law_of_complete_views<S: Shelf, O: Sink>()
     ensures views { ViewsAreComplete S O }
     ensures solos { SolosAreComplete S O }
+    ensures over_files { SoloOversAreComplete S O }
 {}
 
 /// If no call fails, `gen` writes its image, `demo` results in what the joint run of its image says, and `upgrade`

@@ -1,16 +1,16 @@
 -- What holds of each end of a script by the answers before it holds as it is played. The bytes of its pages are known up
 -- to the first store.
-use Rattle.std.proofs.Common.{◌≡◌, ◌∙◌, ℕ, List, [], ◌∷◌, ◌++◌, sym, ap, subst}
+use Rattle.std.proofs.Common.{◌∙◌, ℕ, List, [], ◌∷◌, ◌++◌, sym, ap, subst}
 use Rattle.cloak_base.specs.Pages.{with_page}
 use Rattle.cloak_base.specs.declared.names.PageId.{PageId}
 use Rattle.cloak_model.specs.declared.answer.Answer.{Answer}
-use Rattle.cloak_model.specs.declared.item.Item.{Item}
+use Rattle.cloak_model.specs.Items.{Item}
 use Rattle.cloak_model.specs.Asking.{Told}
 use Rattle.cloak_model.specs.AskPages.{answer_item, ask_read, ask_write}
 use Rattle.cloak_model.specs.Halves.{inward_half}
 use Rattle.cloak_model.specs.Memory.{value_in, with_value_in}
 use Rattle.cloak_model.specs.Script.{Write, Script, Gives, Asks, Reads, Changes, asked, played}
-use Rattle.cloak_model.specs.World.{World, plain_of, items_of}
+use Rattle.cloak_model.specs.World.{World, plain_of}
 use Rattle.latest_store.proofs.Heard.{Heard, heard_asked, with_plain_rewrites}
 
 abbrev pub EndsBy : {A : Type 0} → ℕ → (List Item → A → Type 0) → (PageId → List ℕ) → List Item → Script A → Type 0
@@ -25,7 +25,8 @@ EndsBy n P plain answers (Changes it more) = ⊥
 -- as it was played, by what the program was told
 pub record EndBy {A : Type 0} (n : ℕ) (P : List Item → A → Type 0) (t : Told A) : Type 0 where
   pub answers : List Item
-  pub told : inward_half n (items_of t.world) ≡ answers
+  pub pages : PageId → List ℕ
+  pub heard : Heard n pages answers t.world
   pub ends : P answers t.answer
 
 -- what is written in its pages is told of by no item
@@ -47,7 +48,7 @@ heard_written n plain answers q at width value w heard =
 pub end_by : {A : Type 0} (n : ℕ) (P : List Item → A → Type 0) (s : Script A) (plain : PageId → List ℕ)
     (answers : List Item) (w : World) → EndsBy n P plain answers s → Heard n plain answers w → EndBy n P (played s w)
 unfolding ask_read
-end_by n P (Gives a) plain answers w ends heard = record { answers = answers; told = heard.told; ends = ends }
+end_by n P (Gives a) plain answers w ends heard = record { answers = answers; pages = plain; heard = heard; ends = ends }
 end_by n P (Asks question more) plain answers w ends heard =
     let a = (asked question w).answer in
     end_by n P (more a) plain (answers ++ answer_item n a ∷ []) (asked question w).world (ends a)

@@ -7,8 +7,8 @@ use Rattle.cloak_base.specs.declared.names.PageId.{PageId}
 use Rattle.cloak_model.specs.declared.answer.Answer.{Answer}
 use Rattle.cloak_model.specs.declared.answer.Answer.TheVariants as told
 use Rattle.cloak_model.specs.declared.context.PageWord.{PageWord}
-use Rattle.cloak_model.specs.declared.item.Item.{Item}
-use Rattle.cloak_model.specs.declared.item.Item.TheVariants as item
+use Rattle.cloak_model.specs.Items.{Item}
+use Rattle.cloak_model.specs.Items as item
 use Rattle.cloak_model.specs.AskPages.{answer_item}
 use Rattle.cloak_model.specs.Calls as calls
 use Rattle.cloak_model.specs.Calls.{Copy, buffer, area, byte_address, is_cloaked, copy_in_step, copy_out_step}

@@ -1,6 +1,9 @@
 pub mod Marks
 pub mod Stores
 pub mod Others
+pub mod Spared
+pub mod MarkedPages
+pub mod HeldMarks
 pub mod Answered
 pub mod InstructionMarks
 pub mod CopyMarks
@@ -8,3 +11,9 @@ pub mod HypercallMarks
 pub mod StepMarks
 pub mod TurnMarks
 pub mod Runs
+pub mod InstructionRegisters
+pub mod HypercallRegisters
+pub mod StepRegisters
+pub mod RunRegisters
+pub mod Conditionals
+pub mod OtherRegisters

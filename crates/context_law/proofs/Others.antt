@@ -1,8 +1,10 @@
--- Moves that store in no word: those of a hypercall, and of a word of another domain all that a program does.
+-- Moves that write in no word: loads, and, of a word of another domain, all that a program does.
 use Rattle.std.proofs.Common.{◌≡◌, ◌≢◌, ◌∙◌, ℕ, ◌%◌, Bool, true, false, cond, List, [], ◌∷◌, map, Option, Some, None, Result, Ok, Err, refl, sym}
 use Rattle.std.specs.Prelude.{◌==◌}
 use Rattle.std.specs.List.{list_any}
 use Rattle.cloak_base.specs.Registers.{register}
+use Rattle.cloak_base.specs.Pages.{is_of}
+use Rattle.cloak_base.proofs.Pages.{is_of-other}
 use Rattle.cloak_base.specs.declared.names.PageId.{PageId}
 use Rattle.rv_isa.specs.Table.{instruction}
 use Rattle.rv_isa.specs.declared.instr.Instr.{Instr}
@@ -14,8 +16,8 @@ use Rattle.rv_atomic.specs.declared.atomic.AtomicOp.TheVariants.{Lr, Sc}
 use Rattle.cloak_model.specs.declared.context.Phase.{Phase}
 use Rattle.cloak_model.specs.declared.context.Phase.TheVariants.{Plain, CopyIn, Waiting, CopyOut}
 use Rattle.cloak_model.specs.declared.context.PageWord.{PageWord}
-use Rattle.cloak_model.specs.declared.item.Item.{Item}
-use Rattle.cloak_model.specs.declared.item.Item.TheVariants as item
+use Rattle.cloak_model.specs.Items.{Item}
+use Rattle.cloak_model.specs.Items as item
 use Rattle.cloak_model.specs.declared.outcome.Effect.{Effect}
 use Rattle.cloak_model.specs.declared.outcome.Effect.TheVariants as does
 use Rattle.cloak_model.specs.declared.resource.MapFault.{MapFault}
@@ -30,55 +32,18 @@ use Rattle.cloak_model.specs.Resources.{page_at}
 use Rattle.script_fold.proofs.InstructionScripts.{IsOwnPage, own_page}
 use Rattle.latest_store.specs.Moves.{Move, Stores, Copies, Drops, latest_value}
 use Rattle.latest_store.specs.Deeds.{first_granted, both_granted, load_at, store_at, atomic_at, made_moves, file_moves, hypercall_moves, ecall_moves, effect_moves, atomic_moves, word_moves, fetched_moves, byte_moves, phase_moves, context_moves}
-use Rattle.context_law.specs.Inside.{stores_in}
-use Rattle.context_law.proofs.Stores.{or_none, misses_domain}
+use Rattle.latest_store.specs.Sums.{writes_in}
+use Rattle.context_law.specs.Inside.{page_of}
+use Rattle.context_law.proofs.Stores.{or_none, both_none, misses_domain}
 
--- none of the moves stores in the word of the domain
+-- none of the moves writes in the word of the domain
 abbrev pub Misses : ℕ → PageWord → List Move → Type 0
-Misses e word moves = list_any (stores_in e word) moves ≡ false
+Misses e word moves = list_any (writes_in (page_of e word) word.at) moves ≡ false
 
 pub misses_if : (e : ℕ) (word : PageWord) (test : Bool) (moves : List Move) → Misses e word moves →
     Misses e word (cond test moves [])
 misses_if e word true moves none = none
 misses_if e word false moves none = refl
-
--- Hypercalls.
-
-made_misses : (e : ℕ) (word : PageWord) (n : ℕ) (made : Result ℕ MapFault) → Misses e word (made_moves n made)
-made_misses e word n (Ok k) = refl
-made_misses e word n (Err fault) = refl
-
-file_misses : (e : ℕ) (word : PageWord) (d : Control) (c : Context) (place : Option ℕ) →
-    Misses e word (file_moves d c place)
-file_misses e word d c None = made_misses e word d.number _
-file_misses e word d c (Some n) = refl
-
-copies_miss : (e : ℕ) (word : PageWord) (n : ℕ) (list : List (ℕ × ℕ)) →
-    Misses e word (map (λ (copy : ℕ × ℕ). Copies n copy.0 copy.1) list)
-copies_miss e word n [] = refl
-copies_miss e word n (copy ∷ list) = copies_miss e word n list
-
-drops_miss : (e : ℕ) (word : PageWord) (n : ℕ) (list : List ℕ) →
-    Misses e word (map (λ (resource : ℕ). Drops n resource) list)
-drops_miss e word n [] = refl
-drops_miss e word n (resource ∷ list) = drops_miss e word n list
-
-hypercall_misses : (e : ℕ) (word : PageWord) (h : Hypercall) (d : Control) (c : Context) (answers : List Item) →
-    Misses e word (hypercall_moves h d c answers)
-unfolding hypercall_moves
-hypercall_misses e word New d c answers = made_misses e word d.number _
-hypercall_misses e word hyper.File d c answers = file_misses e word d c _
-hypercall_misses e word ForkSpace d c answers =
-    misses_if e word (both_granted answers) _ (copies_miss e word d.number (copies c.space d.resources))
-hypercall_misses e word Exit d c answers =
-    misses_if e word (both_granted answers) _ (drops_miss e word d.number (private_numbers c.space d.resources))
-hypercall_misses e word _ d c answers = refl
-
-pub ecall_misses : (e : ℕ) (word : PageWord) (d : Control) (c : Context) (i : Instr) (answers : List Item) →
-    Misses e word (ecall_moves d c i answers)
-unfolding ecall_moves
-ecall_misses e word d c instr.Ecall answers = hypercall_misses e word (hypercall_of c) d c answers
-ecall_misses e word d c _ answers = refl
 
 -- Another domain's.
 
@@ -88,6 +53,41 @@ load_misses e word va width None = refl
 load_misses e word va width (Some q) = refl
 
 module _ (e : ℕ) (word : PageWord) (d : Control) (other : d.number ≢ e) where
+  -- it does not make, copy over or drop its page
+  of_other : (resource : ℕ) → is_of d.number resource (page_of e word) ≡ false
+  of_other resource = is_of-other d.number resource (page_of e word) (λ is. other (sym is.0))
+
+  made_misses : (made : Result ℕ MapFault) → Misses e word (made_moves d.number made)
+  made_misses (Ok k) = or_none _ (of_other k)
+  made_misses (Err fault) = refl
+
+  file_misses : (c : Context) (place : Option ℕ) → Misses e word (file_moves d c place)
+  file_misses c None = made_misses _
+  file_misses c (Some n) = refl
+
+  copies_miss : (list : List (ℕ × ℕ)) → Misses e word (map (λ (copy : ℕ × ℕ). Copies d.number copy.0 copy.1) list)
+  copies_miss [] = refl
+  copies_miss (copy ∷ list) = both_none _ _ (of_other copy.1) (copies_miss list)
+
+  drops_miss : (list : List ℕ) → Misses e word (map (λ (resource : ℕ). Drops d.number resource) list)
+  drops_miss [] = refl
+  drops_miss (resource ∷ list) = both_none _ _ (of_other resource) (drops_miss list)
+
+  hypercall_misses : (h : Hypercall) (c : Context) (answers : List Item) → Misses e word (hypercall_moves h d c answers)
+  unfolding hypercall_moves
+  hypercall_misses New c answers = made_misses _
+  hypercall_misses hyper.File c answers = file_misses c _
+  hypercall_misses ForkSpace c answers =
+      misses_if e word (both_granted answers) _ (copies_miss (copies c.space d.resources))
+  hypercall_misses Exit c answers =
+      misses_if e word (both_granted answers) _ (drops_miss (private_numbers c.space d.resources))
+  hypercall_misses _ c answers = refl
+
+  ecall_misses : (c : Context) (i : Instr) (answers : List Item) → Misses e word (ecall_moves d c i answers)
+  unfolding ecall_moves
+  ecall_misses c instr.Ecall answers = hypercall_misses (hypercall_of c) c answers
+  ecall_misses c _ answers = refl
+
   own_other : (q : PageId) → q.domain ≡ d.number → q.domain ≢ e
   own_other q own is = other (sym own ∙ is)
 
@@ -113,7 +113,7 @@ module _ (e : ℕ) (word : PageWord) (d : Control) (other : d.number ≢ e) wher
   effect_misses c i (does.Store va width value) answers =
       misses_if e word (both_granted answers) _
       (store_misses va width value _ (own_page d.number d.resources c.space va))
-  effect_misses c i does.System answers = ecall_misses e word d c i answers
+  effect_misses c i does.System answers = ecall_misses c i answers
   effect_misses c i _ answers = refl
 
   atomic_misses : (c : Context) (a : Option Atomic) (answers : List Item) → Misses e word (atomic_moves d c a answers)

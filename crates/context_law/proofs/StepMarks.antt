@@ -1,6 +1,7 @@
 -- The reservations of a program's contexts over a step of one of them, and over an interrupt and a resuming.
-use Rattle.std.proofs.Common.{◌≡◌, ◌∙◌, ◌⊎◌, inl, inr, ℕ, ◌%◌, Bool, true, false, cond, List, [], Option, Some, None, Result, Ok, Err, refl, sym, ap}
+use Rattle.std.proofs.Common.{◌≡◌, ◌∙◌, ◌⊎◌, inl, inr, ℕ, ◌%◌, Bool, true, false, cond, List, [], ◌∷◌, Option, Some, None, Result, Ok, Err, refl, sym, ap, subst}
 use Rattle.std.specs.Prelude.{is_some}
+use Rattle.std.specs.List.{list_any}
 use Rattle.cloak_base.specs.declared.names.PageId.{PageId}
 use Rattle.cloak_model.specs.declared.context.Phase.{Phase}
 use Rattle.cloak_model.specs.declared.context.Phase.TheVariants.{Plain, CopyIn, Waiting, CopyOut}
@@ -10,7 +11,8 @@ use Rattle.cloak_model.specs.declared.inside.Copied.{Copied}
 use Rattle.cloak_model.specs.declared.inside.Copied.TheVariants as copied
 use Rattle.cloak_model.specs.declared.inside.Ran.{Ran}
 use Rattle.cloak_model.specs.declared.inside.Ran.TheVariants as ran
-use Rattle.cloak_model.specs.declared.item.Item.{Item}
+use Rattle.cloak_model.specs.Items.{Item}
+use Rattle.cloak_model.specs.Items as item
 use Rattle.cloak_model.specs.Asking.{Told, answered, then_ask}
 use Rattle.cloak_model.specs.Calls.{Copy, buffer, byte_address, copy_in_step, copy_out_step, finish_call}
 use Rattle.cloak_model.specs.Contexts.{Context, context_at, set_word, in_phase, suspended, Resumed, resume_if, resume_at}
@@ -19,26 +21,31 @@ use Rattle.cloak_model.specs.DomainStep.{domain_script, DomainStepped, instructi
 use Rattle.cloak_model.specs.Halves.{inward_half}
 use Rattle.cloak_model.specs.Hypercalls.{hypercall_of}
 use Rattle.cloak_model.specs.InsideStep.{AfterInstruction, instruction_inside}
+use Rattle.cloak_model.specs.Resources.{Resources, resource_at}
 use Rattle.cloak_model.specs.World.{World, items_of}
 use Rattle.cloak_model.specs.Script.{played}
 use Rattle.cloak_model.proofs.Playing.{by_plain, by_copy_in, by_copy_out, by_ecall}
 use Rattle.latest_store.specs.Moves.{Move}
-use Rattle.latest_store.specs.Deeds.{both_granted, phase_moves, context_moves}
+use Rattle.latest_store.specs.Sums.{writes_in}
+use Rattle.latest_store.specs.Deeds.{first_granted, both_granted, hypercall_moves, phase_moves, context_moves}
 use Rattle.latest_store.proofs.Moved.{Agrees}
 use Rattle.latest_store.proofs.Heard.{Heard, if_fetched}
-use Rattle.context_law.specs.Inside.{Reached, reserved_by, phase_reached, context_reached}
+use Rattle.context_law.specs.Inside.{page_of, Reached, reserved_by, phase_reached, context_reached}
 use Rattle.context_law.proofs.Marks.{mark_of, mark_at, NoMore, OneMore, set_one, set_none, set_same, none_one, left_unwritten}
 use Rattle.context_law.proofs.Answered.{EndBy}
 use Rattle.context_law.proofs.Others.{Misses, misses_if, load_misses}
-use Rattle.context_law.proofs.InstructionMarks.{writes_word, if_reached, DoneByInstruction, instruction_deed}
+use Rattle.context_law.proofs.InstructionMarks.{writes_word, if_reached, IsCalling, DoneByInstruction, instruction_deed}
 use Rattle.context_law.proofs.CopyMarks.{CopyDeed, copy_in_deed, copy_out_deed}
 use Rattle.context_law.proofs.HypercallMarks.{hypercall_one}
+use Rattle.context_law.proofs.Spared.{IsUsed, hypercall_spares}
 
--- A reservation that a context of this slot makes, or that stood before in a word in which no move stores.
-abbrev pub Origin : ℕ → ℕ → List (Option Context) → Option Reached → List Move → ℕ → PageWord → Type 0
-Origin n slot contexts reached moves k word =
+-- A reservation that a context of this slot makes, or that stood before, in a word in which no move writes if the resource
+-- of its page is in use before and after.
+abbrev pub Origin : ℕ → Control → Resources → Option Reached → List Move → ℕ → PageWord → Type 0
+Origin slot d r' reached moves k word =
     ((k ≡ slot) × (reserved_by reached ≡ Some word))
-    ⊎ ((mark_at contexts k ≡ Some word) × Misses n word moves)
+    ⊎ ((mark_at d.contexts k ≡ Some word)
+    × (IsUsed d.resources word.resource → IsUsed r' word.resource → Misses d.number word moves))
 
 -- a step of a program, by what it was told
 pub record Stepping (slot : ℕ) (d : Domain) (moves : List Item → List Move) (reached : List Item → Option Reached)
@@ -47,7 +54,7 @@ pub record Stepping (slot : ℕ) (d : Domain) (moves : List Item → List Move) 
   pub told : inward_half d.control.number (items_of t.world) ≡ answers
   pub marks : (k : ℕ) (word : PageWord) → word.at % 4 ≡ 0 →
       mark_at t.answer.domain.control.contexts k ≡ Some word →
-      Origin d.control.number slot d.control.contexts (reached answers) (moves answers) k word
+      Origin slot d.control t.answer.domain.control.resources (reached answers) (moves answers) k word
 
 same_one : (slot : ℕ) (mark : Option PageWord) (contexts : List (Option Context)) → OneMore slot mark contexts contexts
 same_one slot mark contexts k word is = inr is
@@ -64,6 +71,12 @@ left_by (Some place) s k word is =
     let left = left_unwritten place word s.domain.control.contexts k is in
     record { was = left.was; free = left.other }
 
+-- nothing else of the program
+written_resources : (wrote : Option PageWord) (s : DomainStepped) →
+    (after_write wrote s).domain.control.resources ≡ s.domain.control.resources
+written_resources None s = refl
+written_resources (Some place) s = refl
+
 -- An instruction.
 
 ended_one : (slot : ℕ) (d : Domain) (k : Context) (e : Ran) (w : World) →
@@ -77,13 +90,13 @@ ended_one slot d k ran.Ecall w =
 ended_one slot d k ran.Stopped w = same_one slot k.mark d.control.contexts
 ended_one slot d k _ w = set_one d.control.contexts slot (Some k)
 
-ended_world : (slot : ℕ) (d : Domain) (k : Context) (e : Ran) (w : World) → (e ≡ ran.Ecall → ⊥) →
+pub ended_world : (slot : ℕ) (d : Domain) (k : Context) (e : Ran) (w : World) → (e ≡ ran.Ecall → ⊥) →
     (played (instruction_ended slot d k e) w).world ≡ w
 unfolding instruction_ended
 ended_world slot d k ran.Ecall w other = absurd (other refl)
 ended_world slot d k _ w other = refl
 
-is_ecall : (e : Ran) → (e ≡ ran.Ecall) ⊎ (e ≡ ran.Ecall → ⊥)
+pub is_ecall : (e : Ran) → (e ≡ ran.Ecall) ⊎ (e ≡ ran.Ecall → ⊥)
 is_ecall ran.Ecall = inl refl
 is_ecall _ = inr (λ is. cc)
 
@@ -93,44 +106,83 @@ module _ (slot : ℕ) (d : Domain) (c : Context) (there : context_at d.control.c
       mark_at d.control.contexts k ≡ Some word
   own_mark k word at is = ap (mark_at d.control.contexts) at ∙ ap mark_of there ∙ is
 
-  ended_stepping : (moves : List Item → List Move) (reached : Option Reached) (t : Told AfterInstruction) →
-      EndBy d.control.number (DoneByInstruction d.control.number c moves reached) t →
-      Stepping slot d (if_fetched moves) (if_reached reached)
-      (then_ask (played (instruction_ended slot d t.answer.context t.answer.ending))
-      (λ s. answered (after_write t.answer.wrote s)) t.world)
-  ended_stepping moves reached t deed =
+  -- what a hypercall does to pages, by what the program was told
+  call_misses : (moves : List Item → List Move) (k : Context) (answers : List Item) (wrote : Option PageWord)
+      (pages : PageId → List ℕ) (w : World) → IsCalling d.control c moves answers k →
+      Heard d.control.number pages answers w →
+      let u = played (instruction_ended slot d k ran.Ecall) w in
+      (word : PageWord) → IsUsed d.control.resources word.resource →
+      IsUsed (after_write wrote u.answer).domain.control.resources word.resource →
+      Misses d.control.number word (if_fetched moves (inward_half d.control.number (items_of u.world)))
+  call_misses moves k answers wrote pages w calling heard word before later =
       let n = d.control.number in
+      let heard' : Heard n pages (item.Ok n ∷ []) w =
+      subst (λ (l : List Item). Heard n pages l w) calling.asked heard in
+      let spared = by_ecall (λ t. IsUsed t.answer.domain.control.resources word.resource →
+      Misses n word (hypercall_moves (hypercall_of k) d.control k (inward_half n (items_of t.world)))) slot d k w
+      (hypercall_spares slot k d.control pages w heard' (hypercall_of k) word before)
+      (ap (λ (r : Resources). is_some (resource_at r word.resource))
+      (sym (written_resources wrote (played (instruction_ended slot d k ran.Ecall) w).answer)) ∙ later) in
+      let final : List Item = inward_half n (items_of (played (instruction_ended slot d k ran.Ecall) w).world) in
+      misses_if n word (first_granted final) (moves final)
+      (ap (list_any (writes_in (page_of n word) word.at))
+      (calling.deeds final ∙ ap (λ (x : Context). hypercall_moves (hypercall_of x) d.control x final) (sym calling.same))
+      ∙ spared)
+
+  -- the step that an instruction's end makes of it
+  abbrev EndsIn : (List Item → List Move) → Option Reached → Told AfterInstruction → Ran → Type 0
+  EndsIn moves reached t e =
+      Stepping slot d (if_fetched moves) (if_reached reached)
+      (then_ask (played (instruction_ended slot d t.answer.context e))
+      (λ s. answered (after_write t.answer.wrote s)) t.world)
+
+  ended_call : (moves : List Item → List Move) (reached : Option Reached) (t : Told AfterInstruction) →
+      EndBy d.control.number (DoneByInstruction d.control c moves reached) t → t.answer.ending ≡ ran.Ecall →
+      EndsIn moves reached t ran.Ecall
+  ended_call moves reached t deed is =
+      let u = played (instruction_ended slot d t.answer.context ran.Ecall) t.world in
+      let calling = deed.ends.calls is in
+      let spared = call_misses moves t.answer.context deed.answers t.answer.wrote deed.pages t.world calling deed.heard in
+      record {
+        answers = inward_half d.control.number (items_of u.world);
+        told = refl;
+        marks = λ k word aligned has.
+            let left = left_by t.answer.wrote u.answer k word has in
+            elim (ended_one slot d t.answer.context ran.Ecall t.world k word left.was) [
+              | inl here ↦
+                  inr (own_mark k word here.0 (ap (λ (x : Context). x.mark) (sym calling.same) ∙ here.1), spared word)
+              | inr before ↦ inr (before, spared word)
+            ];
+      }
+
+  ended_other : (moves : List Item → List Move) (reached : Option Reached) (t : Told AfterInstruction) →
+      EndBy d.control.number (DoneByInstruction d.control c moves reached) t → (t.answer.ending ≡ ran.Ecall → ⊥) →
+      EndsIn moves reached t t.answer.ending
+  ended_other moves reached t deed other =
       let u = played (instruction_ended slot d t.answer.context t.answer.ending) t.world in
-      let one = ended_one slot d t.answer.context t.answer.ending t.world in
-      elim (is_ecall t.answer.ending) [
-        | inl call ↦ record {
-          answers = inward_half n (items_of u.world);
-          told = refl;
-          marks = λ k word aligned is.
-              let left = left_by t.answer.wrote u.answer k word is in
-              elim (one k word left.was) [
-                | inl here ↦
-                    inr (own_mark k word here.0 (sym (deed.ends.same call) ∙ here.1), deed.ends.none call _ word)
-                | inr before ↦ inr (before, deed.ends.none call _ word)
-              ];
-        }
-        | inr other ↦ record {
-          answers = deed.answers;
-          told = ap (λ (w : World). inward_half n (items_of w))
-              (ended_world slot d t.answer.context t.answer.ending t.world other) ∙ deed.told;
-          marks = λ k word aligned is.
-              let left = left_by t.answer.wrote u.answer k word is in
-              let unstored = deed.ends.stores word aligned left.free in
-              elim (one k word left.was) [
-                | inl here ↦
-                    elim (deed.ends.mark word here.1) [
-                      | inl before ↦ inr (own_mark k word here.0 before, unstored)
-                      | inr made ↦ inl (here.0, made)
-                    ]
-                | inr before ↦ inr (before, unstored)
-              ];
-        }
-      ]
+      record {
+        answers = deed.answers;
+        told = ap (λ (w : World). inward_half d.control.number (items_of w))
+            (ended_world slot d t.answer.context t.answer.ending t.world other) ∙ deed.heard.told;
+        marks = λ k word aligned has.
+            let left = left_by t.answer.wrote u.answer k word has in
+            let unwritten = deed.ends.stores other word aligned left.free in
+            elim (ended_one slot d t.answer.context t.answer.ending t.world k word left.was) [
+              | inl here ↦
+                  elim (deed.ends.mark word here.1) [
+                    | inl before ↦ inr (own_mark k word here.0 before, (λ x y. unwritten))
+                    | inr made ↦ inl (here.0, made)
+                  ]
+              | inr before ↦ inr (before, (λ x y. unwritten))
+            ];
+      }
+
+  ended_stepping : (moves : List Item → List Move) (reached : Option Reached) (t : Told AfterInstruction) →
+      EndBy d.control.number (DoneByInstruction d.control c moves reached) t → EndsIn moves reached t t.answer.ending
+  ended_stepping moves reached t deed = elim (is_ecall t.answer.ending) [
+    | inl call ↦ subst (EndsIn moves reached t) (sym call) (ended_call moves reached t deed call)
+    | inr other ↦ ended_other moves reached t deed other
+  ]
 
   -- A byte that is copied.
 
@@ -150,12 +202,14 @@ module _ (slot : ℕ) (d : Domain) (c : Context) (there : context_at d.control.c
       Misses d.control.number word (moves deed.answers)) → (k : ℕ) (word : PageWord) → word.at % 4 ≡ 0 →
       mark_at (after_write wrote (copy_ended slot d t.answer.context t.answer.ending)).domain.control.contexts k
       ≡ Some word →
-      Origin d.control.number slot d.control.contexts (reached deed.answers) (moves deed.answers) k word
+      Origin slot d.control (after_write wrote (copy_ended slot d t.answer.context t.answer.ending)).domain.control.resources
+      (reached deed.answers) (moves deed.answers) k word
   copied_marks moves reached t deed wrote stores k word aligned is =
       let left = left_by wrote (copy_ended slot d t.answer.context t.answer.ending) k word is in
       elim (copied_one t.answer.context t.answer.ending k word left.was) [
-        | inl here ↦ inr (own_mark k word here.0 (sym deed.ends.mark ∙ here.1), stores word aligned left.free)
-        | inr before ↦ inr (before, stores word aligned left.free)
+        | inl here ↦
+            inr (own_mark k word here.0 (sym deed.ends.mark ∙ here.1), (λ x y. stores word aligned left.free))
+        | inr before ↦ inr (before, (λ x y. stores word aligned left.free))
       ]
 
   -- Each step.
@@ -175,7 +229,7 @@ module _ (slot : ℕ) (d : Domain) (c : Context) (there : context_at d.control.c
       let deed = copy_in_deed d.control plain c done w heard in
       by_copy_in (Steps (CopyIn done) history) done slot c d w (record {
         answers = deed.answers;
-        told = deed.told;
+        told = deed.heard.told;
         marks = λ k word aligned is. copied_marks _ (λ answers. None) t deed None
             (λ word' aligned' free.
             misses_if d.control.number word' (both_granted deed.answers) _
@@ -184,14 +238,14 @@ module _ (slot : ℕ) (d : Domain) (c : Context) (there : context_at d.control.c
   phase_stepping Waiting history plain w agrees heard = record {
     answers = [];
     told = heard.told;
-    marks = λ k word aligned is. inr (set_same d.control.contexts slot c c there refl k word is, refl);
+    marks = λ k word aligned is. inr (set_same d.control.contexts slot c c there refl k word is, (λ x y. refl));
   }
   phase_stepping (CopyOut done total) history plain w agrees heard =
       let t = played (copy_out_step d.control.number d.control.resources c done total) w in
       let deed = copy_out_deed d.control plain c done total w heard in
       by_copy_out (Steps (CopyOut done total) history) done total slot c d w (record {
         answers = deed.answers;
-        told = deed.told;
+        told = deed.heard.told;
         marks = λ k word aligned is.
             copied_marks _ (λ answers. None) t deed t.answer.wrote deed.ends.stores k word aligned is;
       })
@@ -204,7 +258,7 @@ unfolding step_if context_moves
 step_if_stepping None slot d history plain w there agrees heard = record {
   answers = [];
   told = heard.told;
-  marks = λ k word aligned is. inr (is, refl);
+  marks = λ k word aligned is. inr (is, (λ x y. refl));
 }
 step_if_stepping (Some c) slot d history plain w there agrees heard =
     phase_stepping slot d c there c.phase history plain w agrees heard

@@ -1,18 +1,24 @@
 -- Which words a move stores in: the one that was written in, and pages of its own domain.
-use Rattle.std.proofs.Common.{◌≡◌, ◌≢◌, ◌∙◌, ◌⊎◌, inl, inr, ℕ, ◌+◌, ◌/◌, ◌*◌, ◌%◌, ◌<◌, Bool, true, false, ◌&&◌, ◌||◌, refl, sym, ap, subst, arith, eq-eqb, ne_eqb}
+use Rattle.std.proofs.Common.{◌≡◌, ◌≢◌, ◌∙◌, ◌⊎◌, inl, inr, ℕ, ◌+◌, ◌/◌, ◌*◌, ◌%◌, ◌<◌, Bool, true, false, ◌&&◌, ◌||◌, refl, sym, ap, subst, arith, eq-eqb}
 use Rattle.std.specs.Prelude.{nat_eq, nat_lt}
 use Rattle.std.proofs.lemmas.Bool.{false≢true, and_parts, ltb-true, eqb-true, false_from_ne_true}
+use Rattle.cloak_base.specs.Pages.{same_page}
+use Rattle.cloak_base.proofs.Pages.{same_page-other}
 use Rattle.cloak_base.specs.declared.names.PageId.{PageId}
 use Rattle.cloak_model.specs.declared.context.PageWord.{PageWord}
 use Rattle.cloak_model.specs.Contexts.{word_of_page, same_word}
 use Rattle.cloak_model.specs.Effect.{IsWidth}
 use Rattle.script_fold.proofs.Aligned.{IsAligned}
 use Rattle.latest_store.specs.Sums.{reaches}
-use Rattle.context_law.specs.Inside.{meets_place}
+use Rattle.context_law.specs.Inside.{page_of}
 
 pub or_none : (b : Bool) → b ≡ false → (b || false) ≡ false
 or_none true is = absurd (false≢true (sym is))
 or_none false is = refl
+
+pub both_none : (a b : Bool) → a ≡ false → b ≡ false → (a || b) ≡ false
+both_none true b is rest = absurd (false≢true (sym is))
+both_none false b is rest = rest
 
 -- A store of 1, 2 or 4 bytes at a multiple of its width: it lies in one word.
 
@@ -48,23 +54,26 @@ same_word_is word q va resource page at =
     all true false c p q r = absurd (false≢true q)
     all false b c p q r = absurd (false≢true p)
 
--- it does not meet another word
+-- it does not reach another word
 pub misses_word : (n : ℕ) (word : PageWord) (q : PageId) (va width : ℕ) → word.at % 4 ≡ 0 → IsOnWord va width →
-    same_word word (word_of_page q va) ≡ false → meets_place n word q (va % 4096) width ≡ false
-misses_word n word q va width aligned on other = false_from_ne_true (meets_place n word q (va % 4096) width) (λ meets.
-    let parts = and_parts (nat_eq q.domain n && (nat_eq q.resource word.resource && nat_eq q.page word.page))
-    (reaches (va % 4096) width word.at) meets in
-    let page = and_parts (nat_eq q.domain n) (nat_eq q.resource word.resource && nat_eq q.page word.page) parts.0 in
-    let names = and_parts (nat_eq q.resource word.resource) (nat_eq q.page word.page) page.1 in
+    same_word word (word_of_page q va) ≡ false →
+    (same_page (page_of n word) q && reaches (va % 4096) width word.at) ≡ false
+unfolding same_page
+misses_word n word q va width aligned on other =
+    let p = page_of n word in
+    false_from_ne_true (same_page p q && reaches (va % 4096) width word.at) (λ meets.
+    let parts = and_parts (same_page p q) (reaches (va % 4096) width word.at) meets in
+    let page = and_parts (nat_eq n q.domain) (nat_eq word.resource q.resource && nat_eq word.page q.page) parts.0 in
+    let names = and_parts (nat_eq word.resource q.resource) (nat_eq word.page q.page) page.1 in
     let reach = and_parts (nat_lt (va % 4096) (word.at + 4)) (nat_lt word.at (va % 4096 + width)) parts.1 in
     let at = in_word va word.at width aligned on (ltb-true (va % 4096) (word.at + 4) reach.0)
     (ltb-true word.at (va % 4096 + width) reach.1) in
-    false≢true (sym other ∙ same_word_is word q va (eqb-true q.resource word.resource names.0)
-    (eqb-true q.page word.page names.1) at))
+    false≢true (sym other ∙ same_word_is word q va (sym (eqb-true word.resource q.resource names.0))
+    (sym (eqb-true word.page q.page names.1)) at))
 
 -- nor one of another domain
 pub misses_domain : (d : ℕ) (word : PageWord) (q : PageId) (from width : ℕ) → q.domain ≢ d →
-    meets_place d word q from width ≡ false
+    (same_page (page_of d word) q && reaches from width word.at) ≡ false
 misses_domain d word q from width other =
-    ap (λ (b : Bool). (b && (nat_eq q.resource word.resource && nat_eq q.page word.page)) && reaches from width word.at)
-    (ne_eqb q.domain d other)
+    ap (λ (b : Bool). b && reaches from width word.at)
+    (same_page-other (page_of d word) q (λ same. other (ap (λ (x : PageId). x.domain) (sym same))))

@@ -1,44 +1,43 @@
 -- The reservations of every program's contexts over a step of the joint machine.
-use Rattle.std.proofs.Common.{◌≡◌, ◌≢◌, ◌∙◌, ◌⊎◌, inl, inr, ℕ, zero, suc, ◌%◌, Bool, true, false, List, [], ◌∷◌, ◌++◌, slice_get, slice_set, Option, Some, None, Result, Ok, Err, refl, sym, ap, subst, arith, append-nil}
-use Rattle.std.specs.Prelude.{replicate}
+use Rattle.std.proofs.Common.{◌≡◌, ◌≢◌, ◌∙◌, ◌⊎◌, inl, inr, ℕ, zero, suc, ◌%◌, Bool, true, false, List, [], ◌∷◌, slice_get, slice_set, Option, Some, None, Result, Ok, Err, refl, sym, ap, subst, arith}
+use Rattle.std.specs.Prelude.{is_some, replicate}
 use Rattle.std.specs.List.{list_any}
-use Rattle.std.proofs.lemmas.List.Elements.{filter-append}
-use Rattle.cloak_base.specs.declared.causes.Shown.{Shown}
 use Rattle.cloak_base.specs.declared.causes.Violation.{Violation}
 use Rattle.cloak_model.specs.declared.context.ResumeFault.{ResumeFault}
 use Rattle.cloak_model.specs.declared.context.PageWord.{PageWord}
-use Rattle.cloak_model.specs.declared.inside.Went.{Went}
-use Rattle.cloak_model.specs.declared.inside.Went.TheVariants as went
-use Rattle.cloak_model.specs.declared.item.Item.{Item}
-use Rattle.cloak_model.specs.declared.item.Item.TheVariants as item
+use Rattle.cloak_model.specs.Items.{Item}
+use Rattle.cloak_model.specs.Items as item
 use Rattle.cloak_model.specs.declared.outcome.Kernel.{Kernel}
 use Rattle.cloak_model.specs.declared.outcome.Kernel.TheVariants.{Resume}
 use Rattle.cloak_model.specs.Asking.{Told}
-use Rattle.cloak_model.specs.Contexts.{Context, Admitted, context_at, domain_of, slot_of}
+use Rattle.cloak_model.specs.Contexts.{Admitted, context_at, domain_of, slot_of}
 use Rattle.cloak_model.specs.Csr.{interrupt_due}
 use Rattle.cloak_model.specs.DomainAlone.{runs_on}
 use Rattle.cloak_model.specs.DomainState.{Control, Domain}
 use Rattle.cloak_model.specs.DomainStep.{DomainStepped, domain_step, interrupt}
 use Rattle.cloak_model.specs.Ending.{ended_domain}
-use Rattle.cloak_model.specs.Halves.{is_inward, inward_half}
+use Rattle.cloak_model.specs.Halves.{inward_half}
 use Rattle.cloak_model.specs.Hart.{Hart}
-use Rattle.cloak_model.specs.Joint.{Moment, Turn, next_hart, hart_in, cloak_of, memory_of, outside_ended, after_outside, outside_step, domain_ended, after_domain_step, pages_for, interrupt_ended, after_interrupt, by_interrupt, by_running, inside_step, turn_of, domain_met, end_domain, ends_once, ends_resumed, ends_asked, answers_violation, joint_step}
+use Rattle.cloak_model.specs.Joint.{Moment, Turn, next_hart, hart_in, cloak_of, memory_of, outside_ended, after_outside, outside_step, domain_ended, after_domain_step, pages_for, after_interrupt, by_interrupt, by_running, inside_step, turn_of, domain_met, end_domain, ends_once, ends_resumed, ends_asked, answers_violation, joint_step}
 use Rattle.cloak_model.specs.KernelStep.{ticked}
 use Rattle.cloak_model.specs.Parts.{Joint}
 use Rattle.cloak_model.specs.Resuming.{resume}
 use Rattle.cloak_model.proofs.ResumeParts.{by_root, by_context, by_domain}
-use Rattle.cloak_model.specs.World.{World, MidStep, Cloaked, items_of}
+use Rattle.cloak_model.specs.World.{MidStep, Cloaked, items_of}
+use Rattle.cloak_model.specs.Resources.{resource_at}
+use Rattle.domain_isolation.proofs.InOrder.{get_set_same}
 use Rattle.kernel_isolation.proofs.Numbers.{AreFrom, number_at}
 use Rattle.resource_map.proofs.Lists.{get_or-replicate_none}
 use Rattle.latest_store.specs.Moves.{Move}
 use Rattle.latest_store.specs.Deeds.{context_moves, program_moves, step_moves}
 use Rattle.latest_store.proofs.Moved.{Agrees}
 use Rattle.latest_store.proofs.Heard.{Heard}
-use Rattle.context_law.specs.Inside.{Reached, reserved_by, stores_in, context_reached, program_reached, step_reached}
+use Rattle.latest_store.specs.Sums.{writes_in}
+use Rattle.context_law.specs.Inside.{page_of, Reached, reserved_by, context_reached, program_reached, step_reached}
 use Rattle.context_law.proofs.Marks.{mark_of, mark_at, NoMore}
 use Rattle.context_law.proofs.Others.{Misses, context_misses}
 use Rattle.context_law.proofs.StepMarks.{Origin, Stepping, step_stepping, interrupt_none, resume_none}
-use Rattle.latest_store.proofs.Turned.{timer_told, EndsSo, domain_ended_so, interrupt_ended_so, silent_none, timer_none}
+use Rattle.latest_store.proofs.Turned.{timer_told, domain_ended_so, interrupt_ended_so, silent_none, timer_none}
 
 -- Programs.
 
@@ -127,15 +126,24 @@ pub record Reserves (ctx : ℕ) (reached : Option Reached) (d k : ℕ) (word : P
   pub slot : slot_of ctx ≡ k
   pub by : reserved_by reached ≡ Some word
 
--- it stood before, in a word in which no move stores
-pub record Stands (domains : List Domain) (moves : List Move) (d k : ℕ) (word : PageWord) : Type 0 where
+-- a resource of a program is in use
+
+abbrev pub used_in : Option Domain → ℕ → Bool
+used_in None n = false
+used_in (Some d) n = is_some (resource_at d.control.resources n)
+
+abbrev pub UsedIn : List Domain → ℕ → ℕ → Type 0
+UsedIn domains d n = used_in (slice_get domains d) n ≡ true
+
+-- it stood before, in a word in which no move writes, if its resource is in use before and after
+pub record Stands (domains domains' : List Domain) (moves : List Move) (d k : ℕ) (word : PageWord) : Type 0 where
   pub was : marks_in domains d k ≡ Some word
-  pub unstored : Misses d word moves
+  pub unwritten : UsedIn domains d word.resource → UsedIn domains' d word.resource → Misses d word moves
 
 abbrev pub MarksBy : List Domain → ℕ → Option Reached → List Move → List Domain → Type 0
 MarksBy domains ctx reached moves domains' =
     (d k : ℕ) (word : PageWord) → word.at % 4 ≡ 0 → marks_in domains' d k ≡ Some word →
-    Reserves ctx reached d k word ⊎ Stands domains moves d k word
+    Reserves ctx reached d k word ⊎ Stands domains domains' moves d k word
 
 -- by the program that is there, and what it was told
 abbrev MarksTold : List Move → List Domain → ℕ → Option Domain → List Item → List Domain → Type 0
@@ -162,7 +170,7 @@ module _ (history : List Move) (j : Joint) (ctx : ℕ) (found : Domain)
     built : (made : Domain) (t : Turn) (answers : List Item) → inward_half (domain_of ctx) t.items ≡ answers →
         t.joint.domains ≡ slice_set j.domains (domain_of ctx) made →
         ((k : ℕ) (word : PageWord) → word.at % 4 ≡ 0 → mark_at made.control.contexts k ≡ Some word →
-        Origin (domain_of ctx) (slot_of ctx) found.control.contexts
+        Origin (slot_of ctx) found.control made.control.resources
         (context_reached (context_at found.control.contexts (slot_of ctx)) history found.control answers)
         (context_moves (context_at found.control.contexts (slot_of ctx)) history found.control answers) k word) →
         MarksTold history j.domains ctx (Some found) t.items t.joint.domains
@@ -171,7 +179,10 @@ module _ (history : List Move) (j : Joint) (ctx : ℕ) (found : Domain)
         let o = context_at found.control.contexts (slot_of ctx) in
         let reached : List Item → Option Reached = context_reached o history found.control in
         let moves : List Item → List Move = context_moves o history found.control in
-        subst (λ (l : List Item). Reserves ctx (reached l) d k word ⊎ Stands j.domains (moves l) d k word) (sym told)
+        subst (λ (l : List Domain). Reserves ctx (reached (inward_half (domain_of ctx) t.items)) d k word
+        ⊎ Stands j.domains l (moves (inward_half (domain_of ctx) t.items)) d k word) (sym domains)
+        (subst (λ (l : List Item). Reserves ctx (reached l) d k word
+        ⊎ Stands j.domains (slice_set j.domains (domain_of ctx) made) (moves l) d k word) (sym told)
         (elim (set_in j.domains (domain_of ctx) made d k word
         (ap (λ (l : List Domain). marks_in l d k) (sym domains) ∙ is)) [
           | inl here ↦
@@ -180,14 +191,22 @@ module _ (history : List Move) (j : Joint) (ctx : ℕ) (found : Domain)
                 | inr stood ↦ inr (record {
                   was = ap (λ (p : Option Domain). mark_in p k) (ap (slice_get j.domains) (sym here.0) ∙ there)
                       ∙ stood.0;
-                  unstored = subst (λ (n : ℕ). Misses n word (moves answers)) here.0 stood.1;
+                  unwritten = λ before later.
+                      subst (λ (n : ℕ). Misses n word (moves answers)) (own ∙ here.0)
+                      (stood.1
+                      (ap (λ (p : Option Domain). used_in p word.resource)
+                      (sym (ap (slice_get j.domains) (sym here.0) ∙ there)) ∙ before)
+                      (ap (λ (p : Option Domain). used_in p word.resource)
+                      (sym (ap (slice_get (slice_set j.domains (domain_of ctx) made)) (sym here.0)
+                      ∙ get_set_same j.domains (domain_of ctx) found made there)) ∙ later));
                 })
               ]
           | inr away ↦ inr (record {
             was = away.1;
-            unstored = context_misses d word found.control (λ same. away.0 (sym own ∙ same)) o history answers;
+            unwritten = λ before later.
+                context_misses d word found.control (λ same. away.0 (sym own ∙ same)) o history answers;
           })
-        ])
+        ]))
 
     -- it did nothing, and no reservation is new
     quiet : (made : Domain) (t : Turn) (answers : List Item) → inward_half (domain_of ctx) t.items ≡ answers →
@@ -197,7 +216,11 @@ module _ (history : List Move) (j : Joint) (ctx : ℕ) (found : Domain)
         MarksTold history j.domains ctx (Some found) t.items t.joint.domains
     quiet made t answers told domains none nothing =
         built made t answers told domains (λ k word aligned is.
-        inr (none k word is, ap (list_any (stores_in (domain_of ctx) word)) nothing))
+        inr (
+          none k word is,
+          (λ before later.
+              ap (list_any (writes_in (page_of found.control.number word) word.at)) nothing),
+        ))
 
 -- if nothing or the timer is told of, nothing is done
 
@@ -227,10 +250,7 @@ stepped_marks history j number h ctx found t there own steps =
     built history j ctx found there own t.answer.domain (domain_ended j' number h e t.world t.answer.went)
     steps.answers (ended.told ∙ subst (λ (n : ℕ). inward_half n (items_of t.world) ≡ steps.answers) own steps.told)
     ended.domains
-    (subst (λ (n : ℕ).
-    (k : ℕ) (word : PageWord) → word.at % 4 ≡ 0 → mark_at t.answer.domain.control.contexts k ≡ Some word →
-    Origin n (slot_of ctx) found.control.contexts (context_reached o history found.control steps.answers)
-    (context_moves o history found.control steps.answers) k word) own steps.marks)
+    steps.marks
 
 due_marks : (due : Bool) (history : List Move) (j : Joint) (number : ℕ) (h : Hart) (ctx : ℕ) (found : Domain) →
     slice_get j.domains (domain_of ctx) ≡ Some found → found.control.number ≡ domain_of ctx →
@@ -261,7 +281,8 @@ left_marks : (history : List Move) (domains : List Domain) (ctx : ℕ) (found : 
     domains
 left_marks history domains ctx found d k word aligned is = inr (record {
   was = is;
-  unstored = ap (list_any (stores_in d word)) (silent_program found history (slot_of ctx));
+  unwritten = λ before later.
+      ap (list_any (writes_in (page_of d word) word.at)) (silent_program found history (slot_of ctx));
 })
 
 running_marks : (runs : Bool) (history : List Move) (j : Joint) (number : ℕ) (h : Hart) (ctx : ℕ) (found : Domain) →
@@ -330,7 +351,8 @@ module _ (history : List Move) (domains : List Domain) (programs : AreFrom 0 dom
               | inl makes ↦ absurd (away.0 makes.domain)
               | inr stood ↦ inr (record {
                 was = stood.was;
-                unstored = other_misses history domains (domain_of ctx) (slot_of ctx) d word _ _ refl programs away.0;
+                unwritten = λ before later.
+                    other_misses history domains (domain_of ctx) (slot_of ctx) d word _ _ refl programs away.0;
               })
             ]
       ]

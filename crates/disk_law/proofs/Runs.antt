@@ -47,7 +47,7 @@ unfolding turns_from joint_after
 steps_keep n zero m orderly here = record { each = tt; last = here }
 steps_keep n (suc budget) m orderly here =
     let t : Turn = joint_step m in
-    let next = step_keeps m orderly.whole ∙ here in
+    let next = step_keeps m orderly.whole orderly.chained ∙ here in
     let rest = following n (stop_of t) (turns_from budget) (after_turn m t) next
     (steps_keep n budget (after_turn m t) (step_orderly m orderly) next) in
     record { each = (next, rest.each); last = rest.last }

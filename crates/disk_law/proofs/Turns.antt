@@ -4,7 +4,7 @@ use Rattle.cloak_base.specs.declared.causes.Violation.{Violation}
 use Rattle.cloak_model.specs.declared.context.ResumeFault.{ResumeFault}
 use Rattle.cloak_model.specs.declared.inside.Went.{Went}
 use Rattle.cloak_model.specs.declared.inside.Went.TheVariants as went
-use Rattle.cloak_model.specs.declared.item.Item.{Item}
+use Rattle.cloak_model.specs.Items.{Item}
 use Rattle.cloak_model.specs.declared.outcome.Kernel.{Kernel}
 use Rattle.cloak_model.specs.declared.outcome.Kernel.TheVariants.{Resume}
 use Rattle.cloak_model.specs.Ahead.{made_after, settle_touched, settled_step, with_shown}
@@ -21,7 +21,7 @@ use Rattle.cloak_model.proofs.ResumeParts.{by_context, by_domain, by_root}
 use Rattle.cloak_model.specs.World.{World, MidStep, items_of}
 use Rattle.settling_ahead.proofs.Laws.{shown_touched}
 use Rattle.reservation_law.proofs.Keeping.{AreWhole, whole_set}
-use Rattle.reservation_law.proofs.Sizes.{ArePages, touched_pages}
+use Rattle.reservation_law.proofs.Sizes.{ArePages, IsChained, touched_pages}
 use Rattle.disk_law.proofs.Plain.{kernel_step_keeps}
 
 -- A resuming leaves the disk.
@@ -63,26 +63,27 @@ shown_whole [] s pages whole = whole
 shown_whole (c ∷ ciphers) s pages whole =
     shown_whole ciphers (filled c.0 c.1 s) pages.1 (whole_set s.ram c.0 c.1 (λ there. pages.0) whole)
 
-settled_whole : (h : Hart) (disk : List ℕ) (m : CloakedMemory) → AreWhole m.ram →
+settled_whole : (h : Hart) (disk : List ℕ) (m : CloakedMemory) → AreWhole m.ram → IsChained m →
     AreWhole (seen_in (settle_touched h disk m).memory).ram
-settled_whole h disk m whole =
+settled_whole h disk m whole chained =
     subst (λ (s : Seen). AreWhole s.ram) (sym (shown_touched h disk m))
-    (shown_whole (settle_touched h disk m).ciphers (seen_in m) (touched_pages h disk m) whole)
+    (shown_whole (settle_touched h disk m).ciphers (seen_in m) (touched_pages h disk m chained) whole)
 
-settled_keeps : (h : Hart) (disk : List ℕ) (c : MidStep) → AreWhole c.memory.ram →
+settled_keeps : (h : Hart) (disk : List ℕ) (c : MidStep) → AreWhole c.memory.ram → IsChained c.memory →
     length (settled_step h disk c).answer.disk ≡ length disk
 unfolding settled_step made_after
-settled_keeps h disk c whole =
-    kernel_step_keeps h disk (seen_in (settle_touched h disk c.memory).memory) (settled_whole h disk c.memory whole)
+settled_keeps h disk c whole chained =
+    kernel_step_keeps h disk (seen_in (settle_touched h disk c.memory).memory)
+    (settled_whole h disk c.memory whole chained)
 
-outside_keeps : (j : Joint) (number : ℕ) (h : Hart) → AreWhole j.memory.ram →
+outside_keeps : (j : Joint) (number : ℕ) (h : Hart) → AreWhole j.memory.ram → IsChained j.memory →
     length (outside_step j number h).joint.disk ≡ length j.disk
 unfolding outside_step after_outside
-outside_keeps j number h whole =
+outside_keeps j number h whole chained =
     let told = settled_step h j.disk (cloak_outside j.memory h) in
     ap (λ (disk : List ℕ). length disk)
     (ended_leaves (after_kernel_step j number told) number (items_of told.world) told.answer.ending)
-    ∙ settled_keeps h j.disk (cloak_outside j.memory h) whole
+    ∙ settled_keeps h j.disk (cloak_outside j.memory h) whole chained
 
 -- A hart inside leaves it.
 
@@ -118,11 +119,11 @@ inside_leaves j number h ctx (Some was) = running_leaves _ j number h ctx was
 
 -- A step.
 
-turn_keeps : (j : Joint) (number : ℕ) (h : Hart) (inside : Option ℕ) → AreWhole j.memory.ram →
+turn_keeps : (j : Joint) (number : ℕ) (h : Hart) (inside : Option ℕ) → AreWhole j.memory.ram → IsChained j.memory →
     length (turn_of j number h inside).joint.disk ≡ length j.disk
 unfolding turn_of
-turn_keeps j number h None whole = outside_keeps j number h whole
-turn_keeps j number h (Some ctx) whole =
+turn_keeps j number h None whole chained = outside_keeps j number h whole chained
+turn_keeps j number h (Some ctx) whole chained =
     ap (λ (disk : List ℕ). length disk)
     (inside_leaves j number (ticked h) ctx (slice_get j.domains (domain_of ctx)))
 
@@ -157,9 +158,10 @@ answered_leaves inside None t = refl
 answered_leaves None (Some v) t = resumed_leaves _ (domain_met v) v t
 answered_leaves (Some ctx) (Some v) t = asked_leaves _ (domain_of ctx) v t
 
-pub step_keeps : (m : Moment) → AreWhole m.joint.memory.ram → length (joint_step m).joint.disk ≡ length m.joint.disk
+pub step_keeps : (m : Moment) → AreWhole m.joint.memory.ram → IsChained m.joint.memory →
+    length (joint_step m).joint.disk ≡ length m.joint.disk
 unfolding joint_step
-step_keeps m whole =
+step_keeps m whole chained =
     let h = hart_in m.joint (next_hart m) in
     ap (λ (disk : List ℕ). length disk) (answered_leaves h.inside _ (step_before_end m))
-    ∙ turn_keeps m.joint (next_hart m) h h.inside whole
+    ∙ turn_keeps m.joint (next_hart m) h h.inside whole chained

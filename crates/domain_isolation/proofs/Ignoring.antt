@@ -1,8 +1,8 @@
 -- A machine that runs a program alone ignores the items that are not in the program's half.
 use Rattle.std.proofs.Common.{◌≡◌, ℕ, Bool, true, false, cond, List, [], ◌∷◌, ◌++◌, None, refl, sym, ap, ◌∙◌}
 use Rattle.std.specs.Option.{is_some}
-use Rattle.cloak_model.specs.declared.item.Item.{Item}
-use Rattle.cloak_model.specs.declared.item.Item.TheVariants as item
+use Rattle.cloak_model.specs.Items.{Item}
+use Rattle.cloak_model.specs.Items as item
 use Rattle.cloak_model.specs.Halves.{is_inward, inward_half}
 use Rattle.cloak_model.specs.DomainAlone.{DomainAlone, domain_takes, take_domain_item, domain_taken, opened_with_part}
 use Rattle.domain_isolation.specs.Isolation.{InwardHalfSuffices}

@@ -9,8 +9,8 @@ use Rattle.cloak_base.specs.declared.names.PageId.{PageId}
 use Rattle.cloak_base.specs.declared.names.Start.{Start}
 use Rattle.cloak_model.specs.declared.image.Bundle.{Bundle}
 use Rattle.cloak_model.specs.declared.image.Program.{Program}
-use Rattle.cloak_model.specs.declared.item.Item.TheVariants.{Cipher}
-use Rattle.cloak_model.specs.Ledger.{Keys, vector_of}
+use Rattle.cloak_model.specs.Items.{Cipher}
+use Rattle.cloak_model.specs.Ledger.{Keys, next_vector}
 use Rattle.cloak_model.specs.Halves.{inward_half}
 use Rattle.cloak_model.specs.Beginning.{Beginning, Fresh, Stored}
 use Rattle.cloak_model.specs.Cloaking.{CloakedMemory, settle}
@@ -43,7 +43,7 @@ placed_with q f bytes (Some draw) m m' is = ap (λ (x : CloakedMemory). x.plain)
 pub placed : (q : PageId) (f : ℕ) (bytes : List ℕ) (m m' : CloakedMemory) → place q f bytes m ≡ Some m' →
     m'.plain ≡ with_page m.plain q bytes
 unfolding place
-placed q f bytes m m' is = placed_with q f bytes (vector_of m.ledger q) m m' is
+placed q f bytes m m' is = placed_with q f bytes (next_vector m.ledger) m m' is
 
 -- a value that a chain ends with has one before it
 pub record Before {A B : Type 0} (f : A → Option B) (o : Option A) (b : B) : Type 0 where

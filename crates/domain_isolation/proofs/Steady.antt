@@ -14,9 +14,9 @@ use Rattle.cloak_model.specs.declared.access.Access.{Access}
 use Rattle.cloak_model.specs.declared.access.Walked.{Walked}
 use Rattle.cloak_model.specs.declared.answer.Answer.{Answer}
 use Rattle.cloak_model.specs.declared.answer.Answer.TheVariants as told
-use Rattle.cloak_model.specs.declared.item.Item.{Item}
+use Rattle.cloak_model.specs.Items.{Item}
 use Rattle.cloak_model.specs.Events.{Event}
-use Rattle.cloak_model.specs.Ledger.{vector_of}
+use Rattle.cloak_model.specs.Ledger.{next_vector}
 use Rattle.cloak_model.specs.Halves.{is_inward, inward_half}
 use Rattle.cloak_model.specs.Cloaking.{CloakedMemory, settle, settle_owed, offer}
 use Rattle.cloak_model.specs.World.{World, Flat, Cloaked, Alone, plain_of, regime_of, items_of, violation_of, is_missed, noted, stored_at, settled, written, cipher_items}
@@ -40,7 +40,7 @@ settle_owed_plain f q None m = refl
 settle_owed_plain f q (Some draw) m = refl
 
 settles_plain : (plain : PageId → List ℕ) → SettlesKept (λ m. m.plain ≡ plain)
-settles_plain plain f q m is same = settle_owed_plain f q (vector_of m.ledger q) m ∙ same
+settles_plain plain f q m is same = settle_owed_plain f q (next_vector m.ledger) m ∙ same
 
 pub settle_plain : (f : ℕ) (m : CloakedMemory) → (settle f m).memory.plain ≡ m.plain
 settle_plain f m = settle_keeps (λ x. x.plain ≡ m.plain) (settles_plain m.plain) f m refl

@@ -27,8 +27,11 @@ abbrev pub told_bytes : Option (Owner × ℕ) → List ℕ
 told_bytes None = 0 ∷ []
 told_bytes (Some told) = owner_bytes told.0 ++ word told.1
 
+-- Slots, spaces and resources.
+abbrev pub parts_of : List (Option Context) → Resources → List ℕ
+parts_of contexts r =
+    flat_map slot_bytes contexts ++ (flat_map space_bytes r.spaces ++ flat_map resource_bytes r.held)
+
 -- The page of a program up to its zeros.
 abbrev pub state_of : List (Option Context) → Resources → List ℕ
-state_of contexts r =
-    (flat_map slot_bytes contexts ++ (flat_map space_bytes r.spaces ++ flat_map resource_bytes r.held))
-    ++ flat_map slot_mark_bytes contexts
+state_of contexts r = parts_of contexts r ++ flat_map slot_mark_bytes contexts

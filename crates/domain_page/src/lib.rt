@@ -18,4 +18,4 @@ mod writing;
 
 pub use program::ProgramParts;
 pub use reading::read_page;
-pub use writing::{hart_byte, phase_numbers, write_page};
+pub use writing::{hart_byte, phase_numbers, write_page, write_state};

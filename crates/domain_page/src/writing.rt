@@ -6,7 +6,7 @@ ghost use Rattle.cloak_model.specs.Contexts.{context_at};
 ghost use Rattle.cloak_model.specs.DomainState as spec;
 ghost use Rattle.cloak_model.specs.DomainState.{Control};
 ghost use Rattle.frozen_state.specs.DomainPage as page;
-ghost use Rattle.domain_page.specs.Writing.{Appends, HasHart, IsOnHart, told_bytes, state_of};
+ghost use Rattle.domain_page.specs.Writing.{Appends, HasHart, IsOnHart, told_bytes, state_of, parts_of};
 
 use cloak_base::HartId;
 use cloak_model::{Owner, PageWord, Phase, Region};
@@ -227,15 +227,33 @@ fn put_marks(into: &mut [u8; 4096], at: usize, slots: &[Option<Context>]) -> usi
     end
 }
 
+/// Writes slots, spaces and resources from the front on, and returns where they end.
+fn put_parts(into: &mut [u8; 4096], contexts: &Contexts, resources: &Resources) -> usize
+    requires { (slot : ℕ) → IsOnHart (context_at contexts.now slot) }
+    ensures written { Appends into.old into.new 0 result (parts_of contexts.now resources.now) }
+    ensures few { result ≤ 3376 }
+{
+    let slots = put_slots(into, 0, contexts.slots());
+    let spaces = put_spaces(into, slots, resources);
+    put_resources(into, spaces, resources)
+}
+
+/// Writes the state of a program as its line of the report has it, from the front on, and returns where it ends.
+pub fn write_state(contexts: &Contexts, resources: &Resources, into: &mut [u8; 4096]) -> usize
+    requires { (slot : ℕ) → IsOnHart (context_at contexts.now slot) }
+    ensures few { result ≤ 4096 }
+    ensures front { take result into.new ≡ parts_of contexts.now resources.now }
+{
+    put_parts(into, contexts, resources)
+}
+
 /// Writes the state from the front on, and returns where it ends.
 fn put_state(into: &mut [u8; 4096], contexts: &Contexts, resources: &Resources) -> usize
     requires { (slot : ℕ) → IsOnHart (context_at contexts.now slot) }
     ensures written { Appends into.old into.new 0 result (state_of contexts.now resources.now) }
     ensures few { result ≤ 3480 }
 {
-    let slots = put_slots(into, 0, contexts.slots());
-    let spaces = put_spaces(into, slots, resources);
-    let held = put_resources(into, spaces, resources);
+    let held = put_parts(into, contexts, resources);
     put_marks(into, held, contexts.slots())
 }
 

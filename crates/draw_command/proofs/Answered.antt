@@ -7,11 +7,9 @@ use Rattle.command_parts.specs.Outside.{FilesOutside, Outside, Output}
 use Rattle.command_parts.specs.Refusing.{Refuses}
 use Rattle.command_parts.specs.declared.refusal.Refusal.TheVariants as refusal
 use Rattle.command_parts.specs.declared.status.Status.{Status}
-use Rattle.read_back.specs.Answering.{viewed_unfit}
-use Rattle.read_back.specs.Reading.{IsReadTo, ReadsAs}
+use Rattle.read_back.specs.Reading.{ReadsAs}
 use Rattle.read_back.specs.declared.ending.Ending.{Ending}
 use Rattle.read_back.specs.declared.ending.Ending.TheVariants as ending
-use Rattle.svg_text.specs.Writing.{IsPicture}
 use Rattle.draw_command.specs.Drawing.{Concludes, DrawsBundle, MakesPicture, ShowsEnding, WritesAndShows, is_unread}
 use Rattle.draw_command.specs.Replaying.{ReadsRun}
 use Rattle.draw_command.specs.declared.command.Made.{Made}

@@ -1,3 +1,4 @@
+pub mod Doing
 pub mod Hearing
 pub mod Replaying
 pub mod Reading

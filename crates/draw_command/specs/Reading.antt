@@ -1,7 +1,7 @@
 -- What becomes of a run with the items of a record.
 use Rattle.std.specs.Prelude.{List, Result}
 use Rattle.cloak_model.specs.declared.image.KernelImage.{KernelImage}
-use Rattle.cloak_model.specs.declared.item.Item.{Item}
+use Rattle.cloak_model.specs.Items.{Item}
 use Rattle.cloak_model.specs.KernelAlone.{opened_kernel}
 use Rattle.alone_views.specs.KernelStanding.{StandsForKernel}
 use Rattle.alone_views.specs.declared.unfit.Unfit.{Unfit}

@@ -1,7 +1,7 @@
 -- A run that is made again: what is read of its record, with the kernel alone.
 use Rattle.std.specs.Prelude.{ℕ, ◌≡◌, List, Option, Some, Result}
 use Rattle.cloak_model.specs.declared.image.KernelImage.{KernelImage}
-use Rattle.cloak_model.specs.declared.item.Item.{Item}
+use Rattle.cloak_model.specs.Items.{Item}
 use Rattle.cloak_model.specs.KernelAlone as model
 use Rattle.alone_views.specs.KernelStanding.{StandsForKernel, answer_for}
 use Rattle.alone_views.specs.declared.kernel.KernelAlone.{KernelAlone}

@@ -13,9 +13,7 @@ impl Emit for Ear {
 
     ghost gave = { GaveEar };
 
-    fn item(&mut self, _: &Item) {}
-
-    fn cipher(&mut self, _: u32, _: &[u8; 4096]) {}
+    fn item(&mut self, _: &Item<'_>) {}
 
     fn console(&mut self, byte: u8) {
         self.byte = Some(byte);

@@ -1,5 +1,6 @@
 //! Where a program's question leads, by the tables of a hart.
-ghost use Rattle.std.specs.Prelude.{◌≤◌, length};
+ghost use Rattle.std.specs.Prelude.{◌≡◌, ◌≤◌, ◌<◌, length};
+ghost use Rattle.draw_command.specs.Doing as spec;
 
 use cloak_base::{Kind, Mode, frame_of, is_in_frames, place_of};
 use cloak_model::word_in;
@@ -15,7 +16,7 @@ struct SeenFrames<'f> {
 
 #[tactic(auto, unfolding(cloak_model::specs::Ask::ask_word))]
 impl<'f> WordMemory for SeenFrames<'f> {
-    ghost use Rattle.std.specs.Prelude.{◌≡◌, []};
+    ghost use Rattle.std.specs.Prelude.{[]};
     ghost use Rattle.cloak_model.specs.World.{Flat};
 
     ghost stands_for = { λ first side w. w ≡ Flat (record { ram = side.frames.now; marks = [] }) };
@@ -57,20 +58,26 @@ pub fn frame_led(frames: &[[u8; 4096]], hart: &Hart, address: u32, kind: Kind) -
     }
 }
 
-/// The bytes from a place of a frame on differ from those of a value.
-pub fn differs(bytes: &[u8; 4096], place: usize, width: u32, value: u32) -> bool {
-    let was = value.to_le_bytes();
-    for i in 0..4 {
-        if i < width as usize {
-            match (bytes.get(place.saturating_add(i)), was.get(i)) {
-                (Some(now), Some(before)) => {
-                    if *now != *before {
-                        return true;
-                    }
-                }
-                _ => {}
-            }
-        }
+/// The byte at a place of a frame, counted from another place, differs from that of a value.
+fn differs_at(bytes: &[u8; 4096], place: usize, value: u32, i: usize) -> bool
+    requires inside { place < 4096 }
+    requires byte { i < 4 }
+    ensures { result ≡ spec.differs_at bytes.now place value i }
+{
+    let was = value.to_le_bytes()[i];
+    match bytes.get(place + i) {
+        Some(now) => *now != was,
+        None => false,
     }
-    false
+}
+
+/// The bytes from a place of a frame on differ from those of a value.
+pub fn differs(bytes: &[u8; 4096], place: usize, width: u32, value: u32) -> bool
+    requires { place < 4096 }
+    ensures { result ≡ spec.differs bytes.now place width value }
+{
+    (0 < width && differs_at(bytes, place, value, 0))
+        || ((1 < width && differs_at(bytes, place, value, 1))
+            || ((2 < width && differs_at(bytes, place, value, 2))
+                || (3 < width && differs_at(bytes, place, value, 3))))
 }

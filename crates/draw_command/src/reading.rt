@@ -19,7 +19,7 @@ impl TakeItems for Run {
 
     ghost took = { TookInRun };
 
-    fn take_item(&mut self, item: &Item) -> Result<(), Unfit> {
+    fn take_item(&mut self, item: &Item<'_>) -> Result<(), Unfit> {
         self.take(item)
     }
 }

@@ -1,17 +1,22 @@
 //! A run as it is made again from the items of its record: the kernel alone, each program alone, and what is noted.
-ghost use Rattle.std.specs.Prelude.{◌≡◌, ℕ, List, IfOk};
+ghost use Rattle.cloak_model.specs.Items.{item_of};
+ghost use Rattle.std.specs.Prelude.{◌≡◌, ℕ, List, None, IfOk};
 ghost use Rattle.cloak_model.specs.Bundle.{IsInGrammar};
 ghost use Rattle.cloak_model.specs.KernelAlone as model;
 ghost use Rattle.cloak_model.specs.Record.{IsItem};
 ghost use Rattle.alone_views.specs.KernelStanding.{StandsForKernel};
+ghost use Rattle.cloak_model.specs.DomainAlone as domain;
+ghost use Rattle.alone_views.specs.DomainStanding.{StandsForDomain};
+ghost use Rattle.draw_command.specs.Doing as doing;
 ghost use Rattle.draw_command.specs.Replaying.{TakesOne};
 
 use crate::ear::Ear;
 use crate::frames::{differs, frame_led};
+use crate::spaces::Spaces;
 use alone_views::{AskedAccess, DomainAlone, KernelAlone, KernelStage, Unfit};
-use cloak_base::{NoMemory, frame_of, place_of};
+use cloak_base::{NoMemory, PageId, frame_of, place_of};
 use cloak_model::{Bundle, Item, Kernel};
-use run_notes::{Mark, MarkKind, Notes, Plan};
+use run_notes::{Found, Mark, MarkKind, Notes, Plan};
 use std::alloc::Global;
 use step_lines::{HartAhead, look_ahead};
 
@@ -34,6 +39,8 @@ pub struct Run {
 pub struct Side {
     programs: Vec<DomainAlone>,
     schedule: Vec<u8>,
+    /// The resources of each program that are files, a bit for each.
+    files: [u16; 4],
     pub notes: Notes,
     /// How many answers a program got in the step.
     answers: u32,
@@ -60,7 +67,7 @@ fn open_programs(alloc: Global, bundle: &Bundle) -> Result<Vec<DomainAlone>, NoM
 }
 
 /// What a kernel's step that an item ends is about to do.
-fn step_ahead(kernel: &KernelAlone, item: &Item) -> Option<StepAhead> {
+fn step_ahead(kernel: &KernelAlone, item: &Item<'_>) -> Option<StepAhead> {
     if !matches!(item, Item::Step { .. } | Item::Close { .. }) {
         return None;
     }
@@ -73,9 +80,95 @@ fn step_ahead(kernel: &KernelAlone, item: &Item) -> Option<StepAhead> {
     })
 }
 
+/// The pages of a program: 16 resources, of each 1,024.
+const PAGES: u32 = 16384;
+
+/// The page at a place among those of a program.
+fn page_of(number: usize, place: u32) -> PageId {
+    PageId {
+        domain: number.min(3) as u32,
+        resource: place / 1024,
+        page: place % 1024,
+    }
+}
+
 /// Who runs on a hart.
 fn inside_of(kernel: &KernelAlone, hart: usize) -> Option<u32> {
     kernel.harts().get(hart)?.inside
+}
+
+/// A frame that goes to the disk, or a block that comes into a frame.
+#[derive(Clone, Copy)]
+struct DiskMove {
+    frame: u32,
+    block: u32,
+    is_write: bool,
+}
+
+/// What a host call of this number moved, if it was answered so.
+fn move_of(number: u32, block: u32, address: u32, answer: u32) -> Option<DiskMove>
+    ensures { result ≡ doing.move_of number block address answer }
+{
+    let frame = frame_of(address).0;
+    if answer != 0 {
+        None
+    } else if number == READ_BLOCK {
+        Some(DiskMove {
+            frame,
+            block,
+            is_write: false,
+        })
+    } else if number == WRITE_BLOCK {
+        Some(DiskMove {
+            frame,
+            block,
+            is_write: true,
+        })
+    } else {
+        None
+    }
+}
+
+/// What a step moved with this word and these registers, which left this in x10.
+fn disk_move(word: Option<u32>, regs: &[u32; 32], answer: u32) -> Option<DiskMove>
+    ensures { result ≡ doing.disk_move word regs.now answer }
+{
+    match word {
+        None => None,
+        Some(word) => {
+            if word == ECALL {
+                move_of(regs[17], regs[10], regs[11], answer)
+            } else {
+                None
+            }
+        }
+    }
+}
+
+/// A slot of a program has no context.
+fn is_free(program: &DomainAlone, slot: u32) -> bool
+    ensures { (number : ℕ) (schedule : List ℕ) (s : domain.DomainAlone) →
+        StandsForDomain number schedule program.now s → s.unfit ≡ None →
+        result ≡ doing.is_free s.part.domain.control.contexts slot }
+{
+    match program.context(slot) {
+        None => true,
+        Some(_) => false,
+    }
+}
+
+/// A program has no context any more.
+fn is_over(program: &DomainAlone) -> bool
+    ensures { (number : ℕ) (schedule : List ℕ) (s : domain.DomainAlone) →
+        StandsForDomain number schedule program.now s → s.unfit ≡ None →
+        result ≡ doing.is_over s.part.domain.control.contexts }
+{
+    is_free(program, 0)
+        && (is_free(program, 1)
+            && (is_free(program, 2)
+                && (is_free(program, 3)
+                    && (is_free(program, 4)
+                        && (is_free(program, 5) && (is_free(program, 6) && is_free(program, 7)))))))
 }
 
 impl Side {
@@ -92,14 +185,113 @@ impl Side {
     }
 
     /// Gives an item to the programs.
-    fn give(&mut self, item: &Item) {
-        let mut number = 0;
-        for program in self.programs.iter_mut() {
-            if self.notes.is_fit(number) && program.take(item).is_err() {
-                self.notes.lose(number.min(3) as u32);
-            }
-            number = usize::saturating_add(number, 1);
+    fn give(&mut self, item: &Item<'_>) {
+        for number in 0..self.programs.len() {
+            self.give_one(number, item);
         }
+    }
+
+    /// Gives an item to a program.
+    fn give_one(&mut self, number: usize, item: &Item<'_>) {
+        if !self.notes.is_fit(number) {
+            return;
+        }
+        let Some(program) = self.programs.get_mut(number) else {
+            return;
+        };
+        let before = Spaces::of(program);
+        if program.take(item).is_err() {
+            self.notes.lose(number.min(3) as u32);
+            return;
+        }
+        let after = Spaces::of(program);
+        self.note_spaces(number, &before, &after);
+        self.note_file(number, &before);
+    }
+
+    /// Spaces began or ended: a fork copies the pages of the space that runs, and pages end with theirs.
+    fn note_spaces(&mut self, number: usize, before: &Spaces, after: &Spaces) {
+        for space in 0..8 {
+            if before.has(space) && !after.has(space) {
+                self.drop_pages(number, space);
+            }
+            if let Some(running) = before.running {
+                if after.has(space) && !before.has(space) {
+                    self.copy_pages(number, running.space, space);
+                }
+            }
+        }
+    }
+
+    /// The pages of a space were copied for another one.
+    fn copy_pages(&mut self, number: usize, from: u32, to: u32) {
+        let Some(program) = self.programs.get(number) else {
+            return;
+        };
+        for place in 0..PAGES {
+            let page = page_of(number, place);
+            let Some(found) = self.notes.found(page) else {
+                continue;
+            };
+            let address = found.address;
+            if program.space_page(from, address) != Some(page) {
+                continue;
+            }
+            if let Some(copy) = program.space_page(to, address) {
+                if copy != page {
+                    self.notes.copy(page, copy, Found { space: to, address });
+                }
+            }
+        }
+    }
+
+    /// The pages of a space are no more. Those of files stay.
+    fn drop_pages(&mut self, number: usize, space: u32) {
+        let files = match self.files.get(number) {
+            Some(files) => *files,
+            None => 0,
+        };
+        for place in 0..PAGES {
+            let page = page_of(number, place);
+            let is_file = files & u16::wrapping_shl(1, page.resource) != 0;
+            match self.notes.found(page) {
+                Some(found) if found.space == space && !is_file => self.notes.drop_page(page),
+                _ => {}
+            }
+        }
+    }
+
+    /// A program may have got a file as a resource.
+    fn note_file(&mut self, number: usize, before: &Spaces) {
+        let Some(running) = before.running else {
+            return;
+        };
+        let Some(program) = self.programs.get(number) else {
+            return;
+        };
+        if !running.asks_file || program.running().is_some() {
+            return;
+        }
+        let Some(c) = program.slot_context(running.slot) else {
+            return;
+        };
+        let resource = c.regs.get(10);
+        if let Some(files) = self.files.get_mut(number) {
+            if resource < 16 {
+                *files = *files | u16::wrapping_shl(1, resource);
+            }
+        }
+    }
+
+    /// Where an address lies for the program that runs on the hart of the step.
+    fn found_at(&self, kernel: &KernelAlone, address: u32) -> Option<Found> {
+        let ctx = inside_of(kernel, self.turn())?;
+        let program = self.programs.get((ctx / 8) as usize)?;
+        let c = program.slot_context(ctx % 8)?;
+        Some(Found {
+            space: c.space,
+            address,
+        })
     }
 
     /// What a step of the kernel reached in memory, if it was no trap.
@@ -118,19 +310,15 @@ impl Side {
         }
     }
 
-    /// A move to or from the disk that a step of the kernel made. A host call that was done answers 0.
+    /// A move to or from the disk that a step of the kernel made.
     fn note_disk_call(&mut self, kernel: &KernelAlone, made: &StepAhead) {
-        let regs = &made.ahead.sight.regs;
-        let (number, block, address) = (regs[17], regs[10], regs[11]);
-        if made.ahead.word != Some(ECALL) || (number != READ_BLOCK && number != WRITE_BLOCK) {
-            return;
-        }
         let Some(hart) = kernel.harts().get(made.hart) else {
             return;
         };
-        if hart.regs.get(10) == 0 {
-            let frame = frame_of(address).0;
-            self.notes.note_move(frame, block, number == WRITE_BLOCK);
+        let ahead = &made.ahead;
+        if let Some(moved) = disk_move(ahead.word, &ahead.sight.regs, hart.regs.get(10)) {
+            self.notes
+                .note_move(moved.frame, moved.block, moved.is_write);
         }
     }
 
@@ -194,6 +382,9 @@ impl Side {
             return;
         };
         if is_granted {
+            if let Some(found) = self.found_at(kernel, address) {
+                self.notes.find(page, found);
+            }
             self.notes.grant(page, frame, kind);
         } else {
             self.notes.note_stopped(frame, page);
@@ -202,15 +393,10 @@ impl Side {
 
     /// A program has no context any more.
     fn is_over(&self, domain: u32) -> bool {
-        let Some(program) = self.programs.get(domain as usize) else {
-            return false;
-        };
-        for slot in 0..8 {
-            if program.context(slot).is_some() {
-                return false;
-            }
+        match self.programs.get(domain as usize) {
+            Some(program) => is_over(program),
+            None => false,
         }
-        true
     }
 
     /// A context left.
@@ -233,7 +419,7 @@ impl Side {
     }
 
     /// What an item in a step says.
-    fn note_item(&mut self, kernel: &KernelAlone, item: &Item) {
+    fn note_item(&mut self, kernel: &KernelAlone, item: &Item<'_>) {
         match item {
             Item::Cipher { frame, bytes } => self.notes.note_cipher(*frame, bytes),
             Item::Put { address, .. } => {
@@ -266,7 +452,7 @@ impl Side {
     }
 
     /// What an item says, once the kernel took it.
-    fn note(&mut self, kernel: &KernelAlone, item: &Item, made: &Option<StepAhead>, ear: &Ear) {
+    fn note(&mut self, kernel: &KernelAlone, item: &Item<'_>, made: &Option<StepAhead>, ear: &Ear) {
         match item {
             Item::Step { number } => {
                 self.note_end(kernel, made, ear);
@@ -291,7 +477,7 @@ impl Side {
     fn note_taken(
         &mut self,
         kernel: &KernelAlone,
-        item: &Item,
+        item: &Item<'_>,
         made: &Option<StepAhead>,
         ear: &Ear,
         fits: bool,
@@ -317,6 +503,7 @@ impl Run {
         let side = Side {
             programs: open_programs(alloc, bundle)?,
             schedule: Vec::from_slice(alloc, bundle.kernel.schedule.as_slice())?,
+            files: [0; 4],
             notes,
             answers: 0,
         };
@@ -324,9 +511,9 @@ impl Run {
     }
 
     /// Takes the next item.
-    pub fn take(&mut self, item: &Item) -> Result<(), Unfit>
-        ensures { (turns : List ℕ) (s : model.KernelAlone) → IsItem item.now → StandsForKernel self.old.kernel turns s →
-            TakesOne self.new.kernel result turns (model.take_kernel_item turns s item.now) }
+    pub fn take(&mut self, item: &Item<'_>) -> Result<(), Unfit>
+        ensures { (turns : List ℕ) (s : model.KernelAlone) → IsItem (item_of item.now) → StandsForKernel self.old.kernel turns s →
+            TakesOne self.new.kernel result turns (model.take_kernel_item turns s (item_of item.now)) }
     {
         let made = step_ahead(&self.kernel, item);
         let mut ear = Ear { byte: None };

@@ -1,7 +1,7 @@
 -- The parts of program headers without a fault: they lie in the address space, and no two have an address in common.
-use Rattle.std.proofs.Common.{◌≡◌, ℕ, zero, suc, ◌+◌, ◌^◌, ◌<◌, ◌≤◌, Bool, true, false, cond, leb, ltb, not, List, []}
+use Rattle.std.proofs.Common.{◌≡◌, ℕ, zero, suc, ◌+◌, ◌^◌, ◌<◌, ◌≤◌, ◌==◌, ◌&&◌, Bool, true, false, cond, leb, ltb, not, List, []}
 use Rattle.std.proofs.Common.{◌∷◌, ◌++◌, length, get_or, Some, None, refl, sym}
-use Rattle.std.proofs.Common.{subst, ◌∙◌, inl, inr, length-append, add-one, arith, All, AllPairs}
+use Rattle.std.proofs.Common.{true≢false, subst, ◌∙◌, inl, inr, length-append, add-one, arith, All, AllPairs}
 use Rattle.std.specs.List.{list_any}
 use Rattle.std.proofs.lemmas.Bool.{leb-true, ltb-true, lt-ltb, cases_lt}
 use Rattle.std.proofs.lemmas.List.{append-nil, length-take}
@@ -11,7 +11,7 @@ use Rattle.std.proofs.lemmas.List.Quantifiers.{all_pairs_push}
 use Rattle.elf_image.specs.declared.fault.ElfFault.{ElfFault}
 use Rattle.elf_image.specs.declared.fault.ElfCause.TheVariants as cause
 use Rattle.elf_image.specs.Image.{Part, IsPart, IsIn, AreApart}
-use Rattle.elf_image.specs.Elf.{word, rule, header_at, is_loadable, part_at, overlap, part_fault}
+use Rattle.elf_image.specs.Elf.{word, rule, header_at, is_empty, is_loadable, part_at, overlap, part_fault}
 use Rattle.elf_image.specs.Elf.{loaded, load_fault, parts, parts_fault}
 use Rattle.elf_image.proofs.Rules.{first_of-none, rules-none, not-true}
 
@@ -53,10 +53,23 @@ pub record FitsAfter (before : List Part) (p : Part) : Type 0 where
   pub apart : list_any (overlap p) before ≡ false
   pub room : length before < 16
 
-fits_after : (file : List ℕ) (before : List Part) (at : ℕ) → part_fault file before at ≡ None →
-    FitsAfter before (part_at file at)
+-- what is not empty has bytes in memory, as it has no fewer there than in the file
+some_bytes : (count size : ℕ) → count ≤ size → (count == 0 && size == 0) ≡ false → 1 ≤ size
+some_bytes count zero le full =
+    let none : count ≡ zero = omega arith in
+    absurd (true≢false (subst (λ n. (n == 0 && 0 == 0) ≡ false) none full))
+some_bytes count (suc n) le full = omega arith
+
+-- a loadable part is not empty
+is_full : (load empty : Bool) → (load && not empty) ≡ true → empty ≡ false
+is_full true true e = cc
+is_full true false e = refl
+is_full false empty e = cc
+
+fits_after : (file : List ℕ) (before : List Part) (at : ℕ) → is_loadable file at ≡ true →
+    part_fault file before at ≡ None → FitsAfter before (part_at file at)
 unfolding part_fault
-fits_after file before at e =
+fits_after file before at loadable e =
     let from = word file (at + 4) in
     let address = word file (at + 8) in
     let count = word file (at + 16) in
@@ -74,6 +87,7 @@ fits_after file before at e =
     let few : count ≤ size = leb-true count size s2.0 in
     record {
       part = record {
+        some = some_bytes count size few (is_full (word file at == 1) (is_empty file at) loadable);
         bytes = rw length-take (omega arith);
         end = leb-true (address + size) (2 ^ 32) s3.0;
       };
@@ -105,16 +119,16 @@ push ps p fit after = record {
   apart = all_pairs_push AreApart ps p fit.apart (apart_at p ps after.apart);
 }
 
-chosen : (loadable : Bool) (file : List ℕ) (before : List Part) (at : ℕ) →
+chosen : (loadable : Bool) (file : List ℕ) (before : List Part) (at : ℕ) → is_loadable file at ≡ loadable →
     cond loadable (part_fault file before at) None ≡ None → Fit before →
     Fit (before ++ cond loadable (part_at file at ∷ []) [])
-chosen true file before at e fit = push before (part_at file at) fit (fits_after file before at e)
-chosen false file before at e fit = subst Fit (sym (append-nil before)) fit
+chosen true file before at is e fit = push before (part_at file at) fit (fits_after file before at is e)
+chosen false file before at is e fit = subst Fit (sym (append-nil before)) fit
 
 step : (file : List ℕ) (before : List Part) (at : ℕ) → load_fault file before at ≡ None → Fit before →
     Fit (before ++ loaded file at)
 unfolding load_fault loaded
-step file before at e fit = chosen (is_loadable file at) file before at e fit
+step file before at e fit = chosen (is_loadable file at) file before at refl e fit
 
 pub fits : (file : List ℕ) (n : ℕ) → parts_fault file n ≡ None → Fit (parts file n)
 unfolding parts parts_fault

@@ -3,7 +3,7 @@
 --
 -- The fields and their values: System V Application Binary Interface, edition 4.1 (1997), chapter 4, "ELF Header", and
 -- chapter 5, "Program Header". Those of e_machine and e_flags: RISC-V ELF psABI, version 1.0, "File Header".
-use Rattle.std.specs.Prelude.{ℕ, zero, suc, ◌+◌, ◌*◌, ◌^◌, ◌==◌, Bool, List, [], ◌∷◌, ◌++◌, length, take, drop}
+use Rattle.std.specs.Prelude.{ℕ, zero, suc, ◌+◌, ◌*◌, ◌^◌, ◌==◌, ◌&&◌, Bool, List, [], ◌∷◌, ◌++◌, length, take, drop}
 use Rattle.std.specs.Prelude.{slice_index, bit_and, not, min, max, Option, Some, None, nat_lt, nat_le, if◌then◌else◌}
 use Rattle.std.specs.Int.{w16, w32, from_le_bytes}
 use Rattle.std.specs.List.{list_any}
@@ -95,9 +95,13 @@ header_fault file = first (
 
 -- ---- the loadable parts
 
--- p_type is PT_LOAD
+-- p_filesz and p_memsz are 0: the program header is that of no part of memory, whatever else it says
+abbrev pub is_empty : List ℕ → ℕ → Bool
+is_empty file at = word file (at + 16) == 0 && word file (at + 20) == 0
+
+-- p_type is PT_LOAD, and there is something to load
 abbrev pub is_loadable : List ℕ → ℕ → Bool
-is_loadable file at = word file at == 1
+is_loadable file at = word file at == 1 && not (is_empty file at)
 
 -- p_vaddr, p_filesz bytes from p_offset on, p_memsz
 abbrev pub part_at : List ℕ → ℕ → Part

@@ -12,8 +12,9 @@ pub record Image : Type 0 where
   pub entry : ℕ
   pub parts : List Part
 
--- A part has no more bytes in the file than in memory, and lies in the address space.
+-- A part has bytes in memory, no more of them in the file, and lies in the address space.
 pub record IsPart (p : Part) : Type 0 where
+  pub some : 1 ≤ p.size
   pub bytes : length p.bytes ≤ p.size
   pub end : p.address + p.size ≤ 2 ^ 32
 

@@ -46,12 +46,20 @@ fn is_apart(part: &ElfPart, others: &[ElfPart]) -> bool
     !overlaps(part, others)
 }
 
-/// The program header at an offset is that of a loadable part.
+/// The program header at an offset is that of no bytes, neither in the file nor in memory.
+fn is_empty(file: &[u8], at: usize) -> bool
+    requires { at + 32 ≤ length file.now }
+    ensures { result ≡ elf.is_empty file.now at }
+{
+    word(file, at + 16) == 0 && word(file, at + 20) == 0
+}
+
+/// The program header at an offset is that of a loadable part, which is not empty.
 fn is_loadable(file: &[u8], at: usize) -> bool
-    requires { at + 4 ≤ length file.now }
+    requires { at + 32 ≤ length file.now }
     ensures { result ≡ elf.is_loadable file.now at }
 {
-    word(file, at) == 1
+    word(file, at) == 1 && !is_empty(file, at)
 }
 
 /// The loadable part of the program header at an offset, which comes after others.

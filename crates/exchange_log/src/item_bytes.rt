@@ -3,6 +3,8 @@ ghost use Rattle.std.specs.Prelude.{◌≡◌, ◌≤◌, ◌+◌, ◌*◌, ◌+
 ghost use Rattle.std.specs.List.{flat_map};
 ghost use Rattle.cloak_model.specs.Bits.{word};
 ghost use Rattle.cloak_model.specs.Exchange.{item_bytes};
+ghost use Rattle.cloak_model.specs.Items as item;
+ghost use Rattle.cloak_model.specs.Items.{item_of};
 
 use cloak_base::Shown;
 use cloak_model::Item;
@@ -32,9 +34,9 @@ fn write_front(into: &mut [u8; LONGEST], bytes: &[u8]) -> usize
 
 /// Writes the bytes of a Cipher, and returns how many they are.
 #[tactic(auto, unfolding(cloak_model::specs::Exchange::item_bytes))]
-pub fn write_cipher(frame: u32, bytes: &[u8; 4096], into: &mut [u8; LONGEST]) -> usize
+fn write_cipher(frame: u32, bytes: &[u8; 4096], into: &mut [u8; LONGEST]) -> usize
     ensures few { result ≤ LONGEST }
-    ensures front { take result into.new ≡ item_bytes (Item.Cipher frame bytes.now) }
+    ensures front { take result into.new ≡ item_bytes (item.Cipher frame bytes.now) }
 {
     let [a, b, c, d] = frame.to_le_bytes();
     let end = write_front(into, &[0x01, a, b, c, d]);
@@ -58,7 +60,7 @@ fn write_words(into: &mut [u8; LONGEST], at: usize, words: &[u32]) -> usize
 #[tactic(auto, unfolding(cloak_model::specs::Exchange::item_bytes))]
 fn write_leave(s: &Shown, into: &mut [u8; LONGEST]) -> usize
     ensures few { result ≤ LONGEST }
-    ensures front { take result into.new ≡ item_bytes (Item.Leave s.now) }
+    ensures front { take result into.new ≡ item_bytes (item.Leave s.now) }
 {
     let end = write_front(into, &[0x03]);
     let end = write_words(into, end, &[s.cause, s.stval, s.ctx, s.number]);
@@ -69,7 +71,7 @@ fn write_leave(s: &Shown, into: &mut [u8; LONGEST]) -> usize
 #[tactic(auto, unfolding(cloak_model::specs::Exchange::item_bytes))]
 #[inline(always)]
 pub fn step_bytes(number: u32) -> [u8; 5]
-    ensures { result ≡ item_bytes (Item.Step number) }
+    ensures { result ≡ item_bytes (item.Step number) }
 {
     let [a, b, c, d] = number.to_le_bytes();
     [0x10, a, b, c, d]
@@ -79,7 +81,7 @@ pub fn step_bytes(number: u32) -> [u8; 5]
 #[tactic(auto, unfolding(cloak_model::specs::Exchange::item_bytes))]
 #[inline(always)]
 pub fn ok_bytes(domain: u8) -> [u8; 2]
-    ensures { result ≡ item_bytes (Item.Ok domain) }
+    ensures { result ≡ item_bytes (item.Ok domain) }
 {
     [0x20, domain]
 }
@@ -88,7 +90,7 @@ pub fn ok_bytes(domain: u8) -> [u8; 2]
 #[tactic(auto, unfolding(cloak_model::specs::Exchange::item_bytes))]
 #[inline(always)]
 pub fn word_bytes(domain: u8, value: u32) -> [u8; 6]
-    ensures { result ≡ item_bytes (Item.Word domain value) }
+    ensures { result ≡ item_bytes (item.Word domain value) }
 {
     let [a, b, c, d] = value.to_le_bytes();
     [0x22, domain, a, b, c, d]
@@ -96,9 +98,9 @@ pub fn word_bytes(domain: u8, value: u32) -> [u8; 6]
 
 /// Writes the bytes of an item, and returns how many they are.
 #[tactic(auto, unfolding(cloak_model::specs::Exchange::item_bytes))]
-pub fn write_item(i: &Item, into: &mut [u8; LONGEST]) -> usize
+pub fn write_item(i: &Item<'_>, into: &mut [u8; LONGEST]) -> usize
     ensures few { result ≤ LONGEST }
-    ensures front { take result into.new ≡ item_bytes i.now }
+    ensures front { take result into.new ≡ item_bytes (item_of i.now) }
 {
     match i {
         Item::Cipher { frame, bytes } => write_cipher(*frame, bytes, into),

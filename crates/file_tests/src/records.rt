@@ -5,14 +5,14 @@ use cloak_base::Shown;
 use cloak_model::Item;
 use exchange_log::{LONGEST, write_item};
 use io_traits::{MemoryShelf, Shelf};
-use record_reader::{KeptItems, NextFault, Reader};
+use record_reader::{NextFault, Reader};
 use std::test::*;
 
 /// How many items are read, and what comes after them.
 fn read_on(shelf: &mut MemoryShelf, reader: &mut Reader<'_>) -> (usize, Result<(), NextFault>) {
-    let mut kept = KeptItems::new();
+    let mut room = [0; 4096];
     for count in 0..100 {
-        match reader.next(shelf, &mut kept) {
+        match reader.next(shelf, &mut room) {
             Ok(Some(_)) => {}
             Ok(None) => return (count, Ok(())),
             Err(fault) => return (count, Err(fault)),
@@ -22,7 +22,7 @@ fn read_on(shelf: &mut MemoryShelf, reader: &mut Reader<'_>) -> (usize, Result<(
 }
 
 /// One item of each kind, in the order of a record.
-fn items() -> [Item; 14] {
+fn items<'p>(first: &'p [u8; 4096], last: &'p [u8; 4096]) -> [Item<'p>; 14] {
     let shown = Shown {
         cause: 8,
         stval: 0,
@@ -33,7 +33,7 @@ fn items() -> [Item; 14] {
     [
         Item::Cipher {
             frame: 3,
-            bytes: [0xa5; 4096],
+            bytes: first,
         },
         Item::Step { number: 1 },
         Item::Put {
@@ -62,7 +62,7 @@ fn items() -> [Item; 14] {
         Item::Close { steps: 1 },
         Item::Cipher {
             frame: 4,
-            bytes: [0x5a; 4096],
+            bytes: last,
         },
         Item::End,
     ]
@@ -72,24 +72,25 @@ fn items() -> [Item; 14] {
 fn what_was_written_is_read(rt: HostRuntime) -> Result<(), Fail> {
     let mut shelf = MemoryShelf::open(rt.alloc(), Vec::new(rt.alloc()));
     shelf.add("r", b"CLOAKREC")?;
-    let items = items();
+    let (first, last) = ([0xa5; 4096], [0x5a; 4096]);
+    let items = items(&first, &last);
     let mut buffer = [0; LONGEST];
     for item in &items {
         let count = write_item(item, &mut buffer);
         shelf.append("r", &buffer[..count])?;
     }
     let mut reader = Reader::open("r");
-    let mut kept = KeptItems::new();
+    let mut room = [0; 4096];
     for item in &items {
-        match reader.next(&mut shelf, &mut kept) {
-            Ok(Some(tag)) => same(&rt, kept.item(tag), item, "an item"),
+        match reader.next(&mut shelf, &mut room) {
+            Ok(Some(read)) => same(&rt, &read, item, "an item"),
             _ => assert!(rt; false, "no item"),
         }
     }
     for _ in 0..2 {
         holds(
             &rt,
-            matches!(reader.next(&mut shelf, &mut kept), Ok(None)),
+            matches!(reader.next(&mut shelf, &mut room), Ok(None)),
             "behind the last item",
         );
     }

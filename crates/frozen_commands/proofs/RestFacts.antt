@@ -6,7 +6,7 @@ use Rattle.cloak_base.specs.declared.causes.Stop.TheVariants as stop
 use Rattle.cloak_machine.specs.declared.machine.Machine.{Machine}
 use Rattle.cloak_machine.specs.Standing.{StandsForMoment}
 use Rattle.cloak_model.specs.declared.image.Bundle.{Bundle}
-use Rattle.cloak_model.specs.declared.item.Item.TheVariants as item
+use Rattle.cloak_model.specs.Items as item
 use Rattle.cloak_model.specs.Exchange.{Piece, shown, item_pieces, Emits}
 use Rattle.cloak_model.specs.Joint.{Moment}
 use Rattle.cloak_model.specs.Parts.{Joint}

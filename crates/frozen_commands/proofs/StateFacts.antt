@@ -37,6 +37,7 @@ use Rattle.frozen_commands.specs.FreezeAnswering.{IsState}
 use Rattle.frozen_commands.specs.Freezing.{IsForSaving, is_stopped, last_joint}
 use Rattle.frozen_commands.specs.Saving.{LeavesState}
 use Rattle.record_law.specs.Steps.{moment_after}
+use Rattle.vector_law.proofs.States.{states_show_no_key}
 
 pub none_left : (stopped : Option Stop) → is_some stopped ≡ false → stopped ≡ None
 none_left None is = refl
@@ -73,15 +74,16 @@ pub is_state : {s : FreezeSources} {steps : ℕ} {r : Run} (f : Frozen) → Reac
     HasShape f → length f.recorded ≤ 65536 → frozen_of (last_joint r) steps s.vectors ≡ Some f → IsState s steps r f
 is_state {s} {steps} {r} f at none shape few is =
     let until = until_last at in
+    let before = subst (λ (j : Joint). frozen_of j steps s.vectors ≡ Some f) (sym until) is in
     let both = frozen_states_go_on s.bundle s.stream steps r at.grammar at.image_bytes at.stream_bytes at.runs steps at.few
-    (goes_on at) (subst (λ (j : Joint). j.memory.ledger.clashed ≡ false) (sym until) none) s.vectors f
-    (subst (λ (j : Joint). frozen_of j steps s.vectors ≡ Some f) (sym until) is) in
+    (goes_on at) (subst (λ (j : Joint). j.memory.ledger.clashed ≡ false) (sym until) none) s.vectors f before in
     record {
       is = is;
       shape = shape;
       few = few;
       in_range = both.0;
       can_go_on = subst (λ (j : Joint). CanGoOn s.bundle s.stream f j) until both.1;
+      no_key = states_show_no_key s.bundle s.stream steps r at.runs steps steps s.vectors f before;
     }
 
 not_missed : {s : FreezeSources} {steps : ℕ} {r : Run} → Reaches s steps r → (last_joint r).memory.ledger.missed ≡ false

@@ -28,6 +28,7 @@ use Rattle.cloak_model.specs.Run.{NoClash}
 use Rattle.run_command.proofs.BegunFacts.{AreLow, HasBegunRecord, at_pieces, fault_since, grows_from}
 use Rattle.frozen_commands.specs.ThawAnswering.{HasThawed, KeepsThawedFiles, ThawAnswers, Thaws}
 use Rattle.frozen_commands.specs.Thawing.{IsThawed, RecordsRest}
+use Rattle.frozen_commands.proofs.WholeFacts.{is_whole_run}
 use Rattle.frozen_commands.proofs.WrittenFacts.{begins_no_record, has_written, is_cut_off}
 
 -- A line that refuses.
@@ -80,6 +81,8 @@ thaws {S} {O} {names} {steps} {randomness} {machine} {before} after asks Becomes
   few = asks.is.few;
   passes = let t = asks.is.thaws in
       record { keys = t.keys; rest = t.rest; drawn = t.drawn; thawable = t.thawable };
+  whole = λ whole had. is_whole_run asks.is.asks.bundle.is.in_grammar asks.is.image_bytes asks.is.stream_bytes
+      asks.is.few had;
   becomes = becomes;
 }
 

@@ -26,16 +26,19 @@ use Rattle.frozen_commands.specs.Freezing.{PreparesFrozen, due_frozen, is_stoppe
 use Rattle.frozen_commands.specs.Saving.{lacking_line}
 use Rattle.frozen_commands.specs.Writing.{BeginsNoRecord, HasWritten, IsCutOff}
 use Rattle.command_parts.specs.Files.{TellsFront}
+use Rattle.vector_law.specs.Vectors.{ShowsNoKey}
 
 -- What becomes of a run.
 
 -- The state after its steps, under the vectors. It is in range, and its machine can go on: of it there is a run that goes on.
+-- None of the vectors that it shows is a key by its place.
 pub record IsState (s : FreezeSources) (steps : ℕ) (r : Run) (f : Frozen) : Type 0 where
   pub is : frozen_of (last_joint r) steps s.vectors ≡ Some f
   pub shape : HasShape f
   pub few : length f.recorded ≤ 65536
   pub in_range : IsInRange s.bundle.kernel (length s.bundle.programs) f
   pub can_go_on : CanGoOn s.bundle s.stream f (last_joint r)
+  pub no_key : ShowsNoKey s.bundle.programs s.stream s.vectors f
 
 -- No step stopped it. What is due of its first part was written, and the file of its state.
 pub record IsSaved {S O : Type 0} (names : spec.FreezeNames) (steps : ℕ) (s : FreezeSources) (r : Run)

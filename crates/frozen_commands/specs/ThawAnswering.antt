@@ -19,6 +19,7 @@ use Rattle.run_command.specs.Running.{IsStatusOfStop, run_status}
 use Rattle.cloak_model.specs.Run.{NoClash}
 use Rattle.cloak_machine.specs.declared.machine.Machine.{Machine}
 use Rattle.frozen_commands.specs.Thawing.{PreparesThawed}
+use Rattle.frozen_commands.specs.WholeRun.{OfEachWhole}
 use Rattle.frozen_commands.specs.Writing.{BeginsNoRecord, HasWritten, IsCutOff}
 
 -- What becomes of the rest of a run after this many steps.
@@ -42,7 +43,8 @@ pub record PassesTests (s : ThawSources) : Type 0 where
   pub drawn : keys_and_rest s.bundle s.state.draws s.stream ≡ Some (keys, rest)
   pub thawable : IsThawable keys s.state
 
--- The words ask for the rest of a run, from a state that passes every test.
+-- The words ask for the rest of a run, from a state that passes every test. Each whole run that had this state is lawful,
+-- and is its first steps and then this rest.
 pub record Thaws {S O : Type 0} (asked : spec.Asked) (before after : Outside S O)
     (Becomes : spec.ThawNames → ℕ → ThawSources → Type 0) : Type 0 where
   pub names : spec.ThawNames
@@ -53,6 +55,7 @@ pub record Thaws {S O : Type 0} (asked : spec.Asked) (before after : Outside S O
   pub asks : AsksThawed names randomness before.files.held sources
   pub few : sources.state.steps + steps ≤ most_steps
   pub passes : PassesTests sources
+  pub whole : OfEachWhole sources steps
   pub becomes : Becomes names steps sources
 
 -- Of each machine with this state that can go on, if no two different pages that are compared in its rest have one digest,

@@ -13,6 +13,7 @@ use Rattle.frozen_run.specs.Shapes.{HasShape}
 use Rattle.frozen_state.specs.declared.frozen.Frozen.{Frozen}
 use Rattle.frozen_state.specs.Continuing.{due_after}
 use Rattle.frozen_state.specs.Ranges.{IsFrozen, IsInRange}
+use Rattle.range_law.specs.Writing.{IsOfBytes, IsStreamOfBytes}
 use Rattle.joint_machine.specs.declared.thaw_fault.ThawFault.{ThawFault}
 use Rattle.joint_machine.specs.declared.thaw_fault.ThawFault.TheVariants as fault
 use Rattle.frozen_state.specs.declared.fault.FrozenFault.TheVariants.{Form}
@@ -50,7 +51,7 @@ refused_by (fault.Form at) = refusal.BadState (Form at)
 refused_by fault.NoMemory = refusal.NoMemory
 
 -- The words ask for the rest of a run from these sources, the machine is the one that goes on from the state, and not more
--- steps are asked for than a run may have.
+-- steps are asked for than a run may have. Image and stream are of bytes.
 pub record IsThawed (names : spec.ThawNames) (steps : ℕ) (randomness : spec.Randomness)
     (held : List ℕ → Option (List ℕ)) (machine : Machine) : Type 0 where
   pub sources : ThawSources
@@ -58,6 +59,8 @@ pub record IsThawed (names : spec.ThawNames) (steps : ℕ) (randomness : spec.Ra
   pub few : sources.state.steps + steps ≤ most_steps
   pub thaws : ThawsMachine sources.bundle sources.stream sources.state machine
   pub steps_are : steps_made machine ≡ sources.state.steps
+  pub image_bytes : IsOfBytes sources.bundle
+  pub stream_bytes : IsStreamOfBytes sources.stream
 
 -- a run that can go on, or why there is none; the files were at most read
 abbrev pub PreparesThawed : {S : Type 0} → spec.ThawNames → ℕ → spec.Randomness → FilesOutside S → FilesOutside S →

@@ -11,7 +11,7 @@ use command_parts::{Refusal, read_bundle_with_bytes};
 use command_words::{ThawRequest, UsageFault};
 use frozen_state::FrozenFault;
 use io_traits::Shelf;
-use run_command::open_stream;
+use run_command::{image_is_of_bytes, open_stream};
 use std::alloc::Global;
 
 /// The most steps of a run.
@@ -64,6 +64,7 @@ pub(crate) fn prepare_thawed<S: Shelf>(
     if state.steps > MOST_STEPS - thaw.steps {
         return Err(Refusal::Usage(UsageFault::WrongNumber));
     }
+    image_is_of_bytes(&bundle);
     match Machine::thaw(alloc, &bundle, stream, state) {
         Ok(machine) => Ok(machine),
         Err(fault) => Err(refusal_of(fault)),

@@ -6,7 +6,7 @@ use Rattle.cloak_base.specs.declared.names.PageId.{PageId}
 use Rattle.cloak_model.specs.declared.image.Bundle.{Bundle}
 use Rattle.cloak_model.specs.Beginning.{Beginning}
 use Rattle.cloak_model.specs.Cloaking.{CloakedMemory, settle_owed, settle, settle_frame_if}
-use Rattle.cloak_model.specs.Ledger.{Keys, vector_of}
+use Rattle.cloak_model.specs.Ledger.{Keys, next_vector}
 use Rattle.cloak_model.specs.Opening.{started_ledger, started_memory}
 use Rattle.cloak_model.specs.PageMoves.{copy_pages, drop_pages, place_with}
 use Rattle.cloak_model.specs.Parts.{Joint}
@@ -29,7 +29,7 @@ owed_count n f q None m here = length-set m.ledger.owed f None ∙ here
 owed_count n f q (Some draw) m here = length-set m.ledger.owed f None ∙ here
 
 settles_count : (n : ℕ) → SettlesKept (HasCount n)
-settles_count n f q m is here = owed_count n f q (vector_of m.ledger q) m here
+settles_count n f q m is here = owed_count n f q (next_vector m.ledger) m here
 
 pub settle_count : (n f : ℕ) (m : CloakedMemory) → HasCount n m → HasCount n (settle f m).memory
 settle_count n f m here = settle_keeps (HasCount n) (settles_count n) f m here

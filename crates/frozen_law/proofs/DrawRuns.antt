@@ -11,7 +11,7 @@ use Rattle.cloak_model.specs.Beginning.{Beginning, opening_from}
 use Rattle.cloak_model.specs.Bundle.{IsProgramIn, IsInGrammar}
 use Rattle.cloak_model.specs.Cloaking.{CloakedMemory}
 use Rattle.cloak_model.specs.Joint.{Moment, Turn, joint_step, after_turn, stop_of}
-use Rattle.cloak_model.specs.Ledger.{Keys, vector_of}
+use Rattle.cloak_model.specs.Ledger.{Keys, next_vector}
 use Rattle.cloak_model.specs.Opening.{RunEdge, started_joint, started_ledger, started_memory, place_pages, place_programs}
 use Rattle.cloak_model.specs.PageMoves.{place, place_with}
 use Rattle.cloak_model.specs.Parts.{Joint}
@@ -98,7 +98,7 @@ place_one n q f bytes (Some draw) m few =
 placed_few : (n : ℕ) (q : PageId) (f : ℕ) (bytes : List ℕ) (m : CloakedMemory) → AreFew n m →
     IfSome (place q f bytes m) (AreFew (n + 1))
 unfolding place
-placed_few n q f bytes m few = place_one n q f bytes (vector_of m.ledger q) m few
+placed_few n q f bytes m few = place_one n q f bytes (next_vector m.ledger) m few
 
 wide_some : (a b : ℕ) (o : Option CloakedMemory) → a ≤ b → IfSome o (AreFew a) → IfSome o (AreFew b)
 wide_some a b None low few = tt

@@ -11,7 +11,7 @@ use Rattle.cloak_model.specs.DomainStep.{domain_step}
 use Rattle.cloak_model.specs.Ending.{ask_end}
 use Rattle.cloak_model.specs.Fork.{marked, copies, copy_each}
 use Rattle.cloak_model.specs.Hypercalls.{Hypercall, hypercall}
-use Rattle.cloak_model.specs.Ledger.{vector_of}
+use Rattle.cloak_model.specs.Ledger.{next_vector}
 use Rattle.cloak_model.specs.PageMoves.{copy_pages, drop_pages}
 use Rattle.cloak_model.specs.World.{World, Cloaked}
 use Rattle.cloak_model.specs.Script.{played}
@@ -62,7 +62,7 @@ owed_few n f q (Some draw) m is few =
     omega (arith, gone, most, few)
 
 settles_few : (n : ℕ) → SettlesKept (AreFew n)
-settles_few n f q m is few = owed_few n f q (vector_of m.ledger q) m is few
+settles_few n f q m is few = owed_few n f q (next_vector m.ledger) m is few
 
 pub settle_few : (n f : ℕ) (m : CloakedMemory) → AreFew n m → AreFew n (settle f m).memory
 settle_few n f m few = settle_keeps (AreFew n) (settles_few n) f m few

@@ -17,7 +17,7 @@ use Rattle.cloak_model.specs.Bundle.{IsInGrammar}
 use Rattle.cloak_model.specs.Cloaking.{CloakedMemory}
 use Rattle.cloak_model.specs.DomainState.{Domain, started_control, started_domain, with_resources}
 use Rattle.cloak_model.specs.Files.{holds_file, file_found, file_resource}
-use Rattle.cloak_model.specs.Ledger.{Keys, vector_of}
+use Rattle.cloak_model.specs.Ledger.{Keys, next_vector}
 use Rattle.cloak_model.specs.Opening.{RunEdge, started_joint, started_ledger, started_memory, started_domains, place_pages, place_programs}
 use Rattle.cloak_model.specs.PageMoves.{place, place_with}
 use Rattle.cloak_model.specs.Parts.{Joint}
@@ -66,7 +66,7 @@ and_then_kind P f (Some m) later of = later m of
 placed_kind : (P : PageId → Type 0) (q : PageId) (f : ℕ) (bytes : List ℕ) (m : CloakedMemory) → P q → PagesAreOf P m →
     IfSome (place q f bytes m) (PagesAreOf P)
 unfolding place
-placed_kind P q f bytes m own of = place_of_kind P q f bytes (vector_of m.ledger q) m own of
+placed_kind P q f bytes m own of = place_of_kind P q f bytes (next_vector m.ledger) m own of
 
 pages_kind : (P : PageId → Type 0) (d : ℕ) (p : Program) (n : ℕ) (m : CloakedMemory) →
     ((page : ℕ) → page < n → P (record { domain = d; resource = 0; page = page })) → PagesAreOf P m →

@@ -22,6 +22,8 @@ pub mod HeldEnds
 pub mod HeldRuns
 pub mod HeldOpened
 pub mod Streams
+pub mod Vectors
+pub mod LeftTables
 pub mod Sizes
 pub mod Violations
 pub mod Pages
@@ -29,3 +31,4 @@ pub mod Fit
 pub mod FrozenParts
 pub mod FrozenPages
 pub mod Frozen
+pub mod Left

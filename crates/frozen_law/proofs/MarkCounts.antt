@@ -5,7 +5,7 @@ use Rattle.cloak_base.specs.Pages.{zero_page}
 use Rattle.cloak_base.specs.Random.{Random}
 use Rattle.cloak_base.specs.declared.names.PageId.{PageId}
 use Rattle.cloak_model.specs.declared.image.Bundle.{Bundle}
-use Rattle.cloak_model.specs.declared.item.Item.{Item}
+use Rattle.cloak_model.specs.Items.{Item}
 use Rattle.cloak_model.specs.AskPages.{ask_copy, ask_forget}
 use Rattle.cloak_model.specs.Beginning.{Beginning}
 use Rattle.cloak_model.specs.Cloaking.{CloakedMemory, seen_in, ciphertext_of, settle_owed, settle}
@@ -14,7 +14,7 @@ use Rattle.cloak_model.specs.Ending.{ask_end, cloak_for}
 use Rattle.cloak_model.specs.Events.{Event}
 use Rattle.cloak_model.specs.Joint.{memory_of}
 use Rattle.cloak_model.specs.KernelStep.{kernel_step}
-use Rattle.cloak_model.specs.Ledger.{Keys, vector_of}
+use Rattle.cloak_model.specs.Ledger.{Keys, next_vector}
 use Rattle.cloak_model.specs.Memory.{Seen, stored, filled, with_mark}
 use Rattle.cloak_model.specs.Opening.{started_kernel, started_memory}
 use Rattle.cloak_model.specs.PageMoves.{copy_pages, drop_pages, place_with}
@@ -48,7 +48,7 @@ owed_count n f q (Some draw) m here =
     filled_count n f (ciphertext_of m.ledger q draw.0 (m.plain q)) (seen_in m) here
 
 settles_count : (n : ℕ) → SettlesKept (HasMarks n)
-settles_count n f q m is here = owed_count n f q (vector_of m.ledger q) m here
+settles_count n f q m is here = owed_count n f q (next_vector m.ledger) m here
 
 settle_count : (n f : ℕ) (m : CloakedMemory) → HasMarks n m → HasMarks n (settle f m).memory
 settle_count n f m here = settle_keeps (HasMarks n) (settles_count n) f m here

@@ -7,7 +7,7 @@ use Rattle.cloak_base.specs.Random.{Random}
 use Rattle.cloak_base.specs.declared.names.PageId.{PageId}
 use Rattle.cloak_base.proofs.Pages.{is_of-here}
 use Rattle.cloak_model.specs.Cloaking.{CloakedMemory, settle_owed, settle, offer}
-use Rattle.cloak_model.specs.Ledger.{vector_of}
+use Rattle.cloak_model.specs.Ledger.{next_vector}
 use Rattle.cloak_model.proofs.Offering.{SettlesKept, settle_keeps, OfferKeeps, offer_keeps}
 use Rattle.cloak_model.specs.PageMoves.{copy_pages, drop_pages}
 use Rattle.chain_law.proofs.ZeroWorlds.{NoneOwedOf}
@@ -53,7 +53,7 @@ module _ (P : PageId → Type 0) where
 
   settles_kind : SettlesKept (PagesAreOf P)
   settles_kind f q m is of =
-      owed_of f q (vector_of m.ledger q) m (subst (λ (o : Option PageId). IfSome o P) is (of.owed f)) of
+      owed_of f q (next_vector m.ledger) m (subst (λ (o : Option PageId). IfSome o P) is (of.owed f)) of
 
   pub settle_of : (f : ℕ) (m : CloakedMemory) → PagesAreOf P m → PagesAreOf P (settle f m).memory
   settle_of f m of = settle_keeps (PagesAreOf P) settles_kind f m of

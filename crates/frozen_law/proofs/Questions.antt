@@ -8,7 +8,7 @@ use Rattle.cloak_base.specs.declared.names.Kind.{Kind}
 use Rattle.cloak_base.specs.declared.names.PageId.{PageId}
 use Rattle.cloak_model.specs.declared.access.Walked.{Walked}
 use Rattle.cloak_model.specs.declared.answer.Answer.{Answer}
-use Rattle.cloak_model.specs.declared.item.Item.{Item}
+use Rattle.cloak_model.specs.Items.{Item}
 use Rattle.cloak_model.specs.Asking.{Told, Asking}
 use Rattle.cloak_model.specs.AskPages.{is_store, replies, if_drawn, ask_led_inside, offered_by, offer_events, ask_offer, reached, reach_by_table, put_at, ask_reach, ask_get, ask_put, ask_clear}
 use Rattle.cloak_model.specs.Cloaking.{offer}

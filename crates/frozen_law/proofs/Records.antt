@@ -8,10 +8,10 @@ use Rattle.cloak_base.specs.Pages.{same_page, is_of, page_in, zero_page}
 use Rattle.cloak_base.specs.Random.{Random}
 use Rattle.cloak_base.specs.declared.names.PageId.{PageId}
 use Rattle.cloak_base.proofs.Pages.{same_page_tells, is_of_tells}
-use Rattle.cloak_model.specs.Chain.{cbc}
-use Rattle.cloak_model.specs.Cloaking.{CloakedMemory, AfterSettling, AfterOffer, owed_in, settle_owed, settle, settle_frame_if, owing_frame, owes, with_owed, with_comparison, taken, compared, unless_missed, offer}
-use Rattle.cloak_model.specs.Ledger.{key_of, vector_of}
+use Rattle.cloak_model.specs.Cloaking.{CloakedMemory, AfterSettling, AfterOffer, ciphertext_of, owed_in, settle_owed, settle, settle_frame_if, owing_frame, owes, with_owed, with_comparison, taken, compared, unless_missed, offer}
+use Rattle.cloak_model.specs.Ledger.{key_of, next_vector}
 use Rattle.cloak_model.specs.PageMoves.{with_newest, copy_pages, drop_pages}
+use Rattle.cloak_model.specs.Sealing.{Sealing, sealed_by}
 use Rattle.domain_isolation.proofs.InOrder.{decided}
 use Rattle.chain_law.proofs.ZeroWorlds.{NoneOwedOf}
 use Rattle.frozen_law.specs.Records.{IsUnowed, RecordsTell}
@@ -22,19 +22,20 @@ use Rattle.cloak_model.proofs.Owing.{owes_page}
 use Rattle.std.proofs.lemmas.Option.{same_Some}
 
 -- What is recorded by a test.
-pub told_by : (t : Bool) (key : List ℕ) (there here : Option (List ℕ)) (iv old : Option (List ℕ)) (now c v : List ℕ) →
-    (t ≡ true → there ≡ Some c → iv ≡ Some v → c ≡ cbc key v now) →
-    (t ≡ false → here ≡ Some c → old ≡ Some v → c ≡ cbc key v now) →
-    cond t there here ≡ Some c → cond t iv old ≡ Some v → c ≡ cbc key v now
-told_by true key there here iv old now c v first second = first refl
-told_by false key there here iv old now c v first second = second refl
+pub told_by : (t : Bool) (s : Sealing) (key : List ℕ) (there here : Option (List ℕ)) (iv old : Option (List ℕ)) (now c v : List ℕ) →
+    (t ≡ true → there ≡ Some c → iv ≡ Some v → c ≡ sealed_by s key v now) →
+    (t ≡ false → here ≡ Some c → old ≡ Some v → c ≡ sealed_by s key v now) →
+    cond t there here ≡ Some c → cond t iv old ≡ Some v → c ≡ sealed_by s key v now
+told_by true s key there here iv old now c v first second = first refl
+told_by false s key there here iv old now c v first second = second refl
 
 -- a ciphertext that was just made
-pub made_so : (key bytes iv c v : List ℕ) → Some (cbc key iv bytes) ≡ Some c → Some iv ≡ Some v → c ≡ cbc key v bytes
-made_so key bytes iv c v made under =
-    let is : cbc key iv bytes ≡ c = cc in
-    let same : iv ≡ v = cc in
-    sym is ∙ ap (λ (x : List ℕ). cbc key x bytes) same
+pub made_so : (s : Sealing) (key bytes iv c v : List ℕ) → Some (sealed_by s key iv bytes) ≡ Some c → Some iv ≡ Some v →
+    c ≡ sealed_by s key v bytes
+made_so s key bytes iv c v made under =
+    let is : sealed_by s key iv bytes ≡ c = same_Some (sealed_by s key iv bytes) c made in
+    let same : iv ≡ v = same_Some iv v under in
+    sym is ∙ ap (λ (x : List ℕ). sealed_by s key x bytes) same
 
 -- of one page
 pub page_tells : (p q : PageId) → same_page p q ≡ true → q ≡ p
@@ -68,17 +69,17 @@ unfolding settle_owed
 owed_tell f p None m owed tell = λ drawn. absurd (false≢true (sym drawn))
 owed_tell f p (Some draw) m owed tell =
     λ drawn q c iv unowed recorded vector.
-    told_by (same_page q p) (key_of m.ledger q) _ (m.ledger.recorded q) _ (m.ledger.iv q) (m.plain q) c iv
+    told_by (same_page q p) m.ledger.keys.seal (key_of m.ledger q) _ (m.ledger.recorded q) _ (m.ledger.iv q) (m.plain q) c iv
     (λ is made under.
     let same = page_tells q p is in
-    made_so (key_of m.ledger q) (m.plain q) draw.0 c iv
-    (subst (λ (x : PageId). Some (cbc (key_of m.ledger x) draw.0 (m.plain x)) ≡ Some c) same made) under)
+    made_so m.ledger.keys.seal (key_of m.ledger q) (m.plain q) draw.0 c iv
+    (subst (λ (x : PageId). Some (ciphertext_of m.ledger x draw.0 (m.plain x)) ≡ Some c) same made) under)
     (λ is before under.
     tell drawn q c iv (was_unowed f p q m owed (other_page q p is) unowed) before under)
     recorded vector
 
 settles_tell : SettlesKept RecordsTell
-settles_tell f p m owed tell = owed_tell f p (vector_of m.ledger p) m owed tell
+settles_tell f p m owed tell = owed_tell f p (next_vector m.ledger) m owed tell
 
 pub settle_tell : (f : ℕ) (m : CloakedMemory) → RecordsTell m → RecordsTell (settle f m).memory
 settle_tell f m tell = settle_keeps RecordsTell settles_tell f m tell
@@ -163,7 +164,7 @@ newest_tell q bytes m owed tell drawn p c iv unowed recorded vector =
       | inl same ↦ absurd (apart same.1)
       | inr differs ↦
           tell drawn p c iv unowed recorded vector
-          ∙ ap (λ (t : Bool). cbc (key_of m.ledger p) iv (cond t bytes (m.plain p))) (sym differs.0)
+          ∙ ap (λ (t : Bool). sealed_by m.ledger.keys.seal (key_of m.ledger p) iv (cond t bytes (m.plain p))) (sym differs.0)
     ]
 
 of_tells : (domain resource : ℕ) (q : PageId) → is_of domain resource q ≡ true → q.domain ≡ domain
@@ -181,14 +182,14 @@ pub copy_tell : (domain from to : ℕ) (m : CloakedMemory) → NoneOwedOf domain
 unfolding copy_pages
 copy_tell domain from to m none tell drawn q c iv unowed recorded vector =
     let t = is_of domain to q in
-    told_by t (key_of m.ledger q) (m.ledger.recorded (page_in from q)) (m.ledger.recorded q)
+    told_by t m.ledger.keys.seal (key_of m.ledger q) (m.ledger.recorded (page_in from q)) (m.ledger.recorded q)
     (m.ledger.iv (page_in from q)) (m.ledger.iv q) (plain_by t (m.plain (page_in from q)) (m.plain q)) c iv
     (λ is there under.
     tell drawn (page_in from q) c iv (none (page_in from q) (of_tells domain to q is) refl) there under
-    ∙ ap (λ (b : Bool). cbc (key_of m.ledger q) iv (plain_by b (m.plain (page_in from q)) (m.plain q))) (sym is))
+    ∙ ap (λ (b : Bool). sealed_by m.ledger.keys.seal (key_of m.ledger q) iv (plain_by b (m.plain (page_in from q)) (m.plain q))) (sym is))
     (λ is here under.
     tell drawn q c iv unowed here under
-    ∙ ap (λ (b : Bool). cbc (key_of m.ledger q) iv (plain_by b (m.plain (page_in from q)) (m.plain q))) (sym is))
+    ∙ ap (λ (b : Bool). sealed_by m.ledger.keys.seal (key_of m.ledger q) iv (plain_by b (m.plain (page_in from q)) (m.plain q))) (sym is))
     recorded vector
 
 none_list : (c : List ℕ) → None ≡ Some c → ⊥
@@ -198,9 +199,9 @@ pub drop_tell : (domain resource : ℕ) (m : CloakedMemory) → RecordsTell m �
 unfolding drop_pages
 drop_tell domain resource m tell drawn q c iv unowed recorded vector =
     let t = is_of domain resource q in
-    told_by t (key_of m.ledger q) None (m.ledger.recorded q) None (m.ledger.iv q) (plain_by t zero_page (m.plain q)) c iv
+    told_by t m.ledger.keys.seal (key_of m.ledger q) None (m.ledger.recorded q) None (m.ledger.iv q) (plain_by t zero_page (m.plain q)) c iv
     (λ is there under. absurd (none_list c there))
     (λ is here under.
     tell drawn q c iv unowed here under
-    ∙ ap (λ (b : Bool). cbc (key_of m.ledger q) iv (plain_by b zero_page (m.plain q))) (sym is))
+    ∙ ap (λ (b : Bool). sealed_by m.ledger.keys.seal (key_of m.ledger q) iv (plain_by b zero_page (m.plain q))) (sym is))
     recorded vector

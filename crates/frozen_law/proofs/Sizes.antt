@@ -55,7 +55,7 @@ step_counted : (b : Bundle) (m : Moment) → Counted b m.joint → Counted b (jo
 step_counted b m here = record {
   orderly = step_orderly m here.orderly;
   harts = (step_does m here.orderly).count ∙ here.harts;
-  disk = step_keeps m here.orderly.whole ∙ here.disk;
+  disk = step_keeps m here.orderly.whole here.orderly.chained ∙ here.disk;
   programs = step_count (length b.programs) m here.programs;
 }
 

@@ -10,7 +10,7 @@ use Rattle.cloak_model.specs.declared.image.Bundle.{Bundle}
 use Rattle.cloak_model.specs.Beginning.{Beginning, Fresh, Stored, stored_keys, opening_from}
 use Rattle.cloak_model.specs.Cloaking.{CloakedMemory, settle_owed}
 use Rattle.cloak_model.specs.Joint.{Moment, joint_step}
-use Rattle.cloak_model.specs.Ledger.{Keys, vector_of}
+use Rattle.cloak_model.specs.Ledger.{Keys, next_vector}
 use Rattle.cloak_model.specs.Opening.{RunEdge, drawn_keys, key_count, keys_for, started_joint, started_ledger, started_memory}
 use Rattle.cloak_model.specs.PageMoves.{copy_pages, drop_pages, place, place_with}
 use Rattle.cloak_model.specs.Parts.{Joint}
@@ -22,7 +22,7 @@ use Rattle.cloak_model.proofs.Offering.{SettlesKept, settle_keeps, OfferKeeps, o
 use Rattle.limit_law.proofs.Memories.{each_carries, step_carries}
 use Rattle.limit_law.proofs.Moments.{at_every_moment}
 use Rattle.limit_law.proofs.Worlds.{EachKeeps}
-use Rattle.frozen_law.specs.Streams.{HasDrawn, HasDrawnFrom, RunsKeepStreams}
+use Rattle.frozen_law.specs.Streams.{HasDrawn, HasDrawnFrom, HasKeysFrom, RunsKeepKeys, RunsKeepStreams}
 use Rattle.frozen_law.proofs.DrawRuns.{draws_are_below}
 use Rattle.limit_law.proofs.Openings.{programs_placed}
 
@@ -81,7 +81,7 @@ module _ (keys : Keys) (rest : Random) where
   }
 
   settles_follow : SettlesKept Fits
-  settles_follow f q m is here = owed_follows f q (vector_of m.ledger q) m refl here
+  settles_follow f q m is here = owed_follows f q (next_vector m.ledger) m refl here
 
   as_before : (m n : CloakedMemory) → n.ledger.keys ≡ m.ledger.keys → n.ledger.draws ≡ m.ledger.draws →
       n.ledger.stream ≡ m.ledger.stream → Fits m → Fits n
@@ -130,7 +130,7 @@ module _ (keys : Keys) (rest : Random) where
 
   place_follows : (q : PageId) (f : ℕ) (bytes : List ℕ) (m : CloakedMemory) → Fits m → IfSome (place q f bytes m) Fits
   unfolding place
-  place_follows q f bytes m here = place_by q f bytes (vector_of m.ledger q) m refl here
+  place_follows q f bytes m here = place_by q f bytes (next_vector m.ledger) m refl here
 
   started_follows : (b : Bundle) → Fits (started_memory b.kernel keys rest)
   unfolding started_memory started_ledger skipped
@@ -210,5 +210,16 @@ pub runs_keep_streams : RunsKeepStreams
 runs_keep_streams b from budget r grammar is n few =
     let j : Joint = joint_until n r in
     drawn_from b from j.memory (draws_are_below b from budget r grammar is n few)
+    (at_every_moment (Keeps b from) b from budget r (opened_keeps b from) (λ m same here. step_keeps_streams b from m here)
+    is n).follows
+
+keys_from : (b : Bundle) (from : Beginning) (m : CloakedMemory) → FollowsFrom b from m → HasKeysFrom b from m.ledger
+keys_from b (Fresh stream) m here =
+    some_wide _ _ (drawn_keys (key_count b.programs) stream) (λ drawn there. there.held) here
+keys_from b (Stored keys stream files) m here = here.held
+
+pub runs_keep_keys : RunsKeepKeys
+runs_keep_keys b from budget r is n =
+    keys_from b from (joint_until n r).memory
     (at_every_moment (Keeps b from) b from budget r (opened_keeps b from) (λ m same here. step_keeps_streams b from m here)
     is n).follows

@@ -9,3 +9,4 @@ pub mod Violations
 pub mod Pages
 pub mod Fit
 pub mod Frozen
+pub mod Left

@@ -27,3 +27,16 @@ abbrev pub RunsKeepStreams : Type 0
 RunsKeepStreams =
     (b : Bundle) (from : Beginning) (budget : ℕ) (r : Run) → IsInGrammar b → run_from b from budget ≡ Ok r → (n : ℕ) →
     n ≤ most_steps → HasDrawnFrom b from (joint_until n r).memory.ledger
+
+-- The keys alone.
+
+abbrev pub HasKeysFrom : Bundle → Beginning → Ledger → Type 0
+HasKeysFrom b (Fresh stream) l =
+    IsSomeAnd (drawn_keys (key_count b.programs) stream) (λ drawn. l.keys ≡ keys_for b.programs drawn.0)
+HasKeysFrom b (Stored keys stream files) l = l.keys ≡ stored_keys b keys
+
+-- The law, of every moment of each run, also of an image that no file spells, and however many steps it has.
+abbrev pub RunsKeepKeys : Type 0
+RunsKeepKeys =
+    (b : Bundle) (from : Beginning) (budget : ℕ) (r : Run) → run_from b from budget ≡ Ok r → (n : ℕ) →
+    HasKeysFrom b from (joint_until n r).memory.ledger

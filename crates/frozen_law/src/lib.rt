@@ -6,7 +6,8 @@
 //! a draw is made once. The stream that is left is the beginning's without these draws. If no draw was missing, as in
 //! a run that goes on, a recorded ciphertext is that of its page's newest bytes. Each page that is owed or recorded,
 //! and each that is named by what ended its program, is one that this program can have. All these together: the state
-//! with which a fresh run is frozen is in range, and its machine can go on.
+//! with which a fresh run is frozen is in range, and its machine can go on. And what a run leaves of its cloaked files is
+//! such of which a table can tell, and sealed under the keys with which it began: so the next run can go on from it.
 //!
 //! No body changes a law, so there is no wrong body to refuse here. These changed definitions were tried on a copy,
 //! and with none of them did the proof of its law go through. Of harts: sstatus keeps no SUM; program counters are
@@ -30,11 +31,12 @@ ghost use Rattle.frozen_law.specs.Fit.{RunsFitPages};
 ghost use Rattle.frozen_law.specs.Frozen.{FrozenStatesGoOn};
 ghost use Rattle.frozen_law.specs.Harts.{HartsAreInRange, MarksAreInRam};
 ghost use Rattle.frozen_law.specs.Held.{RunsHoldPages};
+ghost use Rattle.frozen_law.specs.Left.{RunsEndWithKeys, RunsLeaveContents, VectorsAreBlocks};
 ghost use Rattle.frozen_law.specs.Missed.{NothingIsMissed, OnlyLastStops};
 ghost use Rattle.frozen_law.specs.Pages.{PagesAreWhole};
 ghost use Rattle.frozen_law.specs.Records.{RecordsTellPages};
 ghost use Rattle.frozen_law.specs.Sizes.{RunsKeepSizes};
-ghost use Rattle.frozen_law.specs.Streams.{RunsKeepStreams};
+ghost use Rattle.frozen_law.specs.Streams.{RunsKeepKeys, RunsKeepStreams};
 ghost use Rattle.frozen_law.specs.Violations.{EndsAreInRange};
 
 /// A state with which a run is frozen is in range, and its machine can go on. It does nothing: its contract is the law.
@@ -66,7 +68,8 @@ pub fn law_of_sizes()
 /// A run's keys are those of its beginning, and its stream is what is left after the draws that were made. It does
 /// nothing: its contract is the law.
 pub fn law_of_streams()
-    ensures { RunsKeepStreams }
+    ensures streams { RunsKeepStreams }
+    ensures keys { RunsKeepKeys }
 {}
 
 /// While a run goes on, no draw was missing. It does nothing: its contract is the law.
@@ -94,6 +97,14 @@ pub fn law_of_fit_pages()
 /// nothing: its contract is the law.
 pub fn law_of_pages()
     ensures { RunsHoldPages }
+{}
+
+/// What the files of a run hold as it is closed can be told by a table, and is sealed under the keys with which the run
+/// began, unless a draw was missing. It does nothing: its contract is the law.
+pub fn law_of_left_files()
+    ensures vectors { VectorsAreBlocks }
+    ensures contents { RunsLeaveContents }
+    ensures keys { RunsEndWithKeys }
 {}
 
 /// What ended a program names, if it names a page, one that this program can have, and a frame of RAM. It does nothing:

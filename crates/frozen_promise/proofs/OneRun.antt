@@ -6,6 +6,7 @@ use Rattle.sha2.specs.Sha256.{sha256}
 use Rattle.cloak_base.specs.Random.{Random}
 use Rattle.cloak_base.specs.declared.causes.Stop.{Stop}
 use Rattle.cloak_model.specs.declared.image.Bundle.{Bundle}
+use Rattle.cloak_model.specs.Beginning.{Fresh}
 use Rattle.cloak_model.specs.Cloaking.{CloakedMemory}
 use Rattle.cloak_model.specs.Exchange.{recorded_bytes, shown_bytes}
 use Rattle.cloak_model.specs.Joint.{Moment, Turn}
@@ -14,15 +15,17 @@ use Rattle.cloak_model.specs.Parts.{Joint}
 use Rattle.cloak_model.specs.Run.{Run, first_moment, joint_after, joint_run, last_stop, run_of, turns_from}
 use Rattle.frozen_commands.specs.FreezeAnswering.{IfNoneClashed, IsSaved}
 use Rattle.frozen_commands.specs.ThawAnswering.{IsWrittenAfter, OfEachRest}
+use Rattle.frozen_commands.specs.WholeRun.{OfEachWhole, joint_between}
 use Rattle.frozen_state.specs.declared.frozen.Frozen.{Frozen}
-use Rattle.frozen_state.specs.Continuing.{due_after, first_pieces, first_turns, pieces_after, report_after, run_on}
+use Rattle.frozen_state.specs.Continuing.{IsFrozenAfter, due_after, first_pieces, first_turns, pieces_after, report_after, run_on}
 use Rattle.frozen_state.specs.FrozenState.{frozen_bytes}
 use Rattle.frozen_state.specs.Ranges.{IsInRange}
 use Rattle.frozen_state.specs.Thawing.{CanGoOn}
-use Rattle.io_traits.specs.Told.{Grows}
+use Rattle.io_traits.specs.Told.{Grows, Tells}
 use Rattle.command_parts.specs.Freezing.{AsksFrozen}
 use Rattle.command_parts.specs.Thawing.{AsksThawed, SpellsState, ThawSources}
 use Rattle.command_parts.proofs.StreamFacts.{same_stream}
+use Rattle.run_command.specs.Answering.{IsLawful}
 use Rattle.run_command.specs.Running.{status_of}
 use Rattle.cloak_model.specs.Run.{NoClash, NoClashYet}
 use Rattle.run_command.proofs.ClashFacts.{run_unclashed, turns_unclashed}
@@ -79,6 +82,24 @@ each_at t b stream f n k Becomes bundle from state steps each j on none =
     subst (λ (m : ℕ). Becomes m (run_on b n j k)) number
     (subst (Becomes t.state.steps) same (each j on_here (subst NoClash (sym same) none)))
 
+-- and of the whole run
+lawful_at : (t : ThawSources) (b : Bundle) (stream : Random) (f : Frozen) (n k : ℕ) (r : Run) → t.bundle ≡ b →
+    t.stream ≡ stream → t.state ≡ f → f.steps ≡ n → OfEachWhole t k → joint_run b stream (n + k) ≡ Ok r →
+    IsFrozenAfter b r.opened n → CanGoOn b stream f (joint_between b n r) → IsLawful b (Fresh stream) r
+lawful_at t b stream f n k r bundle from state steps each joint reached on =
+    let number : t.state.steps ≡ n = ap (λ (g : Frozen). g.steps) state ∙ steps in
+    let whole = each r (record {
+      joint = (λ i. joint_run (bundle i) (from i) (number i + k)) ∙ joint;
+      reached = subst (λ (c : Bundle). IsFrozenAfter c r.opened t.state.steps) (sym bundle)
+          (subst (λ (m : ℕ). IsFrozenAfter b r.opened m) (sym number) reached);
+      state = subst (λ (c : Bundle). CanGoOn c t.stream t.state (joint_between c t.state.steps r)) (sym bundle)
+          (subst (λ (x : Random). CanGoOn b x t.state (joint_between b t.state.steps r)) (sym from)
+          (subst (λ (g : Frozen). CanGoOn b stream g (joint_between b t.state.steps r)) (sym state)
+          (subst (λ (m : ℕ). CanGoOn b stream f (joint_between b m r)) (sym number) on)));
+    }) in
+    subst (λ (c : Bundle). IsLawful c (Fresh stream) r) bundle
+    (subst (λ (x : Random). IsLawful t.bundle (Fresh x) r) from whole.lawful)
+
 shown_rest : (n : ℕ) (r : Run) → shown_bytes (due_after n r) ≡ shown_bytes (pieces_after n r) ++ report_after n r
 unfolding due_after
 shown_rest n r = shown-last (pieces_after n r) (report_after n r)
@@ -110,8 +131,9 @@ parts_are_one_run S O w version b stream before mid later after given share ran 
     let f = saved.state in
     let y = ran.thawed.thaws in
     let second = as_thaw (λ names m from. AsksThawed names from later.files.held y.sources
-    × OfEachRest y.sources m (λ x. IsWrittenAfter y.sources.state.steps x names.record_name given later after)) w.thaw
-    y.names k y.steps w.rest_randomness y.randomness y.thaw (y.asks, y.becomes.0) in
+    × (OfEachRest y.sources m (λ x. IsWrittenAfter y.sources.state.steps x names.record_name given later after)
+    × OfEachWhole y.sources m)) w.thaw y.names k y.steps w.rest_randomness y.randomness y.thaw
+    (y.asks, (y.becomes.0, y.whole)) in
     let other = one_image share.rest_image share.is_image second.0.bundle in
     let from_other : y.sources.stream ≡ stream =
     same_stream later.files.held w.rest_randomness stream y.sources.stream share.rest_stream second.0.stream in
@@ -133,20 +155,26 @@ parts_are_one_run S O w version b stream before mid later after given share ran 
     subst (λ (m : CloakedMemory). m.ledger.clashed ≡ false) parts.joint.memory whole_none in
     let written = each_at y.sources b stream f n k
     (λ m x. IsWrittenAfter m x w.thaw.record_name given later after) other.1 from_other same_state
-    (steps_in j n z.sources.vectors f saved.is_state.is) second.1 j on rest_none in
-    subst (λ (x : Run). IsOneRun w before mid later after given x) (sym opens.1.1) (record {
-      first_record = recorded_bytes (first_pieces o (first_turns b o n));
-      rest_record = recorded_bytes (due_after n rest);
+    (steps_in j n z.sources.vectors f saved.is_state.is) second.1.0 j on rest_none in
+    let reached = none_left _ saved.reached in
+    subst (λ (x : Run). IsOneRun w share.image b stream before mid later after given x) (sym opens.1.1) (record {
+      lawful = lawful_at y.sources b stream f n k (run_of b (n + k) o) other.1 from_other same_state
+          (steps_in j n z.sources.vectors f saved.is_state.is) second.1.1 (runs ∙ ap Ok opens.1.1) reached on;
+      between = record {
+        reached = reached;
+        state = f;
+        file = subst (λ (l : List ℕ). Tells (mid.files.held w.freeze.state_name) (frozen_bytes f (sha256 l))) image.0
+            saved.file;
+        can_go_on = on;
+      };
       first_file = saved.written.file;
       rest_file = written.written.file;
       records = sym parts.file;
-      first_shown = shown_bytes (first_pieces o (first_turns b o n));
-      rest_shown = shown_bytes (pieces_after n rest);
-      rest = rest;
       first_output = saved.written.output;
       rest_output = subst (λ (text : List ℕ). Grows later.output.taken after.output.taken text) (shown_rest n rest)
           written.written.output;
       shown = sym parts.output;
+      report = parts.report;
       reports = parts.lines;
       status = written.status ∙ (λ i. status_of (sym parts.stop i) (sym parts.refused i));
     })

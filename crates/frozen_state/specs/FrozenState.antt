@@ -202,10 +202,6 @@ body_bytes f bundle =
 unfoldable pub frozen_bytes : Frozen → List ℕ → List ℕ
 frozen_bytes f bundle = let body = body_bytes f bundle in body ++ sha256 body
 
--- the offset of the page of domain d in the file: magic and header have 60 bytes, and the page ends the domain
-abbrev pub domain_page_at : Frozen → ℕ → ℕ
-domain_page_at f d = 60 + length (flat_map domain_bytes (take (d + 1) f.domains)) - 4096
-
 -- The file of a machine's state after this many steps, of an image with these bytes, under these vectors.
 unfoldable pub frozen : Joint → ℕ → List ℕ → Random → Option (List ℕ)
 frozen j steps bundle ivs = option_map (λ (f : Frozen). frozen_bytes f (sha256 bundle)) (frozen_of j steps ivs)

@@ -17,7 +17,8 @@ pub struct Hart {
     pub pc: u32,
     /// The steps until the timer interrupt is pending, 0 if it is not set.
     pub timer: u32,
-    /// The context that it runs.
+    /// The context that it is inside. After its program forked, ended or was resumed elsewhere it may be one that no
+    /// longer runs.
     pub inside: Option<u32>,
     /// Its number, from 0 on.
     pub id: u32,

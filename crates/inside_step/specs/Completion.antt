@@ -2,7 +2,7 @@
 use Rattle.cloak_model.specs.declared.inside.Ran.{Ran}
 use Rattle.cloak_model.specs.declared.inside.Ran.TheVariants.{Stay, Loaded, Trap, Ecall, Stopped}
 
--- the instruction is not completed: it raised a cause, is an ecall, or the run stops
+-- the instruction is not completed: it raised a cause, is an ecall, or a question of it was answered `Stopped`
 abbrev pub IsLeftOpen : Ran → Type 0
 IsLeftOpen Stay = ⊥
 IsLeftOpen (Loaded address value) = ⊥

@@ -10,7 +10,7 @@ use Rattle.cloak_base.specs.Random.{Random, next_draw}
 use Rattle.cloak_base.specs.declared.names.Meta.{Meta}
 use Rattle.cloak_base.specs.declared.names.PageId.{PageId}
 use Rattle.cloak_model.specs.Chain.{cbc}
-use Rattle.cloak_model.specs.Cloaking.{CloakedMemory, owed_in}
+use Rattle.cloak_model.specs.Cloaking.{CloakedMemory, ciphertext_of, owed_in}
 use Rattle.cloak_model.specs.Ledger.{Keys, key_in}
 use Rattle.cloak_model.specs.Opening.{numbers_below}
 use Rattle.protect_meta.specs.Table.{MetaRow, domains_of, meta_at}
@@ -35,6 +35,7 @@ use Rattle.cloak_pager.specs.Relation.{StandsForMemory, FrameStands, PageStands,
 use Rattle.cloak_pager.specs.Turns.{StaysBut, left_by}
 use Rattle.cloak_pager.specs.Freezing.{FreezesFrame}
 use Rattle.cloak_model.specs.Cloaking.{AfterSettling}
+use Rattle.cloak_model.specs.Sealing.{Sealing, Chained, sealed_by}
 use Rattle.cloak_pager.specs.Asking.{FollowsCall, FollowsCallFrom, after_touch, shown_by}
 use Rattle.cloak_pager.specs.declared.frame_right.FrameRight.{FrameRight}
 use Rattle.cloak_pager.specs.declared.frame_right.FrameRight.TheVariants.{Outside, Clean, Changed, Spent}
@@ -42,7 +43,7 @@ use Rattle.cloak_pager.specs.declared.touching.Touched.{Touched}
 use Rattle.cloak_pager.proofs.Pages.{same_or_not}
 use Rattle.cloak_pager.proofs.Stands.{owed_by_right}
 use Rattle.cloak_pager.proofs.Touches.{after_settling}
-use Rattle.joint_machine.specs.Freezing.{AreOwedOrOutside, HasRoom, TellsDomain, TellsDomains, TellsFrame, TellsFrames, newest_in, page_known, pages_known}
+use Rattle.joint_machine.specs.Freezing.{AreOwedOrOutside, HasRoom, TellsDomain, TellsDomains, TellsFrame, TellsFrames, TellsKeys, newest_in, page_known, pages_known}
 use Rattle.frozen_state.specs.declared.room.FrozenRoom.{FrozenRoom}
 use Rattle.joint_machine.specs.Standing.{AreDomains, LendsPager, StandsForJoint}
 use Rattle.joint_machine.specs.declared.joint.Joint.{Joint}
@@ -170,7 +171,7 @@ told_bytes p wiped m f Spent stands settled kept = absurd stands
 pub tells_frames : (p : PagerState) (m : CloakedMemory) → LendsPager p m → m.ledger.missed ≡ false → AreOwedOrOutside p →
     TellsFrames p m
 tells_frames p m lends drawn settled = record {
-  keys = lends.stands.keys;
+  keys = record { keys = lends.stands.keys; chained = lends.stands.chained };
   count = lends.stands.count;
   each = λ f low. record {
     owed = owed_by_right p lends.wiped m lends.stands f;
@@ -215,25 +216,35 @@ frozen_told p p' f q iv told froze owed =
     froze.told_is ∙ ap (λ (o : PageId). meta_for iv (cbc (key_in p.keys o) iv (bytes_in p f))) same
 
 pub frame_drawn : (p p' : PagerState) (m : CloakedMemory) (f : ℕ) (q : PageId) (ivs left : Random) (iv bytes : List ℕ)
-    (told : Meta) → TellsFrame p m f → m.ledger.keys ≡ p.keys → owed_at p f ≡ Some q → next_draw ivs ≡ Some (iv, left) →
+    (told : Meta) → TellsFrame p m f → TellsKeys p m → owed_at p f ≡ Some q → next_draw ivs ≡ Some (iv, left) →
     FreezesFrame p p' f iv told → f < length p.frames → bytes ≡ bytes_in p' f →
     frame_under m (slice_index_or m.ram f []) (owed_in m f) ivs
     ≡ Some (frame_owing q bytes told, left)
 unfolding owed_under
 frame_drawn p p' m f q ivs left iv bytes told tells keys owed drawn froze low read =
     let plain : bytes_in p f ≡ m.plain q = tells.bytes ∙ ap (newest_in m f) (tells.owed ∙ owed) in
-    let cipher : cbc (key_in p.keys q) iv (bytes_in p f) ≡ cbc (key_in m.ledger.keys q) iv (m.plain q) =
-    ap (λ (k : Keys). cbc (key_in k q) iv (bytes_in p f)) (sym keys)
-    ∙ ap (λ (b : List ℕ). cbc (key_in m.ledger.keys q) iv b) plain in
-    let shown : bytes ≡ cbc (key_in m.ledger.keys q) iv (m.plain q) =
+    let sealed : cbc (key_in m.ledger.keys q) iv (m.plain q) ≡ ciphertext_of m.ledger q iv (m.plain q) =
+    ap (λ (s : Sealing). sealed_by s (key_in m.ledger.keys q) iv (m.plain q))
+    (sym (ap (λ (k : Keys). k.seal) keys.keys ∙ keys.chained)) in
+    let cipher : cbc (key_in p.keys q) iv (bytes_in p f) ≡ ciphertext_of m.ledger q iv (m.plain q) =
+    ap (λ (k : Keys). cbc (key_in k q) iv (bytes_in p f)) (sym keys.keys)
+    ∙ (ap (λ (b : List ℕ). cbc (key_in m.ledger.keys q) iv b) plain ∙ sealed) in
+    let shown : bytes ≡ ciphertext_of m.ledger q iv (m.plain q) =
     read ∙ (frozen_bytes p p' f q iv told froze low owed ∙ cipher) in
-    let known : told ≡ meta_for iv (cbc (key_in m.ledger.keys q) iv (m.plain q)) =
+    let known : told ≡ meta_for iv (ciphertext_of m.ledger q iv (m.plain q)) =
     frozen_told p p' f q iv told froze owed ∙ ap (meta_for iv) cipher in
     ap (λ (o : Option PageId). frame_under m (slice_index_or m.ram f []) o ivs) (tells.owed ∙ owed)
     ∙ (ap (λ (d : Option (List ℕ × Random)). option_map (λ (draw : List ℕ × Random). (owed_under m q draw.0, draw.1)) d) drawn
     ∙ ap (λ (x : FrozenFrame). Some (x, left)) (same_owing q _ bytes _ told (sym shown) (sym known)))
 
 -- All frames.
+
+-- what has the same keys
+keys_next : (old p : PagerState) (m : CloakedMemory) → p.keys ≡ old.keys → TellsKeys old m → TellsKeys p m
+keys_next old p m same tells = record {
+  keys = tells.keys ∙ sym same;
+  chained = ap (λ (k : Keys). k.seal) same ∙ tells.chained;
+}
 
 pub record FreezesFrom (old p : PagerState) (ivs left : Random) (i : ℕ) (frames : List FrozenFrame) : Type 0 where
   pub count : length p.frames ≡ length old.frames
@@ -278,7 +289,7 @@ next_of m i left low = at_drop_more (λ (l : List (List ℕ)). frames_from m i l
 pub freezes_next : (old p p' : PagerState) (ivs left left' : Random) (i : ℕ) (frames frames' : List FrozenFrame)
     (x : FrozenFrame) → FreezesFrom old p ivs left i frames → i < length old.frames → StaysBut i p p' →
     ((q : PageId) → meta_at p'.table q ≡ meta_at p.table q) → frames' ≡ frames ++ x ∷ [] →
-    ((m : CloakedMemory) → TellsFrame p m i → m.ledger.keys ≡ p.keys →
+    ((m : CloakedMemory) → TellsFrame p m i → TellsKeys p m →
     frame_under m (slice_index_or m.ram i []) (owed_in m i) left ≡ Some (x, left')) →
     FreezesFrom old p' ivs left' (i + 1) frames'
 freezes_next old p p' ivs left left' i frames frames' x so_far low stays metas pushed made = record {
@@ -291,7 +302,7 @@ freezes_next old p p' ivs left left' i frames frames' x so_far low stays metas p
   filled = ap length pushed ∙ (let a = length_push frames x in let b = so_far.filled in omega (arith, a, b));
   draws = λ m tells.
       let inside : i < length m.ram = (let count = tells.count in omega (arith, count, low)) in
-      let first = made m (tells_next old p ivs left i frames m so_far low tells) (tells.keys ∙ sym so_far.keys) in
+      let first = made m (tells_next old p ivs left i frames m so_far low tells) (keys_next old p m so_far.keys tells.keys) in
       so_far.draws m tells
       ∙ (ap (with_front frames) (next_of m i left inside)
       ∙ (front_next frames (frames_from m (i + 1) (drop (i + 1) m.ram)) _ x left' first
@@ -300,7 +311,7 @@ freezes_next old p p' ivs left left' i frames frames' x so_far low stays metas p
 
 pub freezes_ends : (old p : PagerState) (ivs left : Random) (i : ℕ) (frames : List FrozenFrame) →
     FreezesFrom old p ivs left i frames → i < length old.frames →
-    ((m : CloakedMemory) → TellsFrame p m i → m.ledger.keys ≡ p.keys →
+    ((m : CloakedMemory) → TellsFrame p m i → TellsKeys p m →
     frame_under m (slice_index_or m.ram i []) (owed_in m i) left ≡ None) →
     (m : CloakedMemory) → TellsFrames old m → frames_from m 0 m.ram ivs ≡ None
 freezes_ends old p ivs left i frames so_far low none m tells =
@@ -308,7 +319,7 @@ freezes_ends old p ivs left i frames so_far low none m tells =
     so_far.draws m tells
     ∙ (ap (with_front frames) (next_of m i left inside)
     ∙ front_ends frames (frames_from m (i + 1) (drop (i + 1) m.ram)) _
-    (none m (tells_next old p ivs left i frames m so_far low tells) (tells.keys ∙ sym so_far.keys)))
+    (none m (tells_next old p ivs left i frames m so_far low tells) (keys_next old p m so_far.keys tells.keys)))
 
 past_frames : (m : CloakedMemory) (i : ℕ) (left : Random) → length m.ram ≤ i →
     frames_from m i (drop i m.ram) left ≡ Some ([], left)

@@ -10,9 +10,10 @@ use Rattle.cloak_base.specs.declared.names.Meta.{Meta}
 use Rattle.cloak_base.specs.declared.names.PageId.{PageId}
 use Rattle.cloak_base.specs.declared.names.SpaceId.{SpaceId}
 use Rattle.cloak_model.specs.Chain.{cbc}
-use Rattle.cloak_model.specs.Cloaking.{CloakedMemory, owed_in}
+use Rattle.cloak_model.specs.Cloaking.{CloakedMemory, ciphertext_of, owed_in}
 use Rattle.cloak_model.specs.DomainState as program
-use Rattle.cloak_model.specs.Ledger.{Keys, Ledger, domain_key, key_in}
+use Rattle.cloak_model.specs.Ledger.{Keys, Ledger, domain_key, key_in, key_of}
+use Rattle.cloak_model.specs.Sealing.{Sealing, Chained, sealed_by}
 use Rattle.cloak_model.specs.Parts.{Joint}
 use Rattle.cloak_model.specs.Resources.{resource_at}
 use Rattle.cloak_model.specs.declared.image.Bundle.{Bundle}
@@ -56,6 +57,7 @@ FrameGoesOn p m f (Some q) = (right_at p f ≡ Changed (holding f q)) × (bytes_
 -- the pager has frames and metadata of the memory
 pub record GoesOnMemory (p : PagerState) (m : CloakedMemory) : Type 0 where
   pub keys : m.ledger.keys ≡ p.keys
+  pub chained : p.keys.seal ≡ Chained
   pub count : length m.ram ≡ length p.frames
   pub places : length m.ledger.owed ≡ length p.frames
   pub each : (f : ℕ) → f < length p.frames → FrameGoesOn p m f (owed_in m f)
@@ -76,15 +78,20 @@ no_iv : (v : Option (List ℕ)) → is_some v ≡ false → v ≡ None
 no_iv None none = refl
 no_iv (Some iv) none = absurd (cc)
 
-page_goes_on : (m : CloakedMemory) (q : PageId) (r v : Option (List ℕ)) → PagesFit m → m.ledger.recorded q ≡ r →
-    m.ledger.iv q ≡ v → is_some v ≡ is_some r → PageStands false m q (meta_of_record r v)
-page_goes_on m q None v fits is at same = (is, λ kept free. fits.fresh q is (none_owing m q free))
-page_goes_on m q (Some c) None fits is at same = absurd (cc)
-page_goes_on m q (Some c) (Some iv) fits is at same = record {
+-- what a page is sealed to by chained AES
+chained_to : (m : CloakedMemory) (q : PageId) (iv bytes : List ℕ) → m.ledger.keys.seal ≡ Chained →
+    ciphertext_of m.ledger q iv bytes ≡ cbc (key_of m.ledger q) iv bytes
+chained_to m q iv bytes is = ap (λ (s : Sealing). sealed_by s (key_of m.ledger q) iv bytes) is
+
+page_goes_on : (m : CloakedMemory) (q : PageId) (r v : Option (List ℕ)) → PagesFit m → m.ledger.keys.seal ≡ Chained →
+    m.ledger.recorded q ≡ r → m.ledger.iv q ≡ v → is_some v ≡ is_some r → PageStands false m q (meta_of_record r v)
+page_goes_on m q None v fits chained is at same = (is, λ kept free. fits.fresh q is (none_owing m q free))
+page_goes_on m q (Some c) None fits chained is at same = absurd (cc)
+page_goes_on m q (Some c) (Some iv) fits chained is at same = record {
   bytes = c;
   is = is;
   digest = refl;
-  sealed = λ kept free. fits.recorded q c iv is at (none_owing m q free);
+  sealed = λ kept free. fits.recorded q c iv is at (none_owing m q free) ∙ chained_to m q iv (m.plain q) chained;
 }
 
 vector_goes_on : (r v : Option (List ℕ)) → is_some v ≡ is_some r → v ≡ vector_in (meta_of_record r v)
@@ -97,6 +104,7 @@ pub goes_on_stands : (p : PagerState) (m : CloakedMemory) → IsWholePager p →
 goes_on_stands p m whole goes = record {
   whole = whole;
   keys = goes.keys;
+  chained = goes.chained;
   count = goes.count;
   frames = λ f low. frame_goes_on p m f (owed_in m f) (goes.each f low);
   owed =
@@ -107,7 +115,8 @@ goes_on_stands p m whole goes = record {
       ∙ sym (get_or-map pager.owed_under p.rights f Spent None (let a = whole.count in let b = goes.places in omega (arith, low, a, b))));
   pages = λ q.
       subst (PageStands false m q) (sym (goes.metas q))
-      (page_goes_on m q (m.ledger.recorded q) (m.ledger.iv q) goes.fits refl refl (goes.fits.vectors q));
+      (page_goes_on m q (m.ledger.recorded q) (m.ledger.iv q) goes.fits (ap (λ (k : Keys). k.seal) goes.keys ∙ goes.chained)
+      refl refl (goes.fits.vectors q));
   vectors = λ q.
       vector_goes_on (m.ledger.recorded q) (m.ledger.iv q) (goes.fits.vectors q) ∙ ap vector_in (sym (goes.metas q));
   plain = λ q kept. goes.fits.bytes q;
@@ -116,35 +125,39 @@ goes_on_stands p m whole goes = record {
 
 -- a frame that is thawed has what the frame had that is shown
 thawed_goes_on : (p : PagerState) (m : CloakedMemory) (f : ℕ) (owed : Option PageId) (x : FrozenFrame) →
-    m.ledger.keys ≡ p.keys → PagesFit m → IsFrameShown m (slice_index_or m.ram f []) owed x →
+    m.ledger.keys ≡ p.keys → p.keys.seal ≡ Chained → PagesFit m → IsFrameShown m (slice_index_or m.ram f []) owed x →
     IsThawedFrame p f x x.owed → FrameGoesOn p m f owed
 unfolding owed_under
-thawed_goes_on p m f None x keys fits shown thawed =
+thawed_goes_on p m f None x keys chained fits shown thawed =
     let here = subst (λ (y : FrozenFrame). IsThawedFrame p f y y.owed) shown thawed in here
-thawed_goes_on p m f (Some q) x keys fits shown thawed =
+thawed_goes_on p m f (Some q) x keys chained fits shown thawed =
     let here = subst (λ (y : FrozenFrame). IsThawedFrame p f y y.owed) shown.is thawed in (
       here.0,
       here.1.only_one (m.plain q) (fits.bytes q)
-          (ap (λ (k : Keys). cbc (key_in k q) shown.iv (m.plain q)) (sym keys)),
+          (ap (λ (k : Keys). cbc (key_in k q) shown.iv (m.plain q)) (sym keys)
+          ∙ sym (chained_to m q shown.iv (m.plain q) (ap (λ (k : Keys). k.seal) keys ∙ chained))),
     )
 
 pub frozen_goes_on : (p : PagerState) (keys : Keys) (domains : ℕ) (f : Frozen) (j : Joint) →
-    IsThawedPager p keys domains f.frames f.recorded → j.memory.ledger.keys ≡ keys → ShowsAll j f → PagesFit j.memory →
+    IsThawedPager p keys domains f.frames f.recorded → j.memory.ledger.keys ≡ keys → keys.seal ≡ Chained →
+    ShowsAll j f → PagesFit j.memory →
     length j.memory.ledger.owed ≡ length j.memory.ram →
     ((q : PageId) (t : Meta) → meta_in j.memory.ledger q ≡ Some t →
     (q.domain < length j.domains) × (q.resource < 16) × (q.page < 1024)) → GoesOnMemory p j.memory
-frozen_goes_on p keys domains f j thawed same shows fits places inside =
+frozen_goes_on p keys domains f j thawed same sealed shows fits places inside =
     let count : length j.memory.ram ≡ length p.frames = sym shows.frames.count ∙ sym thawed.count in
     let own : j.memory.ledger.keys ≡ p.keys = same ∙ sym thawed.keys_are in
+    let chained : p.keys.seal ≡ Chained = ap (λ (k : Keys). k.seal) thawed.keys_are ∙ sealed in
     record {
       keys = own;
+      chained = chained;
       count = count;
       places = places ∙ count;
       each = λ k low.
           let zeros : FrozenFrame = record { bytes = []; owed = None } in
           let there = get_there f.frames k zeros (let c = thawed.count in omega (arith, low, c)) in
           let x = slice_index_or f.frames k zeros in
-          thawed_goes_on p j.memory k (owed_in j.memory k) x own fits (frame_seen j f shows k x there) (thawed.each k x there);
+          thawed_goes_on p j.memory k (owed_in j.memory k) x own chained fits (frame_seen j f shows k x there) (thawed.each k x there);
       metas = λ q.
           thawed.metas q
           ∙ (ap (λ (l : List FrozenPage). meta_among l q) shows.recorded

@@ -4,7 +4,7 @@ use Rattle.std.proofs.lemmas.List.{append-nil}
 use Rattle.cloak_base.specs.declared.names.SpaceId.{SpaceId}
 use Rattle.cloak_base.specs.declared.causes.Shown.{Shown}
 use Rattle.cloak_base.specs.declared.causes.Violation.{Violation}
-use Rattle.cloak_model.specs.declared.item.Item.TheVariants as item
+use Rattle.cloak_model.specs.Items as item
 use Rattle.cloak_model.specs.declared.inside.Went.{Went}
 use Rattle.cloak_model.specs.declared.inside.Went.TheVariants as went
 use Rattle.cloak_model.specs.Cloaking.{CloakedMemory}
@@ -45,6 +45,7 @@ holds_rooted memory m root h = record {
   pager = record {
     whole = h.pager.whole;
     keys = h.pager.keys;
+    chained = h.pager.chained;
     count = h.pager.count;
     frames = λ f inside. frame_rooted memory.pager h.wiped m root f _ (h.pager.frames f inside);
     owed = h.pager.owed;

@@ -13,6 +13,7 @@ use Rattle.cloak_base.specs.declared.names.SpaceId.{SpaceId}
 use Rattle.cloak_model.specs.DomainState as program
 use Rattle.cloak_model.specs.Hart.{Hart}
 use Rattle.cloak_model.specs.Ledger.{Keys}
+use Rattle.cloak_model.specs.Sealing.{Chained}
 use Rattle.cloak_model.specs.Parts as model
 use Rattle.cloak_model.specs.Resources.{Resources, pages_of, resource_at}
 use Rattle.cloak_model.specs.declared.image.Bundle.{Bundle}
@@ -176,6 +177,7 @@ ends_go_on b stream f j ended goes all count are =
 -- what was made of a frozen state
 pub record IsMadeOf (joint : Joint) (keys : Keys) (rest : Random) (f : Frozen) : Type 0 where
   pub pager : IsThawedPager joint.memory.pager keys (length f.domains) f.frames f.recorded
+  pub chained : keys.seal ≡ Chained
   pub whole : IsWholePager joint.memory.pager
   pub stream : joint.memory.stream ≡ rest
   pub draws : joint.memory.draws ≡ f.draws
@@ -198,7 +200,8 @@ memory_goes_on joint keys rest b stream f j made goes all same left = record {
   wiped = none_wiped;
   pager =
       goes_on_stands joint.memory.pager j.memory made.whole
-      (frozen_goes_on joint.memory.pager keys (length f.domains) f j made.pager same all goes.pages goes.owed_places
+      (frozen_goes_on joint.memory.pager keys (length f.domains) f j made.pager same made.chained all goes.pages
+      goes.owed_places
       (λ q t known. in_use_low j q goes.programs (goes.recorded q (known_is_recorded (j.memory.ledger.recorded q) (j.memory.ledger.iv q) t known))));
   whole = λ drawn q. refl;
   stream = left ∙ sym made.stream;

@@ -344,6 +344,7 @@ loaded_stands old p k domains keys stream is =
     record {
       whole = is.whole;
       keys = s.keys ∙ sym has.keys_stay;
+      chained = ap (λ (k : Keys). k.seal) has.keys_stay ∙ s.chained;
       count = ap (λ (x : List (List ℕ)). length x) (sym has.frames_are);
       frames = λ f inside.
           let below : f < k.frames = rw (← loaded_count old p k domains keys is) inside in

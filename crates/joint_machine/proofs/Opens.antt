@@ -8,6 +8,7 @@ use Rattle.cloak_model.specs.Beginning.{stored_keys}
 use Rattle.cloak_model.specs.Bundle.{IsProgramIn}
 use Rattle.cloak_model.specs.Cloaking.{CloakedMemory}
 use Rattle.cloak_model.specs.Ledger.{Keys}
+use Rattle.cloak_model.specs.Sealing.{Chained}
 use Rattle.cloak_model.specs.Opening.{NoKey, NoPageDraw, drawn_keys, filled_up, key_count, keys_for, opening, opened_by, opened_with, opening_items, started_domains, started_harts, started_joint, started_kernel, started_ledger, started_memory, place_programs}
 use Rattle.thread_context.specs.Recorded.{root_at}
 use Rattle.cloak_pager.specs.State.{PagerState, held_in}
@@ -50,13 +51,14 @@ pub record HasKeys (b : Bundle) (s rest : Random) (keys : Keys) : Type 0 where
 pub has_keys : (b : Bundle) (s rest : Random) (count : ℕ) (numbered : List (List ℕ)) (group : List ℕ)
     (programs : List Program) → programs ≡ b.programs → count ≡ key_count b.programs →
     DrawsKeys count s rest numbered → group ≡ filled_up 0 (map (λ (p : Program). p.key) programs) →
-    HasKeys b s rest (record { numbered = numbered; group = group })
+    HasKeys b s rest (record { numbered = numbered; group = group; seal = Chained })
 has_keys b s rest count numbered group programs same counted draws grouped = record {
   drawn = draws.drawn;
   are = ap (λ n. drawn_keys n s) (sym counted) ∙ draws.are;
   keys_are = λ i. record {
     numbered = draws.filled i;
     group = (grouped ∙ ap (λ (ps : List Program). filled_up 0 (map (λ (p : Program). p.key) ps)) same) i;
+    seal = Chained;
   };
 }
 

@@ -8,7 +8,7 @@ use Rattle.cloak_base.specs.Random.{Random}
 use Rattle.cloak_model.specs.declared.image.Program.{Program}
 use Rattle.cloak_model.specs.Cloaking.{CloakedMemory, ciphertext_of}
 use Rattle.cloak_base.specs.Constants.{frame_of}
-use Rattle.cloak_model.specs.Ledger.{vector_of}
+use Rattle.cloak_model.specs.Ledger.{next_vector}
 use Rattle.cloak_model.specs.Memory.{unless_written}
 use Rattle.cloak_model.specs.Opening.{place_pages, place_programs, program_page}
 use Rattle.cloak_model.specs.PageMoves.{place, place_with}
@@ -93,7 +93,7 @@ keeps_with q f bytes (Some draw) m = record { draws = refl; missed = refl; keys 
 
 pub keeps_ledger : (q : PageId) (f : ℕ) (bytes : List ℕ) (m : CloakedMemory) → KeepsLedgerIf m (place q f bytes m)
 unfolding place
-keeps_ledger q f bytes m = keeps_with q f bytes (vector_of m.ledger q) m
+keeps_ledger q f bytes m = keeps_with q f bytes (next_vector m.ledger) m
 
 -- the draws after a placing
 abbrev pub draws_if : Bool → ℕ → ℕ
@@ -133,7 +133,7 @@ agrees_with held q f bytes (Some draw) m t agrees = write_agrees held m f (ciphe
 placed_agrees : (held : ℕ → Option PageId) (q : PageId) (f : ℕ) (bytes : List ℕ) (m : CloakedMemory) (t : Table) →
     Agrees (present held m) t → IfSome (place q f bytes m) (λ m'. Agrees (present held m') (ending (is_table (frame f)) t))
 unfolding place
-placed_agrees held q f bytes m t agrees = agrees_with held q f bytes (vector_of m.ledger q) m t agrees
+placed_agrees held q f bytes m t agrees = agrees_with held q f bytes (next_vector m.ledger) m t agrees
 
 -- the reservations after a frame was written
 abbrev pub unless_in : ℕ → List (Option ℕ) → List (Option ℕ)
@@ -149,7 +149,7 @@ marks_with q f bytes (Some draw) m marks is = ap (unless_in f) is
 placed_marks : (q : PageId) (f : ℕ) (bytes : List ℕ) (m : CloakedMemory) (marks : List (Option ℕ)) → marks ≡ m.marks →
     IfSome (place q f bytes m) (λ m'. unless_in f marks ≡ m'.marks)
 unfolding place
-placed_marks q f bytes m marks is = marks_with q f bytes (vector_of m.ledger q) m marks is
+placed_marks q f bytes m marks is = marks_with q f bytes (next_vector m.ledger) m marks is
 
 -- a page was placed in the memory's pager, or not
 pub page_placed : (old new : Memory) (given : Bool) (q : PageId) (f : ℕ) (bytes : List ℕ) →

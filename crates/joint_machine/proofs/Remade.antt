@@ -10,6 +10,7 @@ use Rattle.cloak_model.specs.declared.image.Bundle.{Bundle}
 use Rattle.cloak_model.specs.DomainState as program
 use Rattle.cloak_model.specs.Ledger.{Keys}
 use Rattle.cloak_model.specs.Beginning.{stored_keys}
+use Rattle.cloak_model.specs.Sealing.{Chained}
 use Rattle.cloak_model.specs.Opening.{drawn_keys, filled_up, key_count, keys_for}
 use Rattle.cloak_model.specs.declared.image.Program.{Program}
 use Rattle.shadow_fold.specs.Table as shadow
@@ -134,10 +135,11 @@ joint_thawed b s left keys f joint drawn domains under = record {
 
 pub keys_stored : (b : Bundle) (numbered : List (List ℕ)) (group : List ℕ) (programs : List Program) →
     group ≡ filled_up 0 (map (λ (p : Program). p.key) programs) → programs ≡ b.programs →
-    (let keys : Keys = record { numbered = numbered; group = group } in keys) ≡ stored_keys b numbered
+    (let keys : Keys = record { numbered = numbered; group = group; seal = Chained } in keys) ≡ stored_keys b numbered
 keys_stored b numbered group programs is same = λ i. record {
   numbered = numbered;
   group = (is ∙ ap (λ (ps : List Program). filled_up 0 (map (λ (p : Program). p.key) ps)) same) i;
+  seal = Chained;
 }
 
 pub domain_fault : (keys other : Keys) (f : Frozen) (x : ThawFault) → other ≡ keys → All IsWholeFrame f.frames →

@@ -7,7 +7,7 @@ use Rattle.cloak_base.specs.declared.causes.Violation.{Violation}
 use Rattle.cloak_base.specs.declared.causes.Violation.TheVariants as violation
 use Rattle.cloak_model.specs.declared.context.ResumeFault.{ResumeFault}
 use Rattle.cloak_model.specs.declared.context.ResumeFault.TheVariants.{NoContext, Busy}
-use Rattle.cloak_model.specs.declared.item.Item.TheVariants as item
+use Rattle.cloak_model.specs.Items as item
 use Rattle.cloak_model.specs.Contexts.{Context, context_at, domain_of, slot_of, Admitted, admit, Resumed as Made, resume_if, resume_at, with_context}
 use Rattle.cloak_model.specs.DomainState as program
 use Rattle.cloak_model.specs.DomainStep.{resume_slot, resume_told}

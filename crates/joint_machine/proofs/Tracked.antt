@@ -22,7 +22,7 @@ use Rattle.cloak_model.specs.Opening.{numbers_below}
 use Rattle.cloaked_side.proofs.Spending.{ending_misses, maps_ending, maps_still, spends_looks, spends_more, spends_none, spends_still, spends_then}
 use Rattle.shadow_fold.specs.Reads.{AskedByStep, reads_due}
 use Rattle.shadow_fold.proofs.Agreeing.{keeps_ending}
-use Rattle.cloak_model.specs.declared.item.Item.{Item}
+use Rattle.cloak_model.specs.Items.{Item}
 use Rattle.cloaked_side.specs.declared.memory.Memory.{Memory}
 use Rattle.cloaked_side.proofs.Tracking.{goes_on, no_events, tracks_on}
 use Rattle.cloak_model.specs.Events.{Event, Space}

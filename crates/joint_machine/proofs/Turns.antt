@@ -12,7 +12,7 @@ use Rattle.cloak_model.specs.Csr.{interrupt_due, satp_of}
 use Rattle.cloak_model.specs.DomainState as program
 use Rattle.cloak_model.specs.Exchange.{Piece, Emits, item_pieces}
 use Rattle.cloak_model.specs.Leaving.{leave}
-use Rattle.cloak_model.specs.declared.item.Item.TheVariants as item
+use Rattle.cloak_model.specs.Items as item
 use Rattle.cloak_model.specs.Hart.{Hart, started}
 use Rattle.cloak_model.specs.Contexts.{domain_of, slot_of}
 use Rattle.cloak_model.specs.HostCalls.{SteppedKernel}

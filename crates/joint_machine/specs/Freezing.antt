@@ -7,6 +7,7 @@ use Rattle.cloak_base.specs.declared.names.Meta.{Meta}
 use Rattle.cloak_base.specs.declared.names.PageId.{PageId}
 use Rattle.cloak_model.specs.Cloaking.{CloakedMemory, owed_in}
 use Rattle.cloak_model.specs.DomainState as program
+use Rattle.cloak_model.specs.Sealing.{Chained}
 use Rattle.cloak_model.specs.Parts as model
 use Rattle.protect_meta.specs.Table.{MetaRow, meta_at}
 use Rattle.cloak_pager.specs.State.{PagerState, bytes_in, held_in, owed_at}
@@ -39,9 +40,14 @@ pub record TellsFrame (p : PagerState) (m : CloakedMemory) (f : ℕ) : Type 0 wh
   pub owed : owed_in m f ≡ owed_at p f
   pub bytes : bytes_in p f ≡ newest_in m f (owed_in m f)
 
+-- the pager has the keys of the memory, under which pages are sealed by chained AES
+pub record TellsKeys (p : PagerState) (m : CloakedMemory) : Type 0 where
+  pub keys : m.ledger.keys ≡ p.keys
+  pub chained : p.keys.seal ≡ Chained
+
 -- all frames are, and the keys
 pub record TellsFrames (p : PagerState) (m : CloakedMemory) : Type 0 where
-  pub keys : m.ledger.keys ≡ p.keys
+  pub keys : TellsKeys p m
   pub count : length m.ram ≡ length p.frames
   pub each : (f : ℕ) → f < length p.frames → TellsFrame p m f
 

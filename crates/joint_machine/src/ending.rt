@@ -71,7 +71,7 @@ impl Joint {
             slice_get j.domains d ≡ Some was →
             GoesBy self.old.memory self.new.memory (events.with_end d was j.memory (nothing_in space)) }
     {
-        end_pages(&mut self.memory, &mut self.items, d as u8, e);
+        end_pages(&mut self.memory, d as u8, e);
         end_spaces(&mut self.memory, d as u32);
         self.domains[d].end_all();
         self.roots.forget_all(d as u32);

@@ -12,7 +12,7 @@ ghost use Rattle.frozen_state.specs.FrozenState.{by_draw, pages_of_domains, page
 ghost use Rattle.cloak_pager.specs.State.{bytes_in, held_in, owed_at};
 ghost use Rattle.cloak_pager.specs.Relation.{StandsForMemory};
 ghost use Rattle.cloak_pager.specs.Turns.{IsReadOnce, StaysBut};
-ghost use Rattle.joint_machine.specs.Freezing.{AreOwedOrOutside, DrawsAs, HasRoom, TellsDomains, TellsFrame, TellsFrames};
+ghost use Rattle.joint_machine.specs.Freezing.{AreOwedOrOutside, DrawsAs, HasRoom, TellsDomains, TellsFrame, TellsFrames, TellsKeys};
 ghost use Rattle.joint_machine.specs.Freezing.{TellsDomain, page_known, pages_known};
 ghost use Rattle.joint_machine.specs.Standing.{LendsPager};
 
@@ -71,7 +71,7 @@ fn freeze_frame(pager: &mut Pager, ivs: &mut Stream, f: Frame) -> Option<FrozenF
     requires settled { held_in pager.old f.0 ≡ owed_at pager.old f.0 }
     ensures stays { StaysBut f.0 pager.old pager.new }
     ensures metas { (q : AnyPage) → meta_at pager.new.table q ≡ meta_at pager.old.table q }
-    ensures draws { (m : CloakedMemory) → TellsFrame pager.old m f.0 → m.ledger.keys ≡ pager.old.keys →
+    ensures draws { (m : CloakedMemory) → TellsFrame pager.old m f.0 → TellsKeys pager.old m →
         DrawsAs result ivs.new (frozen.frame_under m (slice_index_or m.ram f.0 []) (owed_in m f.0) ivs.old) }
 {
     match pager.holds(f) {

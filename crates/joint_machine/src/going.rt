@@ -5,7 +5,7 @@ ghost use Rattle.cloak_model.specs.Joint.{domain_ended, not_running};
 ghost use Rattle.cloak_model.specs.Leaving as spec;
 ghost use Rattle.cloak_model.specs.Parts as model;
 ghost use Rattle.cloak_model.specs.World.{World, items_of, violation_of};
-ghost use Rattle.cloak_model.specs.declared.item.Item.TheVariants as item;
+ghost use Rattle.cloak_model.specs.Items as item;
 ghost use Rattle.joint_machine.specs.Turning.{AreRoots, IsCarriedOut, IsSameButMarks, Unmarks};
 
 use crate::stepping::SteppedProgram;

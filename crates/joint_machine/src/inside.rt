@@ -26,7 +26,7 @@ use crate::joint::Joint;
 use crate::stepping::{SteppedProgram, step_domain};
 use cloak_base::{SpaceId, Violation};
 use cloak_model::{Emit, Item, Went};
-use cloaked_side::{KeptPut, Memory, regime_of};
+use cloaked_side::{Memory, regime_of};
 use host_calls::{Hart, tick};
 use hypercalls::Domain;
 use thread_context::Roots;
@@ -103,7 +103,6 @@ fn step_context<E: Emit>(
     domain: &mut Domain,
     roots: &mut Roots,
     memory: &mut Memory,
-    items: &mut KeptPut,
     e: &mut E,
 ) -> Option<Violation>
     requires few { d < 4 }
@@ -148,7 +147,7 @@ fn step_context<E: Emit>(
         went: Went::Stay,
         violation: None,
     };
-    step_domain(domain, slot, regime, space, memory, items, e, &mut stepped);
+    step_domain(domain, slot, regime, space, memory, e, &mut stepped);
     end_space(memory, d as u32, &stepped.went);
     go_on(h, number, d as u32, roots, &stepped, memory, e)
 }
@@ -199,7 +198,6 @@ impl Joint {
             domain,
             &mut self.roots,
             &mut self.memory,
-            &mut self.items,
             e,
         ))
     }

@@ -3,7 +3,7 @@ ghost use Rattle.cloaked_side.specs.Holding.{domains_in};
 ghost use Rattle.joint_machine.specs.Programs.{AreNumbered, AreFreeUnused};
 
 use cloak_base::Violation;
-use cloaked_side::{KeptPut, Memory};
+use cloaked_side::Memory;
 use host_calls::{Disk, Hart};
 use hypercalls::Domain;
 use thread_context::Roots;
@@ -18,8 +18,6 @@ pub struct Joint {
     /// The page table that each space was first resumed with.
     pub(crate) roots: Roots,
     pub(crate) disk: Disk,
-    /// An item that is written again and again, and so is kept.
-    pub(crate) items: KeptPut,
     /// For each number of a domain, what ended it.
     pub(crate) ended: [Option<Violation>; 4],
     /// How often a resuming was refused of which no domain was left to end, up to 2^64 - 1.

@@ -4,6 +4,7 @@ ghost use Rattle.cloak_base.specs.Constants.{ram_start, ram_end};
 ghost use Rattle.cloak_model.specs.Bundle.{IsKernelImage, IsSegmentIn};
 ghost use Rattle.cloak_model.specs.Memory.{with_bytes};
 ghost use Rattle.cloak_model.specs.Opening.{started_memory};
+ghost use Rattle.cloak_model.specs.Sealing.{Chained};
 ghost use Rattle.cloak_pager.specs.State.{held_in};
 ghost use Rattle.cloaked_side.specs.Holding.{Holds, domains_in, frames_of};
 ghost use Rattle.joint_machine.specs.Starting.{ArePages, HasFrames, IsReady};
@@ -89,7 +90,7 @@ pub(crate) fn load(
     requires domains { domains ≤ 4 }
     requires groups { All (λ g. g < 4) group }
     ensures holds { IfOk result (λ p. Holds p.0
-        (started_memory k (record { numbered = keys; group = group }) stream)) }
+        (started_memory k (record { numbered = keys; group = group; seal = Chained }) stream)) }
     ensures frames { IfOk result (λ p. frames_of p.0 ≡ k.frames) }
     ensures domains { IfOk result (λ p. domains_in p.0 ≡ domains) }
     ensures ready { IfOk result (λ p. IsReady p.0.pager 0 0) }

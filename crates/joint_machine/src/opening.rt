@@ -17,7 +17,7 @@ use crate::placing::place_programs;
 use crate::placings::{Placing, is_covered};
 use crate::starting::{joint_of, start_parts};
 use cloak_base::Frame;
-use cloak_model::{Emit, KernelImage, Program, Sequence};
+use cloak_model::{Emit, Item, KernelImage, Program, Sequence};
 use cloaked_side::Memory;
 use io_traits::Stream;
 use std::alloc::Global;
@@ -31,7 +31,10 @@ fn show_frame<E: Emit>(memory: &mut Memory, placings: &[Placing], f: Frame, e: &
         (item_pieces (placed_among placings.now memory.old.pager.frames (f.0 ∷ []))) }
 {
     if is_covered(placings, f.0) {
-        e.cipher(f.0, memory.pager.read_outside(f));
+        e.item(&Item::Cipher {
+            frame: f.0,
+            bytes: memory.pager.read_outside(f),
+        });
     }
 }
 

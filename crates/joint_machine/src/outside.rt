@@ -30,13 +30,7 @@ impl Joint {
         ensures goes { (j : parts.Joint) → StandsForJoint self.old j → j.memory.ledger.clashed ≡ false →
             GoesBy self.old.memory self.new.memory (events.asked_outside j (hart_in j number)) }
     {
-        outside_step(
-            &mut self.harts[number],
-            &mut self.disk,
-            &mut self.memory,
-            &mut self.items,
-            e,
-        )
+        outside_step(&mut self.harts[number], &mut self.disk, &mut self.memory, e)
     }
 
     /// Makes the step of a hart outside: its plain step, which may resume a context.

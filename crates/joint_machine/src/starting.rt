@@ -16,7 +16,6 @@ use crate::loading::load;
 use crate::reading::JointParts;
 use cloak_base::NoMemory;
 use cloak_model::{KernelImage, Program};
-use cloaked_side::KeptPut;
 use host_calls::Hart;
 use hypercalls::Domain;
 use io_traits::Stream;
@@ -105,7 +104,6 @@ pub(crate) fn joint_of(parts: JointParts) -> Joint
         domains,
         roots: Roots::open(),
         disk,
-        items: KeptPut::new(),
         ended,
         refused,
     }

@@ -13,7 +13,7 @@ ghost use Rattle.joint_machine.specs.Turning.{HoldsNoFree, HoldsNoOthers, StepsD
 
 use cloak_base::{Frame, SpaceId, Violation};
 use cloak_model::{Emit, InsideRegime, Went};
-use cloaked_side::{KeptPut, Memory, ProgramSide, Side, regime_inside};
+use cloaked_side::{Memory, ProgramSide, Side, regime_inside};
 use hypercalls::Domain;
 
 /// How the step of a program ended.
@@ -43,7 +43,6 @@ pub fn step_domain<E: Emit>(
     regime: InsideRegime,
     space: SpaceId,
     memory: &mut Memory,
-    items: &mut KeptPut,
     e: &mut E,
     stepped: &mut SteppedProgram,
 )
@@ -70,7 +69,6 @@ pub fn step_domain<E: Emit>(
     let side = Side {
         memory,
         emitter: e,
-        items,
         violation: None,
         domain: regime.domain,
         regime: regime_inside(regime, space),

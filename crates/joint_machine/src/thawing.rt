@@ -10,6 +10,7 @@ ghost use Rattle.cloak_model.specs.Beginning.{stored_keys};
 ghost use Rattle.cloak_model.specs.Hart as hart;
 ghost use Rattle.cloak_model.specs.Memory.{with_mark};
 ghost use Rattle.cloak_model.specs.Resources.{resource_at};
+ghost use Rattle.cloak_model.specs.Sealing.{Chained};
 ghost use Rattle.protect_meta.specs.Pages.{IsIn};
 ghost use Rattle.protect_meta.specs.Table.{domains_of, meta_at};
 ghost use Rattle.thread_context.specs.Recorded.{root_at};
@@ -38,7 +39,7 @@ use crate::thaw_fault::ThawFault;
 use cloak_base::{Frame, Meta, NoMemory, PageId, SpaceId, Violation};
 use cloak_model::{Bundle, has_bit};
 use cloak_pager::Pager;
-use cloaked_side::{KeptPut, Memory};
+use cloaked_side::Memory;
 use frozen_state::{Frozen, FrozenDomain, FrozenFrame, FrozenHart, FrozenPage};
 use host_calls::{Disk, Hart, Reservations};
 use hypercalls::Domain;
@@ -148,7 +149,7 @@ fn thaw_pager(
     requires once { IsOnce (map owed_page f.now.frames) }
     requires recorded { All (λ (p : AnyRecord). IsPage (length f.now.domains) p.page) f.now.recorded }
     requires rising { AllPairs Rises f.now.recorded }
-    ensures thaws { IfOk result (λ pager. IsThawedPager pager (record { numbered = keys; group = group })
+    ensures thaws { IfOk result (λ pager. IsThawedPager pager (record { numbered = keys; group = group; seal = Chained })
         (length f.now.domains) f.now.frames f.now.recorded) }
     ensures whole { IfOk result (λ _. All IsWholeFrame f.now.frames) }
     ensures faults { IfErr result (IsFrameFault f.now.frames) }
@@ -480,7 +481,6 @@ fn thaw_under(
         domains,
         roots,
         disk: Disk::of(disk.into_vec()),
-        items: KeptPut::new(),
         ended,
         refused,
     })

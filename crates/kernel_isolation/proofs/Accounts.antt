@@ -9,8 +9,8 @@ use Rattle.cloak_model.specs.declared.access.Access.{Access}
 use Rattle.cloak_model.specs.declared.access.Walked.{Walked}
 use Rattle.cloak_model.specs.declared.answer.Answer.{Answer}
 use Rattle.cloak_model.specs.declared.answer.Answer.TheVariants as answer
-use Rattle.cloak_model.specs.declared.item.Item.{Item}
-use Rattle.cloak_model.specs.declared.item.Item.TheVariants as item
+use Rattle.cloak_model.specs.Items.{Item}
+use Rattle.cloak_model.specs.Items as item
 use Rattle.cloak_model.specs.Ask.{opened}
 use Rattle.cloak_model.specs.AskPages.{answer_item, replies, if_drawn, ask_led_inside, put_at, stored_inside, put_by_table, ask_write, ask_put, ask_copy, ask_forget}
 use Rattle.cloak_model.specs.Asking.{Told}

@@ -1,7 +1,7 @@
 -- The kernel alone between two steps.
 use Rattle.std.proofs.Common.{◌≡◌, ◌∙◌, ℕ, suc, ◌-◌, ◌%◌, Bool, false, List, ◌∷◌, length, slice_index, None, refl, sym, ap, subst}
-use Rattle.cloak_model.specs.declared.item.Item.{Item}
-use Rattle.cloak_model.specs.declared.item.Item.TheVariants as item
+use Rattle.cloak_model.specs.Items.{Item}
+use Rattle.cloak_model.specs.Items as item
 use Rattle.cloak_model.specs.KernelAlone.{KernelAlone, KernelStage, Between, Outside, kernel_takes, take_kernel_item, take_kernel_step, kernel_step_ended, plain_step, kernel_taken}
 use Rattle.cloak_model.specs.Parts.{KernelPart}
 use Rattle.kernel_isolation.proofs.Ignoring.{taken_fit}

@@ -6,8 +6,8 @@ use Rattle.std.proofs.lemmas.Bool.{false≢true}
 use Rattle.std.proofs.lemmas.List.{append-nil, get_or-set_other, map-append}
 use Rattle.cloak_base.specs.Random.{Random}
 use Rattle.cloak_base.specs.declared.names.PageId.{PageId}
-use Rattle.cloak_model.specs.declared.item.Item.{Item}
-use Rattle.cloak_model.specs.declared.item.Item.TheVariants as item
+use Rattle.cloak_model.specs.Items.{Item}
+use Rattle.cloak_model.specs.Items as item
 use Rattle.cloak_model.specs.Ahead.{is_owed, with_shown}
 use Rattle.cloak_model.specs.AskPages.{is_marked, settled_if_marked, ask_forget}
 use Rattle.cloak_model.specs.Cloaking.{CloakedMemory, settle_owed, settle}
@@ -15,7 +15,7 @@ use Rattle.cloak_model.specs.Events.{Drop}
 use Rattle.cloak_model.specs.PageMoves.{drop_pages}
 use Rattle.cloak_model.specs.Ending.{all_marked, settled_for, ask_end, cloak_for}
 use Rattle.cloak_model.specs.Fork.{forget_each}
-use Rattle.cloak_model.specs.Ledger.{vector_of}
+use Rattle.cloak_model.specs.Ledger.{next_vector}
 use Rattle.cloak_model.specs.Memory.{Seen, filled}
 use Rattle.cloak_model.specs.Opening.{numbers_below}
 use Rattle.cloak_model.specs.World.{World, MidStep, Cloaked, settled_in, cipher_items}
@@ -41,7 +41,7 @@ owed_by f q (Some draw) m is = (is, tt)
 settle_in_owed : (f : ℕ) (m : CloakedMemory) → AreOwed m (settle f m).ciphers
 settle_in_owed f m =
     settle_shows AnyMemory (λ x ciphers n. AreOwed x ciphers) (λ x here. tt)
-    (λ g q x is here. owed_by g q (vector_of x.ledger q) x (ap (λ (o : Option PageId). is_some o) is)) f m tt
+    (λ g q x is here. owed_by g q (next_vector x.ledger) x (ap (λ (o : Option PageId). is_some o) is)) f m tt
 
 -- what is owed later was owed before
 before_owed : (m after : CloakedMemory) (ciphers : List (ℕ × List ℕ)) →

@@ -3,8 +3,8 @@ use Rattle.std.proofs.Common.{◌≡◌, ℕ, suc, ◌<◌, Bool, true, false, c
 use Rattle.std.proofs.lemmas.Bool.{eq-eqb}
 use Rattle.std.proofs.lemmas.List.{get_or-set_same, set-set}
 use Rattle.cloak_base.specs.declared.causes.Shown.{Shown}
-use Rattle.cloak_model.specs.declared.item.Item.{Item}
-use Rattle.cloak_model.specs.declared.item.Item.TheVariants as item
+use Rattle.cloak_model.specs.Items.{Item}
+use Rattle.cloak_model.specs.Items as item
 use Rattle.cloak_model.specs.Hart.{Hart, started}
 use Rattle.cloak_model.specs.KernelAlone.{KernelAlone, Between, Inside, Left, kernel_unfit, kernel_hart, with_kernel_hart, kernel_step_ended, kernel_step_begun, take_kernel_step, take_leave, kernel_takes, take_kernel_item, kernel_taken, kernel_seen, with_kernel_seen}
 use Rattle.cloak_model.specs.KernelStep.{ticked}

@@ -4,8 +4,8 @@ use Rattle.std.specs.Prelude.{◌==◌}
 use Rattle.std.specs.List.{AllByRecursion}
 use Rattle.std.proofs.lemmas.Bool.{lt-ltb}
 use Rattle.std.proofs.lemmas.List.{length-set}
-use Rattle.cloak_model.specs.declared.item.Item.{Item}
-use Rattle.cloak_model.specs.declared.item.Item.TheVariants as item
+use Rattle.cloak_model.specs.Items.{Item}
+use Rattle.cloak_model.specs.Items as item
 use Rattle.cloak_model.specs.Ahead.{with_shown}
 use Rattle.cloak_model.specs.KernelAlone.{KernelAlone, Inside, kernel_takes, take_cipher, take_put, take_kernel_item, kernel_taken, kernel_seen}
 use Rattle.cloak_model.specs.Memory.{Seen, is_in_ram, stored, filled}

@@ -4,8 +4,8 @@ use Rattle.std.specs.Prelude.{◌==◌}
 use Rattle.std.specs.List.{AllByRecursion}
 use Rattle.std.proofs.lemmas.Bool.{cond-true, cond-false, eq-eqb, ne_eqb}
 use Rattle.std.proofs.lemmas.List.Elements.{filter-append}
-use Rattle.cloak_model.specs.declared.item.Item.{Item}
-use Rattle.cloak_model.specs.declared.item.Item.TheVariants as item
+use Rattle.cloak_model.specs.Items.{Item}
+use Rattle.cloak_model.specs.Items as item
 use Rattle.cloak_model.specs.Exchange.{steps_items}
 use Rattle.cloak_model.specs.Halves.{is_outward, outward_half}
 use Rattle.cloak_model.specs.Record.{IsOfStep, IsCipher}

@@ -10,13 +10,13 @@ use Rattle.cloak_model.proofs.Opening.{length-with_segments}
 use Rattle.cloak_model.specs.declared.image.Bundle.{Bundle}
 use Rattle.cloak_model.specs.declared.image.KernelImage.{KernelImage}
 use Rattle.cloak_model.specs.declared.image.Program.{Program}
-use Rattle.cloak_model.specs.declared.item.Item.{Item}
-use Rattle.cloak_model.specs.declared.item.Item.TheVariants as item
+use Rattle.cloak_model.specs.Items.{Item}
+use Rattle.cloak_model.specs.Items as item
 use Rattle.cloak_model.specs.Ahead.{with_shown}
 use Rattle.cloak_model.specs.Beginning.{files_added, Beginning, opening_from}
 use Rattle.cloak_model.specs.Cloaking.{CloakedMemory, seen_in}
 use Rattle.cloak_model.specs.DomainState.{started_domain, started_control}
-use Rattle.cloak_model.specs.Ledger.{Keys, vector_of}
+use Rattle.cloak_model.specs.Ledger.{Keys, next_vector}
 use Rattle.cloak_model.specs.Memory.{zero_ram, Seen, unless_written, filled}
 use Rattle.cloak_model.specs.Opening.{numbers_below, started_ledger, started_kernel, started_memory, program_page, place_pages, place_programs, started_domains, started_joint, is_placed, opening_items, RunEdge}
 use Rattle.cloak_model.specs.PageMoves.{place, place_with}
@@ -111,7 +111,7 @@ one_places q f bytes (Some draw) m = record {
 
 place_apart : (q : PageId) (f : ℕ) (bytes : List ℕ) (m : CloakedMemory) → PlacesIf (λ g. g ≢ f) m (place q f bytes m)
 unfolding place
-place_apart q f bytes m = one_places q f bytes (vector_of m.ledger q) m
+place_apart q f bytes m = one_places q f bytes (next_vector m.ledger) m
 
 -- a frame is none of the first n of a program
 abbrev pub IsApart : Program → ℕ → ℕ → Type 0

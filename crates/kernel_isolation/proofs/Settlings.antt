@@ -9,7 +9,7 @@ use Rattle.cloak_base.specs.Random.{Random}
 use Rattle.cloak_model.specs.Ahead.{settle_touched, with_shown}
 use Rattle.cloak_model.specs.Cloaking.{CloakedMemory, settle_owed, settle, offer, seen_in}
 use Rattle.cloak_model.specs.Hart.{Hart}
-use Rattle.cloak_model.specs.Ledger.{vector_of}
+use Rattle.cloak_model.specs.Ledger.{next_vector}
 use Rattle.kernel_isolation.proofs.Shown.{AreFrames, frames_stay}
 use Rattle.kernel_isolation.proofs.Showing.{settle_shows, Shows, touched_shows, offer_shows}
 use Rattle.cloak_model.specs.Memory.{Seen, filled, unless_written}
@@ -92,7 +92,7 @@ owed_shown f q (Some draw) m places lt = one_shown m _ f _ places lt refl refl
 pub settle_shown : (f : ℕ) (m : CloakedMemory) → HasPlaces m → ShownBy m (settle f m).ciphers (settle f m).memory
 settle_shown =
     settle_shows HasPlaces ShownBy ShownBy-none (λ f q m is places.
-    owed_shown f q (vector_of m.ledger q) m places
+    owed_shown f q (next_vector m.ledger) m places
     (subst (λ (n : ℕ). f < n) places (within m.ledger.owed f q is)))
 
 shows : Shows HasPlaces ShownBy

@@ -6,7 +6,7 @@ use Rattle.cloak_base.proofs.Choices.{either}
 use Rattle.cloak_model.specs.Ahead.{is_owed, settle_found, settle_while, settle_touched}
 use Rattle.cloak_model.specs.Cloaking.{CloakedMemory, AfterSettling, AfterOffer, owed_in, owing_frame, owes, settle_owed, settle_if, settle, settle_frame_if, with_owed, with_comparison, taken, compared, unless_missed, offer}
 use Rattle.cloak_model.specs.Hart.{Hart}
-use Rattle.cloak_model.specs.Ledger.{vector_of}
+use Rattle.cloak_model.specs.Ledger.{next_vector}
 
 -- of a memory, of what is shown from it on, and of the memory then
 abbrev pub Showing : Type 1
@@ -24,7 +24,7 @@ OfferShows R m o = R m o.ciphers o.memory
 
 module _ (P : CloakedMemory → Type 0) (R : Showing) (none : (m : CloakedMemory) → P m → R m [] m)
     (owed : (f : ℕ) (q : PageId) (m : CloakedMemory) → owed_in m f ≡ Some q → P m →
-    SettlingShows R m (settle_owed f q (vector_of m.ledger q) m))
+    SettlingShows R m (settle_owed f q (next_vector m.ledger) m))
   where
     by_owed : (f : ℕ) (o : Option PageId) (m : CloakedMemory) → owed_in m f ≡ o → P m → SettlingShows R m (settle_if f o m)
     unfolding settle_if

@@ -7,8 +7,8 @@ use Rattle.cloak_model.specs.declared.answer.Answer.{Answer}
 use Rattle.cloak_model.specs.declared.answer.Answer.TheVariants as told
 use Rattle.cloak_model.specs.declared.context.Phase.{Phase}
 use Rattle.cloak_model.specs.declared.context.Phase.TheVariants.{Plain, CopyIn, Waiting, CopyOut}
-use Rattle.cloak_model.specs.declared.item.Item.{Item}
-use Rattle.cloak_model.specs.declared.item.Item.TheVariants as item
+use Rattle.cloak_model.specs.Items.{Item}
+use Rattle.cloak_model.specs.Items as item
 use Rattle.cloak_model.specs.Asking.{answered, then_ask}
 use Rattle.cloak_model.specs.AskPages.{answer_item, ask_read, ask_write}
 use Rattle.cloak_model.specs.Calls.{Copy, buffer, area, byte_address, copy_in_step, copy_out_step}

@@ -8,8 +8,8 @@ use Rattle.cloak_model.specs.declared.context.ResumeFault.{ResumeFault}
 use Rattle.cloak_model.specs.declared.context.ResumeFault.TheVariants.{NoContext}
 use Rattle.cloak_model.specs.declared.inside.Went.{Went}
 use Rattle.cloak_model.specs.declared.inside.Went.TheVariants as went
-use Rattle.cloak_model.specs.declared.item.Item.{Item}
-use Rattle.cloak_model.specs.declared.item.Item.TheVariants as item
+use Rattle.cloak_model.specs.Items.{Item}
+use Rattle.cloak_model.specs.Items as item
 use Rattle.cloak_model.specs.declared.outcome.Kernel.{Kernel}
 use Rattle.cloak_model.specs.declared.outcome.Kernel.TheVariants.{Resume}
 use Rattle.cloak_model.specs.Contexts.{Context, Admitted, Resumed, context_at, domain_of, slot_of, resume_if, resume_at}

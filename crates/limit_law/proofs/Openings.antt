@@ -10,7 +10,7 @@ use Rattle.cloak_model.specs.Beginning.{Beginning, opening_from}
 use Rattle.cloak_model.specs.Cloaking.{CloakedMemory}
 use Rattle.cloak_model.specs.DomainState.{Domain, with_resources}
 use Rattle.cloak_model.specs.Files.{file_resource}
-use Rattle.cloak_model.specs.Ledger.{Keys, vector_of}
+use Rattle.cloak_model.specs.Ledger.{Keys, next_vector}
 use Rattle.cloak_model.specs.Opening.{RunEdge, started_joint, started_memory, place_pages, place_programs}
 use Rattle.cloak_model.specs.PageMoves.{place, place_with}
 use Rattle.cloak_model.specs.Parts.{Joint}
@@ -56,7 +56,7 @@ unfolding place started_joint
 begins_in_memory N b from one first keeps o opens =
     let over = opens_over b from o opens in
     let placed = subst (λ (m : Option CloakedMemory). IfSome m N) over.placed
-    (programs_placed N (λ q f bytes m here. one q f bytes (vector_of m.ledger q) m here) 0 b.programs _
+    (programs_placed N (λ q f bytes m here. one q f bytes (next_vector m.ledger) m here) 0 b.programs _
     (first over.keys over.stream)) in
     files_keep (λ j. N j.memory) keeps (files_of from) (started_joint b over.memory) o.joint over.added placed
 

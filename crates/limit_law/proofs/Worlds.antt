@@ -1,7 +1,7 @@
 -- What each change of a memory keeps, each change of a world keeps, and so does a step of a program.
 use Rattle.std.proofs.Common.{ℕ, Bool, List}
 use Rattle.cloak_base.specs.declared.names.PageId.{PageId}
-use Rattle.cloak_model.specs.declared.item.Item.{Item}
+use Rattle.cloak_model.specs.Items.{Item}
 use Rattle.cloak_model.specs.AskPages.{ask_copy, ask_forget}
 use Rattle.cloak_model.specs.Cloaking.{CloakedMemory, seen_in, with_seen, offer}
 use Rattle.cloak_model.specs.DomainState.{Domain}

@@ -13,8 +13,8 @@ use Rattle.cloak_base.specs.declared.names.PageId.{PageId}
 use Rattle.cloak_model.specs.declared.context.Why.TheVariants.{Trap}
 use Rattle.cloak_model.specs.declared.inside.Went.{Went}
 use Rattle.cloak_model.specs.declared.inside.Went.TheVariants as went
-use Rattle.cloak_model.specs.declared.item.Item.{Item}
-use Rattle.cloak_model.specs.declared.item.Item.TheVariants as item
+use Rattle.cloak_model.specs.Items.{Item}
+use Rattle.cloak_model.specs.Items as item
 use Rattle.cloak_model.specs.Asking.{Told}
 use Rattle.cloak_model.specs.AskPages.{ask_forget}
 use Rattle.cloak_model.specs.Contexts.{Context, context_at, context_number, domain_of, slot_of, suspended, shown}

@@ -8,7 +8,7 @@ use Rattle.cloak_model.specs.declared.access.Access.{Access}
 use Rattle.cloak_model.specs.declared.access.Walked.{Walked}
 use Rattle.cloak_model.specs.declared.answer.Answer.{Answer}
 use Rattle.cloak_model.specs.declared.answer.Answer.TheVariants as told
-use Rattle.cloak_model.specs.declared.item.Item.{Item}
+use Rattle.cloak_model.specs.Items.{Item}
 use Rattle.rv_atomic.specs.declared.atomic.AtomicOp.{AtomicOp}
 use Rattle.cloak_model.specs.Ask.{ask_word, ask_walk, ask_in_ram, ask_translate, ask_led, opened, ask_value, ask_store, loaded_at, ask_load, stored_to, ask_store_at, ask_frame, ask_fill, ask_mark, ask_unmark, ask_marked, stored_if, reserved_at, ask_reserve, conditional_at, ask_store_conditional, combined_at, ask_combine}
 use Rattle.cloak_model.proofs.WalkParts.{ask_second, ask_after, ask_first}

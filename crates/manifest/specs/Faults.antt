@@ -14,6 +14,7 @@ use Rattle.manifest.specs.Fields.{other_key}
 -- a fault of a manifest
 pub data Fault : Type 0 where
   too_long : Fault
+  no_bytes : Fault
   not_text : Fault
   no_toml : (words : List ℕ) → Fault
   at_key : FaultyKey → Fault
@@ -22,6 +23,7 @@ pub data Fault : Type 0 where
 
 abbrev pub fault_of : PackFault → Fault
 fault_of code.TooLong = too_long
+fault_of code.NoBytes = no_bytes
 fault_of code.NotText = not_text
 fault_of (code.NotToml words) = no_toml (string_bytes words)
 fault_of (code.AtKey fault) = at_key fault

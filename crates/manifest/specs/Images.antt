@@ -1,5 +1,5 @@
 -- What a manifest means: the image of its document and of the files that this names; or its first fault.
-use Rattle.std.specs.Prelude.{ℕ, ◌≡◌, ◌⊎◌, ◌*◌, List, [], ◌∷◌, ◌++◌, length, replicate, Option, Some, None, Result, Ok, Err, nat_lt, if◌then◌else◌}
+use Rattle.std.specs.Prelude.{ℕ, ◌≡◌, ◌⊎◌, ◌*◌, ◌==◌, List, [], ◌∷◌, ◌++◌, length, replicate, Option, Some, None, Result, Ok, Err, nat_lt, if◌then◌else◌}
 use Rattle.std.specs.Str.{IsUtf8}
 use Rattle.io_traits.specs.Told.{Tells}
 use Rattle.cloak_model.specs.declared.image.Segment.{Segment as KernelSegment}
@@ -18,7 +18,7 @@ use Rattle.manifest.specs.Keys.{stands_at}
 use Rattle.manifest.specs.Fields.{wrong_at, number_or_at, needed_at, list_at, short_list_at}
 use Rattle.manifest.specs.Parts.{schedule_at, entry_at, with_flat, stored_at, program_at, fitting}
 use Rattle.manifest.specs.Loading.{with_elf, elf_program_at}
-use Rattle.manifest.specs.Faults.{Fault, too_long, not_text, no_toml, at_key, by_keys, only_keys, After, Then}
+use Rattle.manifest.specs.Faults.{Fault, too_long, no_bytes, not_text, no_toml, at_key, by_keys, only_keys, After, Then}
 use Rattle.manifest.specs.Sources.{SourceReads, ElfReads, TableReads, InTurn, EachReads}
 
 -- the most bytes of a manifest
@@ -53,10 +53,15 @@ DocumentReads text (Err fault) =
     ((¬ IsUtf8 text) × (fault ≡ not_text))
     ⊎ (IsUtf8 text × (parse_document text ≡ None) × ((words : List ℕ) × (fault ≡ no_toml words)))
 
+-- A manifest has some bytes, and at most so many.
+abbrev pub manifest_text : List ℕ → Result (List ℕ) Fault
+manifest_text bytes =
+    if nat_lt longest_manifest (length bytes) then Err too_long
+    else if length bytes == 0 then Err no_bytes else Ok bytes
+
 -- the document of the text of a manifest
 unfoldable pub TextReads : List ℕ → Result Members Fault → Type 0
-TextReads text r =
-    After (if nat_lt longest_manifest (length text) then Err too_long else Ok text) DocumentReads r
+TextReads text r = After (manifest_text text) DocumentReads r
 
 -- `held` are the files, as far as they are told, and `manifest` is the manifest's name.
 module _ (held : List ℕ → Option (List ℕ)) (manifest : List ℕ) where

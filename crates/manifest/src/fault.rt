@@ -70,6 +70,8 @@ pub struct FaultyKey {
 pub enum PackFault {
     /// The manifest has more than 1,048,576 bytes.
     TooLong,
+    /// The manifest has no bytes, or is not there.
+    NoBytes,
     /// The manifest is no UTF-8.
     NotText,
     /// The manifest is no TOML document; what its reader says.

@@ -53,7 +53,11 @@ fn meant_bundle<S: Shelf>(alloc: Global, shelf: &mut S, manifest: &str) -> Resul
     let Some(text) = read_whole(alloc, shelf, manifest, LONGEST_MANIFEST)? else {
         return Err(PackError::Faulty(PackFault::TooLong));
     };
-    let document = Value::Table(document(alloc, text.as_slice())?);
+    let text = text.as_slice();
+    if text.is_empty() {
+        return Err(PackError::Faulty(PackFault::NoBytes));
+    }
+    let document = Value::Table(document(alloc, text)?);
     bundle_of(alloc, shelf, manifest, &document)
 }
 

@@ -18,6 +18,21 @@ pub struct FaultyManifest<'a> {
     pub fault: &'a PackFault,
 }
 
+/// An address, which is shown in hexadecimal digits.
+#[derive(Clone, Copy)]
+struct ShownAddress {
+    address: u32,
+}
+
+impl fmt::Display for ShownAddress {
+    ghost output = { λ shown. Some (spec.address_text shown.address) };
+
+    fn fmt<W: fmt::Write>(&self, f: &mut fmt::Formatter<W>) -> fmt::Result {
+        f.write_str("0x")?;
+        fmt::LowerHex::fmt(&self.address, f)
+    }
+}
+
 /// Why a file cannot be loaded.
 fn elf_words(cause: ElfCause) -> &'static str
     ensures { result.now ≡ spec.elf_words cause }
@@ -28,7 +43,7 @@ fn elf_words(cause: ElfCause) -> &'static str
         ElfCause::OtherClass => "it is not of 32 bits",
         ElfCause::OtherByteOrder => "its numbers are not little-endian",
         ElfCause::OtherVersion => "the version is not 1",
-        ElfCause::NotExecutable => "it is no program at fixed addresses",
+        ElfCause::NotExecutable => "it is not a program at fixed addresses",
         ElfCause::OtherMachine => "it is not for RISC-V",
         ElfCause::Compressed => "it has compressed instructions",
         ElfCause::FloatRegisters => "it passes numbers in floating-point registers",
@@ -68,20 +83,20 @@ impl fmt::Display for KeyFault {
             KeyFault::Missing => f.write_str("it is missing"),
             KeyFault::NoSource => f.write_str("it is missing, and so is `text`"),
             KeyFault::NoNumber(least, most) => {
-                write!(f, "it is to be a whole number from {least} to {most}")
+                write!(f, "it must be a whole number from {least} to {most}")
             }
             KeyFault::NoTurn(last) => write!(
                 f,
-                "each turn is to be a whole number from 0 to {last}"
+                "each turn must be a whole number from 0 to {last}"
             ),
-            KeyFault::NoMultiple(of) => write!(f, "it is to be a multiple of {of}"),
-            KeyFault::NoName => f.write_str("it is to be the name of a file, in quotes"),
-            KeyFault::NoList => f.write_str("it is to be a list"),
-            KeyFault::NoTable => f.write_str("it is to be a table"),
-            KeyFault::TooFew => f.write_str("it is to have at least 1 element"),
-            KeyFault::TooMany(most) => write!(f, "it is to have at most {most} elements"),
-            KeyFault::TwoSources => f.write_str("it stands beside `text`; one of both is to go"),
-            KeyFault::BesideElf => f.write_str("it stands beside `elf`; one of both is to go"),
+            KeyFault::NoMultiple(of) => write!(f, "it must be a multiple of {of}"),
+            KeyFault::NoName => f.write_str("it must be the name of a file, in quotes"),
+            KeyFault::NoList => f.write_str("it must be a list"),
+            KeyFault::NoTable => f.write_str("it must be a table"),
+            KeyFault::TooFew => f.write_str("it must have at least 1 element"),
+            KeyFault::TooMany(most) => write!(f, "it must have at most {most} elements"),
+            KeyFault::TwoSources => f.write_str("it stands beside `text`: remove one of them"),
+            KeyFault::BesideElf => f.write_str("it stands beside `elf`: remove one of them"),
             KeyFault::NoFile => f.write_str("the file is empty, or is not there"),
             KeyFault::NoRoom(room) => {
                 write!(f, "there is room for {room} bytes, and there are more")
@@ -91,16 +106,19 @@ impl fmt::Display for KeyFault {
                 write!(f, "at byte {} of the file: {words}", fault.at)
             }
             KeyFault::PartOutside(address) => {
+                let address = ShownAddress { address: *address };
                 write!(f, "the part at {address} in the file does not lie in RAM")
             }
             KeyFault::EntryOutside(entry) => {
+                let entry = ShownAddress { address: *entry };
                 write!(
                     f,
                     "the entry {entry} in the file does not lie in the program's pages"
                 )
             }
             KeyFault::UnalignedEntry(entry) => {
-                write!(f, "the entry {entry} in the file is no multiple of 4")
+                let entry = ShownAddress { address: *entry };
+                write!(f, "the entry {entry} in the file is not a multiple of 4")
             }
             KeyFault::TooManySegments => f.write_str("there would be more than 16 segments"),
             KeyFault::PastRam => f.write_str("what begins here goes past the end of RAM"),
@@ -124,7 +142,7 @@ fn write_faulty_text<W: fmt::Write>(
         (Some (spec.faulty_text_line part.now name.now text.now fault)) f.new }
 {
     let faulty = FaultyText { name, text, fault };
-    write!(f, "{part}text: the file is no assembler text\n{faulty}")
+    write!(f, "{part}text: the file is not assembler text\n{faulty}")
 }
 
 impl fmt::Display for FaultyKey {
@@ -142,8 +160,9 @@ impl fmt::Display for PackFault {
     fn fmt<W: fmt::Write>(&self, f: &mut fmt::Formatter<W>) -> fmt::Result {
         match self {
             PackFault::TooLong => f.write_str("the file has more than 1048576 bytes\n"),
-            PackFault::NotText => f.write_str("the file is no text in UTF-8\n"),
-            PackFault::NotToml(words) => write!(f, "no TOML document: {words}\n"),
+            PackFault::NoBytes => f.write_str("the file is empty, or is not there\n"),
+            PackFault::NotText => f.write_str("the file is not text in UTF-8\n"),
+            PackFault::NotToml(words) => write!(f, "not a TOML document: {words}\n"),
             PackFault::AtKey(fault) => write!(f, "{fault}"),
             PackFault::UnknownKey { part, name } => {
                 write!(f, "{part}{name}: there is no key of this name here\n")

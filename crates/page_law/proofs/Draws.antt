@@ -5,10 +5,11 @@ use Rattle.std.specs.Prelude.{option_and_then}
 use Rattle.cloak_base.specs.Random.{Random, next_draw}
 use Rattle.cloak_base.specs.declared.names.PageId.{PageId}
 use Rattle.cloak_model.specs.declared.image.Program.{Program}
-use Rattle.cloak_model.specs.declared.item.Item.{Item}
-use Rattle.cloak_model.specs.declared.item.Item.TheVariants as item
+use Rattle.cloak_model.specs.Items.{Item}
+use Rattle.cloak_model.specs.Items as item
 use Rattle.cloak_model.specs.Beginning.{Beginning}
 use Rattle.cloak_model.specs.Cloaking.{CloakedMemory}
+use Rattle.cloak_model.specs.Sealing.{Chained}
 use Rattle.cloak_model.specs.Ledger.{Keys, Ledger, key_in}
 use Rattle.page_law.specs.Ciphers.{numbered_draw, stream_of, ShowsPage, cipher_count, ciphers_in, ShowPages}
 use Rattle.page_law.specs.Keys.{HaveOwnKeys}
@@ -35,6 +36,7 @@ owed_set count (x ∷ owed) (suc f) o all here = (all.0, owed_set count owed f o
 pub record HasDrawn (count : ℕ) (programs : List Program) (from : Beginning) (n : ℕ) (l : Ledger) : Type 0 where
   pub enough : count ≤ length programs
   pub keys : HaveOwnKeys programs from l
+  pub chained : l.keys.seal ≡ Chained
   pub owed : OwesPagesOf (length programs) l.owed
   pub next : next_draw l.stream ≡ numbered_draw n (stream_of from)
 
@@ -51,6 +53,7 @@ pub draw_made : {count : ℕ} {programs : List Program} (from : Beginning) (n : 
 draw_made {count} {programs} from n l l' draw has is keys owed rest = record {
   enough = has.enough;
   keys = same_keys programs from l l' keys has.keys;
+  chained = ap (λ (k : Keys). k.seal) keys ∙ has.chained;
   owed = owed;
   next = ap next_draw rest
       ∙ ap (option_and_then (λ (d : List ℕ × Random). next_draw d.1)) (sym is ∙ has.next);
@@ -63,6 +66,7 @@ pub draw_missed : {count : ℕ} {programs : List Program} (from : Beginning) (n 
 draw_missed {count} {programs} from n l l' has is keys owed rest = record {
   enough = has.enough;
   keys = same_keys programs from l l' keys has.keys;
+  chained = ap (λ (k : Keys). k.seal) keys ∙ has.chained;
   owed = owed;
   next = ap next_draw rest ∙ is
       ∙ ap (option_and_then (λ (d : List ℕ × Random). next_draw d.1)) (sym is ∙ has.next);
@@ -75,6 +79,7 @@ pub draws_stay : {count : ℕ} {programs : List Program} (from : Beginning) (n :
 draws_stay {count} {programs} from n l l' has keys owed rest = record {
   enough = has.enough;
   keys = same_keys programs from l l' keys has.keys;
+  chained = ap (λ (k : Keys). k.seal) keys ∙ has.chained;
   owed = owed;
   next = ap next_draw rest ∙ has.next;
 }

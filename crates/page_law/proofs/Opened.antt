@@ -9,13 +9,14 @@ use Rattle.cloak_base.specs.Pages.{same_page, with_page}
 use Rattle.cloak_base.specs.declared.names.PageId.{PageId}
 use Rattle.cloak_model.specs.declared.image.Bundle.{Bundle}
 use Rattle.cloak_model.specs.declared.image.Program.{Program}
-use Rattle.cloak_model.specs.declared.item.Item.{Item}
-use Rattle.cloak_model.specs.declared.item.Item.TheVariants as item
+use Rattle.cloak_model.specs.Items.{Item}
+use Rattle.cloak_model.specs.Items as item
 use Rattle.cloak_model.specs.Chain.{cbc}
+use Rattle.cloak_model.specs.Sealing.{Sealing, sealed_by}
 use Rattle.cloak_model.specs.Beginning.{Beginning, Fresh, Stored, opening_from}
 use Rattle.cloak_model.specs.Bundle.{IsInGrammar}
 use Rattle.cloak_model.specs.Cloaking.{CloakedMemory}
-use Rattle.cloak_model.specs.Ledger.{Keys, key_in, key_of, vector_of}
+use Rattle.cloak_model.specs.Ledger.{Keys, key_in, key_of, next_vector}
 use Rattle.cloak_model.specs.Opening.{key_count, numbers_below, started_ledger, started_memory, program_page, place_pages, place_programs, started_joint, is_placed, opening_items, RunEdge}
 use Rattle.cloak_model.specs.PageMoves.{place, place_with}
 use Rattle.kernel_isolation.proofs.FilesAdded.{added_keep, HasKeys, files_of, opens_over}
@@ -37,7 +38,7 @@ first_page d n = record { domain = d; resource = 0; page = n }
 record OnePlaced (q : PageId) (f : ℕ) (bytes : List ℕ) (m m' : CloakedMemory) : Type 0 where
   pub draw : List ℕ × Random
   pub is : next_draw m.ledger.stream ≡ Some draw
-  pub ram : m'.ram ≡ slice_set m.ram f (cbc (key_of m.ledger q) draw.0 bytes)
+  pub ram : m'.ram ≡ slice_set m.ram f (sealed_by m.ledger.keys.seal (key_of m.ledger q) draw.0 bytes)
   pub plain : m'.plain ≡ with_page m.plain q bytes
   pub keys : m'.ledger.keys ≡ m.ledger.keys
   pub owed : m'.ledger.owed ≡ m.ledger.owed
@@ -62,7 +63,7 @@ placed_by q f bytes (Some draw) m m' found is =
 one_placed : (q : PageId) (f : ℕ) (bytes : List ℕ) (m m' : CloakedMemory) → place q f bytes m ≡ Some m' →
     OnePlaced q f bytes m m'
 unfolding place
-one_placed q f bytes m m' is = placed_by q f bytes (vector_of m.ledger q) m m' refl is
+one_placed q f bytes m m' is = placed_by q f bytes (next_vector m.ledger) m m' refl is
 
 -- The pages of a program.
 
@@ -118,9 +119,10 @@ last_shows : {count : ℕ} {all : List Program} (from : Beginning) (d k : ℕ) (
 last_shows from d k p n m m' has one lt = record {
   frame = ap (λ (ram : List (List ℕ)). frame_in ram (p.place + n)) one.ram
       ∙ (get_or-set_same m.ram (p.place + n) _ [] lt
+      ∙ (ap (λ (s : Sealing). sealed_by s (key_of m.ledger (first_page d n)) one.draw.0 (program_page p.bytes n)) has.chained
       ∙ (ap (λ (keys : Keys). cbc (key_in keys (first_page d n)) one.draw.0 (program_page p.bytes n)) (sym one.keys)
       ∙ ap (λ (draw : Option (List ℕ)). shown_under (key_of m'.ledger (first_page d n)) draw (program_page p.bytes n))
-      (sym (draw_is from (k + n) m one.draw has one.is))));
+      (sym (draw_is from (k + n) m one.draw has one.is)))));
   page = ap (λ (plain : PageId → List ℕ). plain (first_page d n)) one.plain
       ∙ page_same m.plain (first_page d n) (first_page d n) (program_page p.bytes n) (same_number d n);
 }
@@ -503,6 +505,7 @@ started_drawn b (Fresh stream) keys rest grammar has = record {
       programs_have_keys b.programs stream (has.drawn, rest) grammar.few_programs
       (λ d p there. (program_at b.kernel.frames b.programs grammar.programs d p there).key) has.draws page program found
       ∙ ap (λ (k : Keys). Some (key_in k page)) (sym has.are);
+  chained = ap (λ (k : Keys). k.seal) has.are;
   owed = none_owed (length b.programs) b.kernel.frames;
   next = (are_drawn (key_count b.programs) stream (has.drawn, rest) has.draws).next;
 }
@@ -511,6 +514,7 @@ started_drawn b (Stored handed stream files) keys rest grammar has = record {
   keys = λ page program found.
       handed_keys b handed grammar.few_programs page program found
       ∙ ap (λ (k : Keys). Some (key_in k page)) (sym has.are);
+  chained = ap (λ (k : Keys). k.seal) has.are;
   owed = none_owed (length b.programs) b.kernel.frames;
   next = ap next_draw has.stays;
 }

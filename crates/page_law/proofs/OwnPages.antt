@@ -6,7 +6,7 @@ use Rattle.cloak_base.specs.declared.names.PageId.{PageId}
 use Rattle.cloak_model.specs.declared.image.Bundle.{Bundle}
 use Rattle.cloak_model.specs.declared.inside.Went.{Went}
 use Rattle.cloak_model.specs.declared.inside.Went.TheVariants as went
-use Rattle.cloak_model.specs.declared.item.Item.{Item}
+use Rattle.cloak_model.specs.Items.{Item}
 use Rattle.cloak_model.specs.Asking.{Told}
 use Rattle.cloak_model.specs.Beginning.{Beginning, opening_from}
 use Rattle.cloak_model.specs.Cloaking.{CloakedMemory}
@@ -35,7 +35,7 @@ use Rattle.page_law.proofs.Calm.{outside_keeps}
 use Rattle.std.proofs.Common.{[], ◌∷◌, ◌++◌, append_assoc, eq-eqb}
 use Rattle.std.proofs.lemmas.Bool.{false≢true}
 use Rattle.cloak_base.specs.declared.causes.Violation.{Violation}
-use Rattle.cloak_model.specs.declared.item.Item.TheVariants as item
+use Rattle.cloak_model.specs.Items as item
 use Rattle.cloak_model.specs.Joint.{end_domain, ends_once, ends_resumed, ends_asked, answers_violation}
 use Rattle.cloak_model.specs.World.{items_of}
 use Rattle.domain_isolation.proofs.Endings.{end_world, end_leaves}

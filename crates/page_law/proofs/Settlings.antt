@@ -5,13 +5,14 @@ use Rattle.std.proofs.lemmas.List.{map-append}
 use Rattle.cloak_base.specs.Random.{Random}
 use Rattle.cloak_base.specs.declared.names.PageId.{PageId}
 use Rattle.cloak_model.specs.declared.image.Program.{Program}
-use Rattle.cloak_model.specs.declared.item.Item.{Item}
-use Rattle.cloak_model.specs.declared.item.Item.TheVariants as item
+use Rattle.cloak_model.specs.Items.{Item}
+use Rattle.cloak_model.specs.Items as item
 use Rattle.cloak_model.specs.Ahead.{settle_touched}
 use Rattle.cloak_model.specs.Beginning.{Beginning}
 use Rattle.cloak_model.specs.Cloaking.{CloakedMemory, AfterSettling, AfterOffer, owed_in, settle_owed, settle, owes, with_owed, with_comparison, offer}
 use Rattle.cloak_model.specs.Hart.{Hart}
-use Rattle.cloak_model.specs.Ledger.{key_of, vector_of}
+use Rattle.cloak_model.specs.Sealing.{Sealing, sealed_by}
+use Rattle.cloak_model.specs.Ledger.{key_of, next_vector}
 use Rattle.cloak_model.specs.World.{cipher_items}
 use Rattle.kernel_isolation.proofs.Showing.{Showing, AnyMemory, settle_shows, Shows, touched_shows, offer_shows}
 use Rattle.page_law.specs.Ciphers.{shown_under, ShowsPage}
@@ -41,7 +42,7 @@ there_is (p ∷ programs) (suc d) low = there_is programs d (omega (arith, low))
 
 -- the page that a frame is owed, under its program's key
 owed_shown : {count : ℕ} {programs : List Program} (f : ℕ) (q : PageId) (draw : Option (List ℕ × Random))
-    (from : Beginning) (n : ℕ) (m : CloakedMemory) → owed_in m f ≡ Some q → vector_of m.ledger q ≡ draw →
+    (from : Beginning) (n : ℕ) (m : CloakedMemory) → owed_in m f ≡ Some q → next_vector m.ledger ≡ draw →
     HasDrawn count programs from n m.ledger →
     ShowsPage programs from m.plain n
     (shown_under (key_of m.ledger q) (option_map (λ (d : List ℕ × Random). d.0) draw) (m.plain q))
@@ -65,7 +66,7 @@ owes_less : (all f : ℕ) (m : CloakedMemory) → OwesPagesOf all m.ledger.owed 
 owes_less all f m owes = owed_set all m.ledger.owed f None owes tt
 
 owed_draws : {count : ℕ} (f : ℕ) (q : PageId) (draw : Option (List ℕ × Random)) (m : CloakedMemory) →
-    owed_in m f ≡ Some q → vector_of m.ledger q ≡ draw → SettlingDraws count m (settle_owed f q draw m)
+    owed_in m f ≡ Some q → next_vector m.ledger ≡ draw → SettlingDraws count m (settle_owed f q draw m)
 unfolding settle_owed
 owed_draws f q None m owed is = record {
   plain = refl;
@@ -77,7 +78,12 @@ owed_draws f q (Some draw) m owed is = record {
   plain = refl;
   drawn = λ programs from n has.
       draw_made from n m.ledger _ draw has is refl (owes_less (length programs) f m has.owed) refl;
-  shown = λ programs from n has. (owed_shown f q (Some draw) from n m owed is has, tt);
+  shown = λ programs from n has. (
+    subst (λ (c : List ℕ). ShowsPage programs from m.plain n c)
+        (ap (λ (s : Sealing). sealed_by s (key_of m.ledger q) draw.0 (m.plain q)) (sym has.chained))
+        (owed_shown f q (Some draw) from n m owed is has),
+    tt,
+  );
 }
 
 abbrev DrawsFor : ℕ → Showing
@@ -86,7 +92,7 @@ DrawsFor count m ciphers n = Draws count m (cipher_items ciphers) n
 pub settle_draws : {count : ℕ} (f : ℕ) (m : CloakedMemory) → SettlingDraws count m (settle f m)
 settle_draws {count} f m =
     settle_shows AnyMemory (DrawsFor count) (λ x here. draws_same x x refl refl)
-    (λ g q x is here. owed_draws g q (vector_of x.ledger q) x is refl) f m tt
+    (λ g q x is here. owed_draws g q (next_vector x.ledger) x is refl) f m tt
 
 shows : (count : ℕ) → Shows AnyMemory (DrawsFor count)
 shows count = record {

@@ -6,8 +6,8 @@ use Rattle.cloak_base.specs.Pages.{zero_page}
 use Rattle.cloak_base.specs.declared.names.PageId.{PageId}
 use Rattle.cloak_model.specs.declared.image.Bundle.{Bundle}
 use Rattle.cloak_model.specs.declared.image.Program.{Program}
-use Rattle.cloak_model.specs.declared.item.Item.{Item}
-use Rattle.cloak_model.specs.declared.item.Item.TheVariants.{Cipher}
+use Rattle.cloak_model.specs.Items.{Item}
+use Rattle.cloak_model.specs.Items.{Cipher}
 use Rattle.cloak_model.specs.Beginning.{Beginning, Fresh, Stored}
 use Rattle.cloak_model.specs.Bundle.{IsInGrammar}
 use Rattle.cloak_model.specs.Chain.{cbc}

@@ -1,7 +1,7 @@
 -- The newest bytes of a program's pages are changed by its own steps alone.
 use Rattle.std.specs.List.{list_any}
-use Rattle.cloak_model.specs.declared.item.Item.{Item}
-use Rattle.cloak_model.specs.declared.item.Item.TheVariants as item
+use Rattle.cloak_model.specs.Items.{Item}
+use Rattle.cloak_model.specs.Items as item
 use Rattle.std.specs.Prelude.{ℕ, ◌≡◌, ◌≢◌, ◌%◌, ◌==◌, Bool, false, List, length, slice_get, slice_index, Option, Some, option_map, Ok}
 use Rattle.cloak_model.specs.declared.image.Bundle.{Bundle}
 use Rattle.cloak_model.specs.Beginning.{Beginning}

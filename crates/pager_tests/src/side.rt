@@ -7,7 +7,7 @@ use crate::checks::{holds, same};
 use cloak_base::{Frame, Kind, Mode, NoMemory, PageId, SpaceId};
 use cloak_model::{Access, Answer, Emit, InsideRegime, Item, PageSide};
 use cloak_pager::Pager;
-use cloaked_side::{KeptPut, Memory, OUTSIDE, ProgramSide, Side, regime_inside};
+use cloaked_side::{Memory, OUTSIDE, ProgramSide, Side, regime_inside};
 use host_calls::{Ram, Reservations};
 use io_traits::Stream;
 use multi_shadow::Shadows;
@@ -58,12 +58,11 @@ struct CountedPieces {
 impl Emit for CountedPieces {
     ghost gave = { λ old new pieces. Unit {0} };
 
-    fn item(&mut self, _: &Item) {
-        self.others = self.others.saturating_add(1);
-    }
-
-    fn cipher(&mut self, _: u32, _: &[u8; 4096]) {
-        self.ciphers = self.ciphers.saturating_add(1);
+    fn item(&mut self, i: &Item<'_>) {
+        match i {
+            Item::Cipher { .. } => self.ciphers = self.ciphers.saturating_add(1),
+            _ => self.others = self.others.saturating_add(1),
+        }
     }
 
     fn console(&mut self, _: u8) {}
@@ -141,11 +140,9 @@ fn answers_each_question(rt: HostRuntime) -> Result<(), Fail> {
         ciphers: 0,
         others: 0,
     };
-    let mut items = KeptPut::new();
     let side = Side {
         memory: &mut memory,
         emitter: &mut e,
-        items: &mut items,
         violation: None,
         domain: REGIME.domain,
         regime: regime_inside(REGIME, SPACE),
@@ -262,11 +259,9 @@ fn reserves_what_is_not_cloaked(rt: HostRuntime) -> Result<(), Fail> {
         ciphers: 0,
         others: 0,
     };
-    let mut items = KeptPut::new();
     let mut side = Side {
         memory: &mut memory,
         emitter: &mut e,
-        items: &mut items,
         violation: None,
         domain: 0,
         regime: OUTSIDE,
@@ -304,11 +299,9 @@ fn ends_reservations_where_a_page_is_sealed(rt: HostRuntime) -> Result<(), Fail>
         ciphers: 0,
         others: 0,
     };
-    let mut items = KeptPut::new();
     let side = Side {
         memory: &mut memory,
         emitter: &mut e,
-        items: &mut items,
         violation: None,
         domain: REGIME.domain,
         regime: regime_inside(REGIME, SPACE),
@@ -336,11 +329,9 @@ fn keeps_reservations_where_a_page_is_shown_again(rt: HostRuntime) -> Result<(),
         ciphers: 0,
         others: 0,
     };
-    let mut items = KeptPut::new();
     let side = Side {
         memory: &mut memory,
         emitter: &mut e,
-        items: &mut items,
         violation: None,
         domain: REGIME.domain,
         regime: regime_inside(REGIME, SPACE),

@@ -105,6 +105,16 @@ impl PlainPages {
         set_value_in(&mut self.kept[place], at as usize, width, value)
     }
 
+    /// Makes the page at a place these bytes.
+    pub fn set(&mut self, place: usize, bytes: &[u8; 4096])
+        requires { place < 16384 }
+        ensures pages { self.new ≡ slice_set self.old place bytes.now }
+        ensures all { length self.old ≡ 16384 }
+    {
+        reach(&mut self.kept, place);
+        self.kept[place] = *bytes;
+    }
+
     /// Makes the page at a place zeros.
     #[tactic(auto, unfolding(cloak_base::specs::Pages::zero_page))]
     fn wipe_page(&mut self, place: usize)

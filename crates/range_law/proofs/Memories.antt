@@ -9,7 +9,8 @@ use Rattle.cloak_base.specs.declared.names.PageId.{PageId}
 use Rattle.cloak_model.specs.Ahead.{settle_touched, with_shown}
 use Rattle.cloak_model.specs.Cloaking.{CloakedMemory, settle_owed, settle, with_owed, with_comparison, offer, seen_in}
 use Rattle.cloak_model.specs.Hart.{Hart}
-use Rattle.cloak_model.specs.Ledger.{Keys, key_in, key_of, vector_of}
+use Rattle.cloak_model.specs.Sealing.{Sealing, Chained, sealed_by}
+use Rattle.cloak_model.specs.Ledger.{Keys, key_in, key_of, next_vector}
 use Rattle.cloak_model.specs.Memory.{Seen, filled}
 use Rattle.cloak_model.specs.Record.{IsItem}
 use Rattle.cloak_model.specs.World.{cipher_items}
@@ -25,10 +26,15 @@ pub record FramesFit (ram : List (List ℕ)) : Type 0 where
   pub few : length ram ≤ 4096
   pub bytes : AllByRecursion AreBytes ram
 
+-- keys of 16 bytes each, by which pages are sealed with chained AES
+pub record KeysAreFit (keys : Keys) : Type 0 where
+  pub blocks : (q : PageId) → IsBytes 16 (key_in keys q)
+  pub chained : keys.seal ≡ Chained
+
 pub record MemoryFits (m : CloakedMemory) : Type 0 where
   pub ram : FramesFit m.ram
   pub plain : (q : PageId) → AreBytes (m.plain q)
-  pub keys : (q : PageId) → IsBytes 16 (key_of m.ledger q)
+  pub keys : KeysAreFit m.ledger.keys
   pub stream : IsStreamOfBytes m.ledger.stream
   pub places : HasPlaces m
 
@@ -93,7 +99,8 @@ owed_seals f q None m fits draws =
     record { sealed = (zero_page_fits, tt); plain = refl; keys = refl; stream = fits.stream }
 owed_seals f q (Some draw) m fits draws = record {
   sealed = (
-    sealed_fits (key_of m.ledger q) draw.0 (m.plain q) (fits.keys q) (block_bytes 16 draw.0 draws.bytes) (fits.plain q),
+    subst (λ (s : Sealing). SealedFits (sealed_by s (key_of m.ledger q) draw.0 (m.plain q))) (sym fits.keys.chained)
+        (sealed_fits (key_of m.ledger q) draw.0 (m.plain q) (fits.keys.blocks q) (block_bytes 16 draw.0 draws.bytes) (fits.plain q)),
     tt,
   );
   plain = refl;
@@ -105,7 +112,7 @@ settle_seals : (f : ℕ) (m : CloakedMemory) → MemoryFits m → Seals m (settl
 settle_seals =
     settle_shows MemoryFits Seals
     (λ m fits. record { sealed = tt; plain = refl; keys = refl; stream = fits.stream })
-    (λ f q m is fits. owed_seals f q (vector_of m.ledger q) m fits (draw_fits m.ledger.stream fits.stream))
+    (λ f q m is fits. owed_seals f q (next_vector m.ledger) m fits (draw_fits m.ledger.stream fits.stream))
 
 shows_fit : (m : CloakedMemory) (ciphers : List (ℕ × List ℕ)) (after : CloakedMemory) → MemoryFits m →
     ShownBy m ciphers after → Seals m ciphers after → ShowsFit ciphers after
@@ -114,7 +121,7 @@ shows_fit m ciphers after fits shown seals = record {
     ram = subst (λ (seen : Seen). FramesFit seen.ram) (sym shown.seen)
         (shown_frames ciphers (seen_in m) seals.sealed fits.ram);
     plain = subst (λ (plain : PageId → List ℕ). (q : PageId) → AreBytes (plain q)) (sym seals.plain) fits.plain;
-    keys = subst (λ (keys : Keys). (q : PageId) → IsBytes 16 (key_in keys q)) (sym seals.keys) fits.keys;
+    keys = subst KeysAreFit (sym seals.keys) fits.keys;
     stream = seals.stream;
     places = shown.places;
   };

@@ -1,5 +1,5 @@
 -- The opening of a run: the machine fits, and what the kernel is shown then are items of a record.
-use Rattle.std.proofs.Common.{◌≡◌, ◌∙◌, ℕ, zero, suc, ◌+◌, ◌*◌, ◌<◌, ◌≤◌, Bool, List, [], ◌∷◌, ◌++◌, length, map, filter, replicate, slice_set, slice_index_or, Option, Some, None, Ok, sym, subst, arith}
+use Rattle.std.proofs.Common.{refl, ◌≡◌, ◌∙◌, ℕ, zero, suc, ◌+◌, ◌*◌, ◌<◌, ◌≤◌, Bool, List, [], ◌∷◌, ◌++◌, length, map, filter, replicate, slice_set, slice_index_or, Option, Some, None, Ok, sym, subst, arith}
 use Rattle.std.specs.Prelude.{All, option_and_then, option_map}
 use Rattle.std.specs.List.{AllByRecursion}
 use Rattle.std.proofs.lemmas.List.{length-append, length-set, length-replicate, length-take-le}
@@ -12,14 +12,15 @@ use Rattle.cloak_model.specs.declared.image.Bundle.{Bundle}
 use Rattle.cloak_model.specs.declared.image.KernelImage.{KernelImage}
 use Rattle.cloak_model.specs.declared.image.Program.{Program}
 use Rattle.cloak_model.specs.declared.image.Segment.{Segment}
-use Rattle.cloak_model.specs.declared.item.Item.TheVariants as item
+use Rattle.cloak_model.specs.Items as item
 use Rattle.cloak_model.specs.declared.resource.Resource.{Resource}
 use Rattle.cloak_model.specs.Beginning.{Beginning, Fresh, Stored, stored_keys, opening_from}
 use Rattle.cloak_model.specs.Bundle.{IsKernelImage, IsProgramIn, IsInGrammar, key_numbers}
 use Rattle.cloak_model.specs.Cloaking.{CloakedMemory, ciphertext_of}
 use Rattle.cloak_model.specs.Contexts.{Context, started_contexts}
 use Rattle.cloak_model.specs.DomainState.{started_control, started_domain}
-use Rattle.cloak_model.specs.Ledger.{Keys, key_in, key_of, vector_of}
+use Rattle.cloak_model.specs.Sealing.{Sealing, Chained, sealed_by}
+use Rattle.cloak_model.specs.Ledger.{Keys, key_in, key_of, next_vector}
 use Rattle.cloak_base.specs.Constants.{frame_of, place_of}
 use Rattle.cloak_model.specs.Memory.{zero_ram, with_byte, with_bytes}
 use Rattle.cloak_model.specs.Opening.{key_count, drawn_keys, filled_up, groups, keys_for, with_segments, started_harts, numbers_below, started_ledger, started_kernel, started_memory, program_page, place_pages, place_programs, started_domains, started_joint, is_placed, opening_items, RunEdge}
@@ -33,7 +34,7 @@ use Rattle.range_law.proofs.Bounds.{all_take, all_drop, all_set, all_replicate, 
 use Rattle.range_law.proofs.Ciphers.{MayDraw, draw_fits, as_block, block_bytes, SealedFits, sealed_fits}
 use Rattle.range_law.proofs.Controls.{SlotFits}
 use Rattle.range_law.proofs.Harts.{HartFits, started_fits}
-use Rattle.range_law.proofs.Memories.{MemoryFits, frame_set, zero_page_fits}
+use Rattle.range_law.proofs.Memories.{KeysAreFit, MemoryFits, frame_set, zero_page_fits}
 use Rattle.range_law.proofs.Programs.{new_context_fits}
 use Rattle.range_law.proofs.Turns.{ProgramFits, JointFits}
 use Rattle.cloak_base.proofs.Choices.{either}
@@ -121,7 +122,7 @@ filled_long x xs =
 -- four keys, for the programs of an image
 four_fit : (frames : ℕ) (programs : List Program) (keys : List (List ℕ)) →
     AllByRecursion (IsProgramIn frames) programs → length keys ≡ 4 → All (IsBytes 16) keys → (q : PageId) →
-    IsBytes 16 (key_in (record { numbered = keys; group = groups programs }) q)
+    IsBytes 16 (key_in (record { numbered = keys; group = groups programs; seal = Chained }) q)
 four_fit frames programs keys are long all q =
     let IsNumber : ℕ → Type 0 = λ k. k ≤ key_numbers.high in
     let numbers : List ℕ = map (λ (p : Program). p.key) programs in
@@ -141,7 +142,7 @@ keys_fit frames programs drawn are all =
 
 -- The keys of a run, and the stream after them.
 record BeginsFit (keys : Keys) (rest : Random) : Type 0 where
-  pub blocks : (q : PageId) → IsBytes 16 (key_in keys q)
+  pub blocks : KeysAreFit keys
   pub stream : IsStreamOfBytes rest
 
 begins_fit : (b : Bundle) (from : Beginning) (keys : Keys) (rest : Random) → IsInGrammar b → IsBeginningOfBytes b from →
@@ -151,16 +152,16 @@ begins_fit b (Fresh stream) keys rest grammar all has =
     let draws = subst MayDrawKeys has.draws (drawn_fit (key_count b.programs) stream all) in
     let are = by_recursion (IsProgramIn frames) b.programs grammar.programs in
     record {
-      blocks = subst (λ (k : Keys). (q : PageId) → IsBytes 16 (key_in k q)) (sym has.are)
-          (keys_fit frames b.programs has.drawn are draws.keys);
+      blocks = subst KeysAreFit (sym has.are)
+          (record { blocks = keys_fit frames b.programs has.drawn are draws.keys; chained = refl });
       stream = draws.rest;
     }
 begins_fit b (Stored handed stream files) keys rest grammar all has =
     let frames : ℕ = b.kernel.frames in
     let are = by_recursion (IsProgramIn frames) b.programs grammar.programs in
     record {
-      blocks = subst (λ (k : Keys). (q : PageId) → IsBytes 16 (key_in k q)) (sym has.are)
-          (four_fit frames b.programs handed are all.four_keys.four all.four_keys.whole);
+      blocks = subst KeysAreFit (sym has.are)
+          (record { blocks = four_fit frames b.programs handed are all.four_keys.four all.four_keys.whole; chained = refl });
       stream = subst IsStreamOfBytes (sym has.stays) all.bytes;
     }
 
@@ -183,7 +184,7 @@ page_bytes [] all = tt
 page_bytes (page ∷ ram) all = (all.0.bytes, page_bytes ram all.1)
 
 started_fits_memory : (k : KernelImage) (keys : Keys) (rest : Random) → IsKernelImage k →
-    AllByRecursion (λ (s : Segment). AreBytes s.bytes) k.segments → ((q : PageId) → IsBytes 16 (key_in keys q)) →
+    AllByRecursion (λ (s : Segment). AreBytes s.bytes) k.segments → KeysAreFit keys →
     IsStreamOfBytes rest → OpenFits (started_memory k keys rest)
 unfolding started_memory started_kernel started_ledger
 started_fits_memory k keys rest image segments blocks stream =
@@ -212,7 +213,8 @@ placed_fits q f bytes None m fits all draws = tt
 placed_fits q f bytes (Some draw) m fits all draws =
     let c : List ℕ = ciphertext_of m.ledger q draw.0 bytes in
     let key : List ℕ = key_of m.ledger q in
-    let sealed = sealed_fits key draw.0 bytes (fits.memory.keys q) (block_bytes 16 draw.0 draws.bytes) all in
+    let sealed : SealedFits c = subst (λ (s : Sealing). SealedFits (sealed_by s key draw.0 bytes)) (sym fits.memory.keys.chained)
+    (sealed_fits key draw.0 bytes (fits.memory.keys.blocks q) (block_bytes 16 draw.0 draws.bytes) all) in
     record {
       memory = record {
         ram = frame_set m.ram f c fits.memory.ram sealed.bytes;
@@ -228,7 +230,7 @@ place_fits : (q : PageId) (f : ℕ) (bytes : List ℕ) (m : CloakedMemory) → O
     MayOpen (place q f bytes m)
 unfolding place
 place_fits q f bytes m fits all =
-    placed_fits q f bytes (vector_of m.ledger q) m fits all (draw_fits m.ledger.stream fits.memory.stream)
+    placed_fits q f bytes (next_vector m.ledger) m fits all (draw_fits m.ledger.stream fits.memory.stream)
 
 and_then_fits : (o : Option CloakedMemory) (next : CloakedMemory → Option CloakedMemory) → MayOpen o →
     ((m : CloakedMemory) → OpenFits m → MayOpen (next m)) → MayOpen (option_and_then next o)

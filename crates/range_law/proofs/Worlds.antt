@@ -15,7 +15,7 @@ use Rattle.cloak_model.specs.declared.access.Access.{Access}
 use Rattle.cloak_model.specs.declared.access.Walked.{Walked}
 use Rattle.cloak_model.specs.declared.answer.Answer.{Answer}
 use Rattle.cloak_model.specs.declared.answer.Answer.TheVariants as answer
-use Rattle.cloak_model.specs.declared.item.Item.{Item}
+use Rattle.cloak_model.specs.Items.{Item}
 use Rattle.cloak_model.specs.Ask.{ask_word, ask_walk, ask_in_ram, ask_translate, ask_led, opened, ask_count, ask_value, ask_store, loaded_at, ask_load, stored_to, ask_store_at, ask_mark, ask_unmark, ask_marked, reserved_at, ask_reserve, is_reserved, stored_value, stored_if, conditional_at, ask_store_conditional, combined_at, ask_combine, ask_frame, ask_fill}
 use Rattle.cloak_model.proofs.WalkParts.{ask_second, ask_after, ask_first}
 use Rattle.cloak_model.specs.AskPages.{answer_item, replies, if_drawn, inside_access, ask_led_inside, is_store, offered_by, ask_offer, reached, reach_by_table, get_at, got, get_by_table, put_at, stored_inside, put_by_table, settled_if_marked, clear_from, ask_reach, ask_read, ask_write, ask_get, ask_put, ask_clear, ask_copy, ask_forget}

@@ -3,7 +3,8 @@ use Rattle.std.proofs.Common.{◌≡◌, ◌<◌, ◌-◌, ◌^◌, ℕ, List, O
 use Rattle.io_traits.specs.Told.{SameFiles, Grows, GrowsByFront, Rose}
 use Rattle.cloak_model.specs.declared.image.Bundle.{Bundle}
 use Rattle.cloak_model.specs.declared.image.Program.{Program}
-use Rattle.cloak_model.specs.declared.item.Item.{Item}
+use Rattle.cloak_model.specs.Items.{Item}
+use Rattle.cloak_model.specs.DomainAlone.{started_part}
 use Rattle.command_words.specs.Command as spec
 use Rattle.command_parts.specs.declared.refusal.Refusal.{Refusal}
 use Rattle.command_parts.specs.declared.refusal.Refusal.TheVariants as refusal
@@ -152,8 +153,8 @@ pub solo_answers : {S O : Type 0} {asked : spec.Asked} {name : List ℕ} {bundle
     {before mid after : Outside S O} {given : Status} → AsksSolo asked before.files.held name bundle d p →
     SameFiles before.files.held mid.files.held → mid.files.reading ≡ before.files.reading →
     mid.output ≡ before.output → OnlyShows before after → before.output.faults < 2 ^ 64 - 1 →
-    ShowsRecord (program_unfit d bundle.kernel p) (program_text d bundle.kernel p) name given mid after →
-    SoloAnswers asked before after given
+    ShowsRecord (program_unfit d bundle.kernel (started_part d p)) (program_text d bundle.kernel (started_part d p)) name
+    given mid after → SoloAnswers asked before after given
 solo_answers {S} {O} {asked} {name} {bundle} {d} {p} {before} {mid} {after} {given} asks held reading output only low
     (inl reads) =
     let r = reads_since before mid after held reading output reads in
@@ -164,8 +165,8 @@ solo_answers {S} {O} {asked} {name} {bundle} {d} {p} {before} {mid} {after} {giv
       d = d;
       p = p;
       asks = asks;
-      reads = subst (λ (x : Status). ReadsRecord (program_unfit d bundle.kernel p) (program_text d bundle.kernel p) name x
-          before after) r.status r;
+      reads = subst (λ (x : Status). ReadsRecord (program_unfit d bundle.kernel (started_part d p))
+          (program_text d bundle.kernel (started_part d p)) name x before after) r.status r;
       only = only;
     }))
 solo_answers {S} {O} {asked} {name} {bundle} {d} {p} {before} {mid} {after} {given} asks held reading output only low

@@ -1,6 +1,6 @@
 -- Items that a reader finds one after another.
 use Rattle.std.proofs.Common.{◌≡◌, ◌<◌, ◌≤◌, ◌^◌, ℕ, List, [], ◌∷◌, ◌++◌, length, Option, Some, None, Result, Ok, Err, refl, sym, subst, arith, length-append}
-use Rattle.cloak_model.specs.declared.item.Item.{Item}
+use Rattle.cloak_model.specs.Items.{Item}
 use Rattle.record_reader.specs.Ahead.{readable}
 use Rattle.record_reader.specs.Reading.{IsBehind, reader_offset}
 use Rattle.record_reader.specs.declared.reader.Reader.{Reader}

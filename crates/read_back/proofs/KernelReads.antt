@@ -1,7 +1,7 @@
 -- A kernel that runs alone takes the items of a record, one after another.
 use Rattle.std.proofs.Common.{◌≡◌, ◌<◌, ◌^◌, ℕ, Bool, true, false, List, [], ◌∷◌, ◌++◌, length, Option, Some, None, Result, Ok, Err, refl, sym, ap, subst, ◌∙◌, arith, length-append}
 use Rattle.cloak_model.specs.declared.image.KernelImage.{KernelImage}
-use Rattle.cloak_model.specs.declared.item.Item.{Item}
+use Rattle.cloak_model.specs.Items.{Item}
 use Rattle.cloak_model.specs.Exchange.{Piece, shown, Emits, shown_each}
 use Rattle.cloak_model.proofs.Emitting.{emits_none, emits_then}
 use Rattle.cloak_model.specs.KernelAlone as model

@@ -1,4 +1,5 @@
 pub mod Answered
+pub mod AnsweredOver
 pub mod ItemsRead
 pub mod KernelReads
 pub mod Lines

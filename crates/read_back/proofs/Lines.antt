@@ -2,7 +2,7 @@
 use Rattle.std.proofs.Common.{◌≡◌, ℕ, List, Option, Some, None, Result, refl}
 use Rattle.cloak_base.specs.declared.causes.Failed.{Failed}
 use Rattle.io_traits.specs.Told.{Puts}
-use Rattle.cloak_model.specs.declared.item.Item.{Item}
+use Rattle.cloak_model.specs.Items.{Item}
 use Rattle.read_back.specs.Reading.{FitsAs}
 use Rattle.read_back.specs.Text.{fault_line, lines_or_fault}
 use Rattle.read_back.specs.declared.ending.Ending.{Ending}

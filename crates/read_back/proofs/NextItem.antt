@@ -2,24 +2,23 @@
 use Rattle.std.proofs.Common.{◌≡◌, ℕ, inl, inr, List, [], ◌∷◌, ◌++◌, Option, Some, None, IfSome, Result, Ok, Err, ap, subst, ◌∙◌}
 use Rattle.io_traits.specs.Told.{Rose}
 use Rattle.io_traits.proofs.ToldFacts.{Rose-after}
-use Rattle.cloak_model.specs.declared.item.Item.{Item}
-use Rattle.cloak_model.specs.declared.record.Tag.{Tag}
+use Rattle.cloak_model.specs.declared.item.Item as code
+use Rattle.cloak_model.specs.Items.{Item}
 use Rattle.cloak_model.specs.declared.fault.RecordFault.{RecordFault}
 use Rattle.cloak_model.specs.Record.{IsRecord}
 use Rattle.record_reader.specs.Ahead.{readable}
 use Rattle.record_reader.specs.Reading.{IsBehind, ReadsNext, ReadsCount, HasFaultAt, item_read}
 use Rattle.record_reader.specs.declared.fault.NextFault.{NextFault}
 use Rattle.record_reader.specs.declared.fault.NextFault.TheVariants.{Read, Record}
-use Rattle.record_reader.specs.declared.kept.KeptItems.{KeptItems}
 use Rattle.record_reader.specs.declared.reader.Reader.{Reader}
 use Rattle.read_back.specs.Reading.{BeginsWith}
 use Rattle.std.proofs.lemmas.Option.{IfSome_then}
 
--- what a call of `next` says of a file, with the items that its caller keeps
-abbrev pub TellsNext : Option (List ℕ) → Reader → Reader → Result (Option Tag) NextFault → KeptItems → Type 0
-TellsNext told was now result kept =
+-- what a call of `next` says of a file
+abbrev pub TellsNext : Option (List ℕ) → Reader → Reader → Result (Option code.Item) NextFault → Type 0
+TellsNext told was now result =
     IfSome told (λ bytes. (front : List Item) → IsBehind was (readable bytes) front →
-    ReadsNext (readable bytes) front now (item_read result kept))
+    ReadsNext (readable bytes) front now (item_read result))
 
 -- a file that is told, and not told
 told_by : (told told' : Option (List ℕ)) (P Q : List ℕ → Type 0) → told' ≡ told → IfSome told P →
@@ -29,44 +28,42 @@ told_by (Some bytes) told' P Q same behind next =
 told_by None told' P Q same behind next = tt
 
 -- what a result that is this one says after these items
-at_front : (now : Option (List ℕ)) (was next : Reader) (r : Result (Option Tag) NextFault) (kept : KeptItems)
-    (s : Result (Option Item) NextFault) (items : List Item) → item_read r kept ≡ s → TellsNext now was next r kept →
+at_front : (now : Option (List ℕ)) (was next : Reader) (r : Result (Option code.Item) NextFault)
+    (s : Result (Option Item) NextFault) (items : List Item) → item_read r ≡ s → TellsNext now was next r →
     IfSome now (λ bytes. IsBehind was (readable bytes) items → ReadsNext (readable bytes) items next s)
-at_front (Some bytes) was next r kept s items is tells = λ behind.
+at_front (Some bytes) was next r s items is tells = λ behind.
     subst (λ (x : Result (Option Item) NextFault). ReadsNext (readable bytes) items next x) is (tells items behind)
-at_front None was next r kept s items is tells = tt
+at_front None was next r s items is tells = tt
 
-next_read : (told now : Option (List ℕ)) (was next : Reader) (r : Result (Option Tag) NextFault) (kept : KeptItems)
-    (s : Result (Option Item) NextFault) → now ≡ told → item_read r kept ≡ s → TellsNext now was next r kept →
+next_read : (told now : Option (List ℕ)) (was next : Reader) (r : Result (Option code.Item) NextFault)
+    (s : Result (Option Item) NextFault) → now ≡ told → item_read r ≡ s → TellsNext now was next r →
     (items : List Item) → IfSome told (λ bytes. IsBehind was (readable bytes) items) →
     IfSome told (λ bytes. ReadsNext (readable bytes) items next s)
-next_read told now was next r kept s same is tells items behind =
+next_read told now was next r s same is tells items behind =
     told_by told now (λ bytes. IsBehind was (readable bytes) items) (λ bytes. ReadsNext (readable bytes) items next s) same
-    behind (at_front now was next r kept s items is tells)
+    behind (at_front now was next r s items is tells)
 
-pub next_item : (told now : Option (List ℕ)) (was next : Reader) (r : Result (Option Tag) NextFault) (kept : KeptItems)
-    (i : Item) → now ≡ told → item_read r kept ≡ Ok (Some i) → TellsNext now was next r kept → (items : List Item) →
+pub next_item : (told now : Option (List ℕ)) (was next : Reader) (r : Result (Option code.Item) NextFault)
+    (i : Item) → now ≡ told → item_read r ≡ Ok (Some i) → TellsNext now was next r → (items : List Item) →
     IfSome told (λ bytes. IsBehind was (readable bytes) items) →
     IfSome told (λ bytes. IsBehind next (readable bytes) (items ++ i ∷ []))
-next_item told now was next r kept i same is tells items behind =
-    IfSome_then told (next_read told now was next r kept (Ok (Some i)) same is tells items behind)
+next_item told now was next r i same is tells items behind =
+    IfSome_then told (next_read told now was next r (Ok (Some i)) same is tells items behind)
     (λ bytes read. read.behind)
 
-pub next_none : (told now : Option (List ℕ)) (was next : Reader) (r : Result (Option Tag) NextFault)
-    (kept : KeptItems) → now ≡ told → r ≡ Ok None → TellsNext now was next r kept → (items : List Item) →
+pub next_none : (told now : Option (List ℕ)) (was next : Reader) (r : Result (Option code.Item) NextFault) → now ≡ told → r ≡ Ok None → TellsNext now was next r → (items : List Item) →
     IfSome told (λ bytes. IsBehind was (readable bytes) items) →
     IfSome told (λ bytes. IsRecord (readable bytes) items)
-next_none told now was next r kept same is tells items behind =
-    IfSome_then told (next_read told now was next r kept (Ok None) same
-    (ap (λ x. item_read x kept) is) tells items behind) (λ bytes read. read.answer)
+next_none told now was next r same is tells items behind =
+    IfSome_then told (next_read told now was next r (Ok None) same
+    (ap (λ x. item_read x) is) tells items behind) (λ bytes read. read.answer)
 
-pub next_fault : (told now : Option (List ℕ)) (was next : Reader) (r : Result (Option Tag) NextFault)
-    (kept : KeptItems) (fault : RecordFault) → now ≡ told → r ≡ Err (Record fault) → TellsNext now was next r kept → (items : List Item) →
+pub next_fault : (told now : Option (List ℕ)) (was next : Reader) (r : Result (Option code.Item) NextFault) (fault : RecordFault) → now ≡ told → r ≡ Err (Record fault) → TellsNext now was next r → (items : List Item) →
     IfSome told (λ bytes. IsBehind was (readable bytes) items) →
     IfSome told (λ bytes. HasFaultAt (readable bytes) items fault)
-next_fault told now was next r kept fault same is tells items behind =
+next_fault told now was next r fault same is tells items behind =
     IfSome_then told
-    (next_read told now was next r kept (Err (Record fault)) same (ap (λ x. item_read x kept) is) tells items behind)
+    (next_read told now was next r (Err (Record fault)) same (ap (λ x. item_read x) is) tells items behind)
     (λ bytes read. read.answer)
 
 -- the file begins with the items after which a reader stands

@@ -7,12 +7,11 @@ use Rattle.io_traits.specs.Sinks.{PutsTo}
 use Rattle.io_traits.specs.Told.{Grows, GrowsByFront, Rose}
 use Rattle.io_traits.proofs.ToldFacts.{Grows-none, Grows-append, GrowsByFront-append, GrowsByFront-first, Rose-after}
 use Rattle.cloak_model.specs.declared.image.KernelImage.{KernelImage}
-use Rattle.cloak_model.specs.declared.image.Program.{Program}
 use Rattle.cloak_model.specs.Exchange.{shown_each, shown_bytes, Emits}
-use Rattle.cloak_model.specs.DomainAlone.{domain_alone}
+use Rattle.cloak_model.specs.DomainAlone.{domain_alone_from}
 use Rattle.cloak_model.specs.DomainState.{domain_line}
 use Rattle.cloak_model.specs.KernelAlone.{kernel_alone}
-use Rattle.cloak_model.specs.Parts.{KernelPart}
+use Rattle.cloak_model.specs.Parts.{DomainPart, KernelPart}
 use Rattle.cloak_model.specs.Report.{kernel_lines}
 use Rattle.alone_views.specs.declared.domain.DomainAlone.{DomainAlone}
 use Rattle.alone_views.specs.declared.kernel.KernelAlone.{KernelAlone}
@@ -163,12 +162,12 @@ view_cut {S} {O} shelf sink {k} {machine} {first} {now} {name} {s} {s'} {o} {mid
 -- `solo`
 
 pub solo_whole : {S O : Type 0} (shelf : shelves.Ghosts S) (sink : sinks.Ghosts O)
-    {d : ℕ} {k : KernelImage} {p : Program} {machine : DomainAlone} {name : List ℕ} {s s' : S} {ended : Ending}
+    {d : ℕ} {k : KernelImage} {p : DomainPart} {machine : DomainAlone} {name : List ℕ} {s s' : S} {ended : Ending}
     {given : Status} {u : Unit} (o o' : O) →
     (solos : SolosTo d k p machine (shelf.held s name) (shelf.reading_faults s) (shelf.reading_faults s')
     (Some ended)) →
     PutsTo sink o o'
-    (lines_or_fault (domain_line (domain_alone d k.schedule p solos.items).part.domain) ended) (Ok u) →
+    (lines_or_fault (domain_line (domain_alone_from d k.schedule p solos.items).part.domain) ended) (Ok u) →
     given ≡ status_of_ending ended →
     ShowsRecord (program_unfit d k p) (program_text d k p) name given (outside shelf sink s o)
     (outside shelf sink s' o')
@@ -184,12 +183,12 @@ solo_whole {S} {O} shelf sink {d} {k} {p} {machine} {name} {s} {s'} {ended} {giv
     })
 
 pub solo_cut : {S O : Type 0} (shelf : shelves.Ghosts S) (sink : sinks.Ghosts O)
-    {d : ℕ} {k : KernelImage} {p : Program} {machine : DomainAlone} {name : List ℕ} {s s' : S} {ended : Ending}
+    {d : ℕ} {k : KernelImage} {p : DomainPart} {machine : DomainAlone} {name : List ℕ} {s s' : S} {ended : Ending}
     {e : Failed} (o o' : O) →
     (solos : SolosTo d k p machine (shelf.held s name) (shelf.reading_faults s) (shelf.reading_faults s')
     (Some ended)) →
     PutsTo sink o o'
-    (lines_or_fault (domain_line (domain_alone d k.schedule p solos.items).part.domain) ended) (Err e) →
+    (lines_or_fault (domain_line (domain_alone_from d k.schedule p solos.items).part.domain) ended) (Err e) →
     ShowsRecord (program_unfit d k p) (program_text d k p) name status.WriteFault
     (outside shelf sink s o) (outside shelf sink s' o')
 solo_cut {S} {O} shelf sink {d} {k} {p} {machine} {name} {s} {s'} {ended} {e} o o' solos

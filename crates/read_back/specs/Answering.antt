@@ -4,9 +4,10 @@ use Rattle.io_traits.specs.Told.{SameFiles}
 use Rattle.cloak_model.specs.declared.image.Bundle.{Bundle}
 use Rattle.cloak_model.specs.declared.image.KernelImage.{KernelImage}
 use Rattle.cloak_model.specs.declared.image.Program.{Program}
-use Rattle.cloak_model.specs.declared.item.Item.{Item}
+use Rattle.cloak_model.specs.Items.{Item}
 use Rattle.cloak_model.specs.KernelAlone.{kernel_alone}
-use Rattle.cloak_model.specs.DomainAlone.{domain_alone}
+use Rattle.cloak_model.specs.DomainAlone.{domain_alone_from, started_part}
+use Rattle.cloak_model.specs.Parts.{DomainPart}
 use Rattle.command_words.specs.Command as spec
 use Rattle.command_parts.specs.declared.status.Status.{Status}
 use Rattle.command_parts.specs.declared.status.Status.TheVariants as status
@@ -25,11 +26,13 @@ viewed_unfit k items = (kernel_alone k items).unfit
 abbrev pub viewed_text : KernelImage → List Item → Option Ending → List ℕ
 viewed_text k items ended = view_text (kernel_alone k items).kernel ended
 
-abbrev pub program_unfit : ℕ → KernelImage → Program → List Item → Option ℕ
-program_unfit d k p items = (domain_alone d k.schedule p items).unfit
+-- of a program that begins as a part
 
-abbrev pub program_text : ℕ → KernelImage → Program → List Item → Option Ending → List ℕ
-program_text d k p items ended = solo_text (domain_alone d k.schedule p items).part ended
+abbrev pub program_unfit : ℕ → KernelImage → DomainPart → List Item → Option ℕ
+program_unfit d k p items = (domain_alone_from d k.schedule p items).unfit
+
+abbrev pub program_text : ℕ → KernelImage → DomainPart → List Item → Option Ending → List ℕ
+program_text d k p items ended = solo_text (domain_alone_from d k.schedule p items).part ended
 
 -- What is asked for.
 
@@ -74,7 +77,8 @@ pub record HasSolo {S O : Type 0} (asked : spec.Asked) (answer : Status) (before
   pub d : ℕ
   pub p : Program
   pub asks : AsksSolo asked before.files.held record_name bundle d p
-  pub reads : ReadsRecord (program_unfit d bundle.kernel p) (program_text d bundle.kernel p) record_name answer before after
+  pub reads : ReadsRecord (program_unfit d bundle.kernel (started_part d p))
+      (program_text d bundle.kernel (started_part d p)) record_name answer before after
   pub only : OnlyShows before after
 
 pub record BreaksSolo {S O : Type 0} (asked : spec.Asked) (before after : Outside S O) : Type 0 where
@@ -83,7 +87,8 @@ pub record BreaksSolo {S O : Type 0} (asked : spec.Asked) (before after : Outsid
   pub d : ℕ
   pub p : Program
   pub asks : AsksSolo asked before.files.held record_name bundle d p
-  pub breaks : BreaksOff Raised (program_unfit d bundle.kernel p) (program_text d bundle.kernel p) record_name before after
+  pub breaks : BreaksOff Raised (program_unfit d bundle.kernel (started_part d p))
+      (program_text d bundle.kernel (started_part d p)) record_name before after
   pub only : OnlyShows before after
 
 -- What each status says of `view`. Its causes exclude each other, so each comes exactly then; only want of memory may

@@ -1,12 +1,10 @@
 -- How far the items of a record are read.
 use Rattle.std.specs.Prelude.{ℕ, ◌≡◌, ◌<◌, ◌^◌, List, ◌∷◌, [], ◌++◌, length, Option, Some, None, IfSome, Result, Ok, Err}
-use Rattle.cloak_model.specs.declared.item.Item.{Item}
-use Rattle.cloak_model.specs.declared.record.Tag.{Tag}
+use Rattle.cloak_model.specs.declared.item.Item as code
+use Rattle.cloak_model.specs.Items.{Item, item_of}
 use Rattle.cloak_model.specs.Record.{IsRecord}
 use Rattle.record_reader.specs.Ahead.{readable}
-use Rattle.record_reader.specs.Kept.{kept_item}
 use Rattle.record_reader.specs.Reading.{HasFaultAt, IsBehind}
-use Rattle.record_reader.specs.declared.kept.KeptItems.{KeptItems}
 use Rattle.record_reader.specs.declared.reader.Reader.{Reader}
 use Rattle.read_back.specs.Reading.{IsReadTo, ReadsAs, never_unfit}
 use Rattle.read_back.specs.declared.ending.Ending.{Ending}
@@ -24,10 +22,10 @@ Finds told now items (Err (ending.Fault fault)) = IfSome told (λ bytes. HasFaul
 Finds told now items (Err (ending.Unfit step)) = ⊥
 Finds told now items (Err ending.Unread) = Unit {0}
 
--- the item of a tag is the one that is kept
-abbrev pub found_item : Result Tag Ending → KeptItems → Result Item Ending
-found_item (Ok t) kept = Ok (kept_item t kept)
-found_item (Err ended) kept = Err ended
+-- what was found, as the definitions speak of it
+abbrev pub found_item : Result code.Item Ending → Result Item Ending
+found_item (Ok i) = Ok (item_of i)
+found_item (Err ended) = Err ended
 
 -- what finding did to the count of reading faults
 abbrev pub CountsFound : {A : Type 0} → ℕ → ℕ → Result A Ending → Type 0

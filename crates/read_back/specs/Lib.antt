@@ -4,3 +4,5 @@ pub mod Text
 pub mod Screen
 pub mod Viewing
 pub mod Answering
+pub mod Over
+pub mod AnsweringOver

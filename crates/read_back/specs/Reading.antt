@@ -2,7 +2,7 @@
 -- that does not fit, or the first fault of the file.
 use Rattle.std.specs.Prelude.{ℕ, ◌≡◌, ◌⊎◌, List, [], ◌∷◌, ◌++◌, Option, Some, None, IfSome}
 use Rattle.io_traits.specs.Told.{Grows, GrowsByFront, Rose}
-use Rattle.cloak_model.specs.declared.item.Item.{Item}
+use Rattle.cloak_model.specs.Items.{Item}
 use Rattle.cloak_model.specs.Record.{IsRecord}
 use Rattle.cloak_model.specs.RecordFault.{Begins}
 use Rattle.record_reader.specs.Ahead.{readable}

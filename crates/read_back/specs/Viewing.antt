@@ -1,12 +1,12 @@
 -- How far a record is read by a machine, and what the machine and the screen then are.
-use Rattle.std.specs.Prelude.{ℕ, ◌≡◌, ◌<◌, ◌≤◌, ◌^◌, true, List, length, Option, Some, None, Result, Ok, Err}
+use Rattle.std.specs.Prelude.{ℕ, ◌≡◌, ◌<◌, ◌≤◌, ◌^◌, true, List, [], length, Option, Some, None, Result, Ok, Err}
 use Rattle.io_traits.specs.declared.sink.Sink as sinks
 use Rattle.cloak_model.specs.declared.image.KernelImage.{KernelImage}
-use Rattle.cloak_model.specs.declared.image.Program.{Program}
-use Rattle.cloak_model.specs.declared.item.Item.{Item}
+use Rattle.cloak_model.specs.Parts.{DomainPart}
+use Rattle.cloak_model.specs.Items.{Item}
 use Rattle.cloak_model.specs.Exchange.{Piece, Emits, shown_each}
 use Rattle.cloak_model.specs.KernelAlone.{kernel_alone, opened_kernel}
-use Rattle.cloak_model.specs.DomainAlone.{domain_alone, opened_domain}
+use Rattle.cloak_model.specs.DomainAlone.{domain_alone_from, opened_with_part}
 use Rattle.alone_views.specs.declared.kernel.KernelAlone.{KernelAlone}
 use Rattle.alone_views.specs.declared.domain.DomainAlone.{DomainAlone}
 use Rattle.alone_views.specs.KernelStanding.{StandsForKernel}
@@ -53,21 +53,26 @@ pub record TookInView {O : Type 0} (sink : sinks.Ghosts O) (first now : Viewing 
   pub same_out : now.screen.now.out.ghost_name ≡ first.screen.now.out.ghost_name
 
 -- these items were given to a program alone, and reading ended so with the last of them, or goes on
-pub record ProgramItems (d : ℕ) (k : KernelImage) (p : Program) (machine : DomainAlone) (items : List Item)
+pub record ProgramItems (d : ℕ) (k : KernelImage) (p : DomainPart) (machine : DomainAlone) (items : List Item)
     (ended : Option Ending) : Type 0 where
   pub fits : FitsAs (program_unfit d k p) items ended
-  pub stands : StandsForDomain d k.schedule machine (domain_alone d k.schedule p items)
+  pub stands : StandsForDomain d k.schedule machine (domain_alone_from d k.schedule p items)
 
 -- and its loads can be counted
-pub record SolosItems (d : ℕ) (k : KernelImage) (p : Program) (machine : DomainAlone) (items : List Item)
+pub record SolosItems (d : ℕ) (k : KernelImage) (p : DomainPart) (machine : DomainAlone) (items : List Item)
     (ended : Option Ending) : Type 0 where
   pub given : ProgramItems d k p machine items ended
-  pub few : length (domain_alone d k.schedule p items).part.domain.loads ≤ length items
+  pub few : length (domain_alone_from d k.schedule p items).part.domain.loads ≤ length items
+
+-- A program that has completed no load begins as this part.
+pub record Begins (d : ℕ) (k : KernelImage) (p : DomainPart) (machine : DomainAlone) : Type 0 where
+  pub stands : StandsForDomain d k.schedule machine (opened_with_part p)
+  pub no_loads : p.domain.loads ≡ []
 
 -- what becomes of a program with these items
 abbrev pub TookAlone : DomainAlone → DomainAlone → List Item → Result (Unit {0}) Unfit → Type 0
 TookAlone first now items given =
-    (d : ℕ) (k : KernelImage) (p : Program) → StandsForDomain d k.schedule first (opened_domain d p) →
+    (d : ℕ) (k : KernelImage) (p : DomainPart) → Begins d k p first →
     SolosItems d k p now items (unfit_ends given)
 
 -- the kernel alone was given the items of a record, and showed its console
@@ -81,10 +86,10 @@ pub record ViewsTo {E : Type 0} (gave : E → E → List Piece → Type 0) (e e'
   pub few : length (kernel_alone k items).kernel.console < 2 ^ 64
 
 -- a program alone was given the items of a record
-pub record SolosTo (d : ℕ) (k : KernelImage) (p : Program) (machine : DomainAlone) (told : Option (List ℕ))
+pub record SolosTo (d : ℕ) (k : KernelImage) (p : DomainPart) (machine : DomainAlone) (told : Option (List ℕ))
     (reading reads : ℕ) (ended : Option Ending) : Type 0 where
   pub items : List Item
   pub read : IsReadTo (program_unfit d k p) told reading reads items ended
-  pub stands : StandsForDomain d k.schedule machine (domain_alone d k.schedule p items)
+  pub stands : StandsForDomain d k.schedule machine (domain_alone_from d k.schedule p items)
   -- so its loads can be counted
-  pub few : length (domain_alone d k.schedule p items).part.domain.loads < 2 ^ 64
+  pub few : length (domain_alone_from d k.schedule p items).part.domain.loads < 2 ^ 64

@@ -1,28 +1,28 @@
 //! The items of a record, one after another, up to where reading ends. All tools read records by these calls.
+ghost use Rattle.cloak_model.specs.Items.{item_of};
 ghost use Rattle.std.specs.Prelude.{◌≡◌, ◌<◌, ◌-◌, ◌^◌, ◌++◌, [], ◌∷◌, List, Result, Ok, IfOk, length};
-ghost use Rattle.cloak_model.specs.declared.item.Item.{Item};
+ghost use Rattle.cloak_model.specs.Items.{Item as AnyItem};
 ghost use Rattle.cloak_model.specs.Record.{IsItem};
 ghost use Rattle.io_traits.specs.Told.{SameFiles};
-ghost use Rattle.record_reader.specs.Kept.{kept_item};
 ghost use Rattle.record_reader.specs.Reading.{reader_offset};
 ghost use Rattle.read_back.specs.Items.{CountsFound, Finds, ReadsItems, StandsAt, found_item};
 
 use crate::ending::Ending;
-use cloak_model::{Item, Tag};
+use cloak_model::Item;
 use io_traits::Shelf;
-use record_reader::{KeptItems, NextFault, Reader};
+use record_reader::{NextFault, Reader};
 
-/// The tag of a record's next item, which then stands in its place among those that are kept; or how reading ended: at the
-/// record's end, at its first fault, or by a fault of reading.
-pub fn next_item<S: Shelf>(
+/// A record's next item, of which a page is lent from the room; or how reading ended: at the record's end, at its first
+/// fault, or by a fault of reading.
+pub fn next_item<'p, S: Shelf>(
     reader: &mut Reader<'_>,
     shelf: &mut S,
-    kept: &mut KeptItems,
-) -> Result<Tag, Ending>
+    room: &'p mut [u8; 4096],
+) -> Result<Item<'p>, Ending>
     requires { S.is_settled shelf.old }
-    ensures next { (items : List Item) → StandsAt (S.held shelf.old reader.old.name.now) reader.old items →
-        Finds (S.held shelf.old reader.old.name.now) reader.new items (found_item result kept.new) }
-    ensures item { IfOk result (λ t. IsItem (kept_item t kept.new)) }
+    ensures next { (items : List AnyItem) → StandsAt (S.held shelf.old reader.old.name.now) reader.old items →
+        Finds (S.held shelf.old reader.old.name.now) reader.new items (found_item result) }
+    ensures item { IfOk result (λ i. IsItem (item_of i)) }
     ensures counts { CountsFound (S.reading_faults shelf.old) (S.reading_faults shelf.new) result }
     ensures moves { IfOk result (λ t. reader_offset reader.old < reader_offset reader.new) }
     ensures within { reader_offset reader.new < 2 ^ 64 }
@@ -31,8 +31,8 @@ pub fn next_item<S: Shelf>(
     ensures writing { S.writing_faults shelf.new ≡ S.writing_faults shelf.old }
     ensures settled { S.is_settled shelf.new }
 {
-    match reader.next(shelf, kept) {
-        Ok(Some(tag)) => Ok(tag),
+    match reader.next(shelf, room) {
+        Ok(Some(item)) => Ok(item),
         Ok(None) => Err(Ending::Whole),
         Err(NextFault::Read) => Err(Ending::Unread),
         Err(NextFault::Record(fault)) => Err(Ending::Fault(fault)),
@@ -45,12 +45,12 @@ pub trait TakeItems {
     type Stop;
 
     /// From an earlier state to a later one it took these items, and returned this of the last.
-    ghost took: { Self → Self → List Item → Result (Unit {0}) Self.Stop → Type 0 };
+    ghost took: { Self → Self → List AnyItem → Result (Unit {0}) Self.Stop → Type 0 };
 
-    fn take_item(&mut self, item: &Item) -> Result<(), Self::Stop>
-        requires { IsItem item.now }
-        ensures { (first : Self) (before : List Item) → length before < 2 ^ 64 - 1 → took first self.old before (Ok tt) →
-            took first self.new (before ++ item.now ∷ []) result };
+    fn take_item(&mut self, item: &Item<'_>) -> Result<(), Self::Stop>
+        requires { IsItem (item_of item.now) }
+        ensures { (first : Self) (before : List AnyItem) → length before < 2 ^ 64 - 1 → took first self.old before (Ok tt) →
+            took first self.new (before ++ (item_of item.now) ∷ []) result };
 }
 
 /// Gives the items of a record to a taker, up to where reading ends or the taker takes no more.
@@ -68,13 +68,13 @@ pub fn for_each_item<S: Shelf, T: TakeItems>(
     ensures settled { S.is_settled shelf.new }
 {
     let mut reader = Reader::open(name);
-    let mut kept = KeptItems::new();
+    let mut room = [0; 4096];
     loop {
-        let item = match next_item(&mut reader, shelf, &mut kept) {
-            Ok(tag) => kept.item(tag),
+        let item = match next_item(&mut reader, shelf, &mut room) {
+            Ok(item) => item,
             Err(ending) => return Ok(ending),
         };
-        if let Err(stop) = taker.take_item(item) {
+        if let Err(stop) = taker.take_item(&item) {
             return Err(stop);
         }
     }

@@ -16,13 +16,8 @@ impl<'o, O: Sink> Emit for Screen<'o, O> {
 
     ghost gave = { GaveScreen O.Sink };
 
-    fn item(&mut self, i: &Item) {
+    fn item(&mut self, i: &Item<'_>) {
         let _ = i;
-    }
-
-    fn cipher(&mut self, frame: u32, bytes: &[u8; 4096]) {
-        let _ = frame;
-        let _ = bytes;
     }
 
     fn console(&mut self, b: u8) {

@@ -3,7 +3,7 @@ ghost use Rattle.std.specs.Prelude.{◌≡◌, ◌<◌, ◌-◌, ◌^◌, ℕ, L
 ghost use Rattle.io_traits.specs.Sinks.{PutsTo};
 ghost use Rattle.io_traits.specs.Told.{SameFiles};
 ghost use Rattle.cloak_model.specs.declared.image.KernelImage.{KernelImage};
-ghost use Rattle.cloak_model.specs.declared.image.Program.{Program};
+ghost use Rattle.cloak_model.specs.Parts.{DomainPart};
 ghost use Rattle.cloak_model.specs.DomainAlone as model;
 ghost use Rattle.command_words.specs.Request.{asked_of_solo};
 ghost use Rattle.alone_views.specs.DomainStanding.{StandsForDomain};
@@ -12,7 +12,7 @@ ghost use Rattle.cloak_model.specs.DomainState.{domain_line};
 ghost use Rattle.read_back.specs.Answering.{SoloAnswers, program_text, program_unfit};
 ghost use Rattle.read_back.specs.Reading.{ShowsRecord};
 ghost use Rattle.read_back.specs.Text.{lines_or_fault};
-ghost use Rattle.read_back.specs.Viewing.{SolosTo};
+ghost use Rattle.read_back.specs.Viewing.{Begins, SolosTo};
 
 use crate::ending::{Ending, show_fault, status};
 use crate::items::{TakeItems, for_each_item};
@@ -31,7 +31,7 @@ impl TakeItems for DomainAlone {
 
     ghost took = { TookAlone };
 
-    fn take_item(&mut self, item: &Item) -> Result<(), Unfit> {
+    fn take_item(&mut self, item: &Item<'_>) -> Result<(), Unfit> {
         self.take(item)
     }
 }
@@ -40,8 +40,7 @@ impl TakeItems for DomainAlone {
 /// returns how reading ended.
 fn read_program<S: Shelf>(program: &mut DomainAlone, name: &str, shelf: &mut S) -> Ending
     requires settled { S.is_settled shelf.old }
-    ensures solos { (d : ℕ) (k : KernelImage) (p : Program) →
-        StandsForDomain d k.schedule program.old (model.opened_domain d p) →
+    ensures solos { (d : ℕ) (k : KernelImage) (p : DomainPart) → Begins d k p program.old →
         SolosTo d k p program.new (S.held shelf.old name.now)
         (S.reading_faults shelf.old) (S.reading_faults shelf.new) (Some result) }
     ensures files { SameFiles (S.held shelf.old) (S.held shelf.new) }
@@ -66,7 +65,7 @@ fn show_end<O: Sink>(program: DomainAlone, ending: &Ending, out: &mut O) -> Resu
 }
 
 /// Reads a record back with a program that runs alone.
-fn solo_record<S: Shelf, O: Sink>(
+pub(crate) fn solo_record<S: Shelf, O: Sink>(
     program: DomainAlone,
     name: &str,
     shelf: &mut S,
@@ -74,8 +73,7 @@ fn solo_record<S: Shelf, O: Sink>(
 ) -> Status
     requires settled { S.is_settled shelf.old }
     requires output { O.faults out.old < 2 ^ 64 - 1 }
-    ensures shows { (d : ℕ) (k : KernelImage) (p : Program) →
-        StandsForDomain d k.schedule program (model.opened_domain d p) →
+    ensures shows { (d : ℕ) (k : KernelImage) (p : DomainPart) → Begins d k p program →
         ShowsRecord (program_unfit d k p) (program_text d k p) name.now result
         (outside S.Shelf O.Sink shelf.old out.old) (outside S.Shelf O.Sink shelf.new out.new) }
     ensures files { SameFiles (S.held shelf.old) (S.held shelf.new) }

@@ -40,7 +40,7 @@ impl<'a, 'o, O: Sink> TakeItems for Viewing<'a, 'o, O> {
 
     ghost took = { TookInView O.Sink };
 
-    fn take_item(&mut self, item: &Item) -> Result<(), Option<Unfit>> {
+    fn take_item(&mut self, item: &Item<'_>) -> Result<(), Option<Unfit>> {
         if let Err(unfit) = self.kernel.take(item, self.screen) {
             return Err(Some(unfit));
         }

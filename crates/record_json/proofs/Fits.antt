@@ -1,8 +1,8 @@
 -- The members of an item have numbers that JSON reads.
 use Rattle.std.proofs.Common.{◌≡◌, ◌<◌, ◌^◌, ℕ, List, [], ◌∷◌, inl, inr, arith}
 use Rattle.std.specs.List.{AllByRecursion}
-use Rattle.cloak_model.specs.declared.item.Item.{Item}
-use Rattle.cloak_model.specs.declared.item.Item.TheVariants as item
+use Rattle.cloak_model.specs.Items.{Item}
+use Rattle.cloak_model.specs.Items as item
 use Rattle.cloak_model.specs.Record.{IsWord}
 use Rattle.cloak_model.specs.Effect.{IsWidth}
 use Rattle.record_text.specs.declared.place.RecordPlace.{RecordPlace}

@@ -2,7 +2,7 @@
 use Rattle.std.proofs.Common.{◌≡◌, ℕ, List, [], ◌∷◌, ◌++◌, Option, None, Result, Ok, Err, refl, sym, ap, ◌∙◌}
 use Rattle.std.proofs.lemmas.List.Sums.{fold-append}
 use Rattle.cloak_base.specs.declared.causes.Failed.{Failed}
-use Rattle.cloak_model.specs.declared.item.Item.{Item}
+use Rattle.cloak_model.specs.Items.{Item}
 use Rattle.io_traits.specs.declared.sink.Sink as sinks
 use Rattle.read_back.specs.Items.{ReadsItems}
 use Rattle.read_back.specs.declared.ending.Ending.{Ending}

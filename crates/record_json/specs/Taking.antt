@@ -2,7 +2,7 @@
 use Rattle.std.specs.Prelude.{◌≡◌, List, Result, Ok}
 use Rattle.cloak_base.specs.declared.causes.Failed.{Failed}
 use Rattle.io_traits.specs.declared.sink.Sink as sinks
-use Rattle.cloak_model.specs.declared.item.Item.{Item}
+use Rattle.cloak_model.specs.Items.{Item}
 use Rattle.kernel_report.specs.Putting.{PutsMore, putting}
 use Rattle.record_json.specs.JsonText.{objects}
 use Rattle.record_json.specs.declared.showing.ObjectsOutput.{ObjectsOutput}

@@ -1,6 +1,7 @@
 //! An item's name and fields as members of an object.
 #![tactic(auto, unfolding(json::specs::Print::escape_byte))]
 
+ghost use Rattle.cloak_model.specs.Items.{item_of};
 ghost use Rattle.std.specs.Prelude.{◌≡◌, [], ◌∷◌, codes};
 ghost use Rattle.std.specs.List.{flat_map};
 ghost use Rattle.json.specs.Print.{escape};
@@ -109,9 +110,9 @@ fn put_resume<O: Sink>(out: &mut O, so_far: SoFar, domain: u8, ctx: u32, answer:
 
 /// The name and the fields of an item.
 #[tactic(auto, unfolding(crate::specs::Objects::item_members, json::specs::Print::escape_byte))]
-pub fn put_item_members<O: Sink>(out: &mut O, so_far: SoFar, item: &Item) -> SoFar
+pub fn put_item_members<O: Sink>(out: &mut O, so_far: SoFar, item: &Item<'_>) -> SoFar
     ensures { PutsMore (putting O.Sink out.old so_far) (putting O.Sink out.new result)
-        (flat_map next_member (spec.item_members item.now)) }
+        (flat_map next_member (spec.item_members (item_of item.now))) }
 {
     match item {
         Item::Cipher { frame, bytes } => put_cipher(out, so_far, *frame, bytes),

@@ -1,6 +1,7 @@
 //! An item as an object, on a line of its own.
 #![tactic(auto, unfolding(json::specs::Print::escape_byte))]
 
+ghost use Rattle.cloak_model.specs.Items.{item_of};
 ghost use Rattle.std.specs.Prelude.{◌≡◌, if◌then◌else◌, []};
 ghost use Rattle.json.specs.Print.{escape};
 ghost use Rattle.kernel_report.specs.Putting.{PutsMore, putting};
@@ -48,9 +49,9 @@ fn put_place<O: Sink>(out: &mut O, so_far: SoFar, place: RecordPlace) -> SoFar
 }
 
 /// An item at a place, on a line of its own.
-fn put_object<O: Sink>(out: &mut O, so_far: SoFar, place: RecordPlace, item: &Item) -> SoFar
+fn put_object<O: Sink>(out: &mut O, so_far: SoFar, place: RecordPlace, item: &Item<'_>) -> SoFar
     ensures { PutsMore (putting O.Sink out.old so_far) (putting O.Sink out.new result)
-        (spec.item_line place item.now) }
+        (spec.item_line place (item_of item.now)) }
 {
     let so_far = put_place(out, so_far, place);
     let so_far = put_item_members(out, so_far, item);
@@ -62,11 +63,11 @@ fn put_if<O: Sink>(
     out: &mut O,
     so_far: SoFar,
     place: RecordPlace,
-    item: &Item,
+    item: &Item<'_>,
     is_chosen: bool,
 ) -> SoFar
     ensures { PutsMore (putting O.Sink out.old so_far) (putting O.Sink out.new result)
-        (if is_chosen then spec.item_line place item.now else []) }
+        (if is_chosen then spec.item_line place (item_of item.now) else []) }
 {
     if is_chosen {
         put_object(out, so_far, place, item)
@@ -81,12 +82,12 @@ pub fn put_next_object<O: Sink>(
     out: &mut O,
     so_far: SoFar,
     place: RecordPlace,
-    item: &Item,
+    item: &Item<'_>,
     selection: &Selection,
 ) -> (SoFar, RecordPlace)
     ensures text { PutsMore (putting O.Sink out.old so_far) (putting O.Sink out.new result.0)
-        (spec.object_more selection.now place item.now).text }
-    ensures place { result.1 ≡ (spec.object_more selection.now place item.now).place }
+        (spec.object_more selection.now place (item_of item.now)).text }
+    ensures place { result.1 ≡ (spec.object_more selection.now place (item_of item.now)).place }
 {
     match place_marked(item) {
         Some(next) => {

@@ -26,7 +26,7 @@ impl<'a, O: Sink> TakeItems for ObjectsOutput<'a, O> {
 
     ghost took = { TookAsObjects O.Sink };
 
-    fn take_item(&mut self, item: &Item) -> Result<(), Failed> {
+    fn take_item(&mut self, item: &Item<'_>) -> Result<(), Failed> {
         let (put, next) = put_next_object(self.out, Ok(()), self.place, item, self.selection);
         self.place = next;
         put

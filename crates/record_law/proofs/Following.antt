@@ -1,8 +1,8 @@
 -- What stands after a front of a file: an item that may stand there, or what is wrong.
 use Rattle.std.proofs.Common.{◌≡◌, ℕ, suc, ◌≤◌, Bool, true, false, ◌||◌, not, ◌⊎◌, inl, inr, cond, ltb, eqb, List, [], ◌∷◌, ◌++◌, length, drop, Option, Some, None, refl, sym, ap, ◌∙◌}
 use Rattle.std.proofs.lemmas.Bool.{ltb-false, le-ltb, eqb-true}
-use Rattle.cloak_model.specs.declared.item.Item.{Item}
-use Rattle.cloak_model.specs.declared.item.Item.TheVariants as item
+use Rattle.cloak_model.specs.Items.{Item}
+use Rattle.cloak_model.specs.Items as item
 use Rattle.cloak_model.specs.Exchange.{item_bytes, byte_of}
 use Rattle.cloak_model.specs.Record.{IsItem}
 use Rattle.cloak_model.specs.declared.record.Stage.{Stage}

@@ -1,6 +1,6 @@
 -- Worked records: no step, and damaged ones.
 use Rattle.std.proofs.Common.{◌≡◌, [], ◌∷◌, Some, refl, arith}
-use Rattle.cloak_model.specs.declared.item.Item.TheVariants as item
+use Rattle.cloak_model.specs.Items as item
 use Rattle.cloak_model.specs.Exchange.{item_bytes, steps_items}
 use Rattle.cloak_model.specs.Record.{IsRecord}
 use Rattle.cloak_model.specs.declared.record.Stage.TheVariants.{Opening, Steps, Over}

@@ -1,6 +1,6 @@
 -- Once an item was unfit for a machine that runs alone, it stays so.
 use Rattle.std.proofs.Common.{◌≡◌, ℕ, List, [], ◌∷◌, ◌++◌, Some, refl}
-use Rattle.cloak_model.specs.declared.item.Item.{Item}
+use Rattle.cloak_model.specs.Items.{Item}
 use Rattle.cloak_model.specs.DomainAlone.{DomainAlone, domain_taken, take_domain_item}
 use Rattle.cloak_model.specs.KernelAlone.{KernelAlone, kernel_taken, take_kernel_item}
 

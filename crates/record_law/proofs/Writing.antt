@@ -3,8 +3,8 @@ use Rattle.std.proofs.Common.{◌≡◌, ◌∙◌, ℕ, suc, List, [], ◌∷�
 use Rattle.std.proofs.lemmas.List.{append-nil}
 use Rattle.std.specs.Prelude.{map, codes}
 use Rattle.std.specs.List.{flat_map}
-use Rattle.cloak_model.specs.declared.item.Item.{Item}
-use Rattle.cloak_model.specs.declared.item.Item.TheVariants as item
+use Rattle.cloak_model.specs.Items.{Item}
+use Rattle.cloak_model.specs.Items as item
 use Rattle.cloak_model.specs.Exchange.{Piece, shown, recorded_bytes, item_pieces, shown_each, item_bytes, steps_items, record_magic}
 use Rattle.cloak_model.specs.Joint.{Turn}
 use Rattle.cloak_model.specs.Run.{Run, turn_pieces, turns_pieces, due, record_bytes, report_of}

@@ -1,6 +1,6 @@
 -- A file is one record, or has one first fault, and never both.
 use Rattle.std.specs.Prelude.{◌≡◌, ℕ, ◌<◌, ◌⊎◌, List, slice_index}
-use Rattle.cloak_model.specs.declared.item.Item.{Item}
+use Rattle.cloak_model.specs.Items.{Item}
 use Rattle.cloak_model.specs.Record.{IsRecord}
 use Rattle.cloak_model.specs.declared.fault.RecordFault.{RecordFault}
 use Rattle.cloak_model.specs.RecordFault.{HasFault}

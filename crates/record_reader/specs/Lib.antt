@@ -1,4 +1,3 @@
 pub mod Ahead
-pub mod Kept
 pub mod Reading
 pub mod InOrder

@@ -1,7 +1,8 @@
 -- What a reader returns, and where it then stands.
 use Rattle.std.specs.Prelude.{◌≡◌, ℕ, ◌⊎◌, List, [], ◌∷◌, ◌++◌, length, drop, Option, Some, None, Result, Ok, Err}
 use Rattle.io_traits.specs.Told.{Rose}
-use Rattle.cloak_model.specs.declared.item.Item.{Item}
+use Rattle.cloak_model.specs.declared.item.Item as code
+use Rattle.cloak_model.specs.Items.{Item, item_of}
 use Rattle.cloak_model.specs.declared.record.Stage.{Stage}
 use Rattle.cloak_model.specs.declared.record.Stage.TheVariants.{Opening}
 use Rattle.cloak_model.specs.declared.record.Tag.{Tag}
@@ -12,10 +13,8 @@ use Rattle.cloak_model.specs.Record.{IsRecord}
 use Rattle.cloak_model.specs.RecordFault.{stage_behind, wrong_behind, magic_fault, Begins, IsWrong}
 use Rattle.record_reader.specs.declared.fault.NextFault.{NextFault}
 use Rattle.record_reader.specs.declared.fault.NextFault.TheVariants.{Read, Record}
-use Rattle.record_reader.specs.declared.kept.KeptItems.{KeptItems}
 use Rattle.record_reader.specs.declared.reader.Reader.{Reader}
 use Rattle.record_reader.specs.Ahead.{IsAhead, front_tag}
-use Rattle.record_reader.specs.Kept.{kept_item}
 
 -- The reader stands at the front of a file, of which it knows nothing, or after these items.
 pub record StandsBehind (at : ℕ) (stage : Stage) (bytes : List ℕ) (front : List Item) : Type 0 where
@@ -35,11 +34,11 @@ reader_offset reader = reader.at
 abbrev pub IsBehind : Reader → List ℕ → List Item → Type 0
 IsBehind reader file front = StandsBehind reader.at reader.stage file front × IsAhead reader.ahead file
 
--- what was read: an item is the kept one of its kind
-abbrev pub item_read : Result (Option Tag) NextFault → KeptItems → Result (Option Item) NextFault
-item_read (Ok (Some t)) kept = Ok (Some (kept_item t kept))
-item_read (Ok None) kept = Ok None
-item_read (Err fault) kept = Err fault
+-- what was read, as the definitions speak of it
+abbrev pub item_read : Result (Option code.Item) NextFault → Result (Option Item) NextFault
+item_read (Ok (Some i)) = Ok (Some (item_of i))
+item_read (Ok None) = Ok None
+item_read (Err fault) = Err fault
 
 abbrev pub read_so_far : List Item → Result (Option Item) NextFault → List Item
 read_so_far front (Ok (Some i)) = front ++ i ∷ []

@@ -2,6 +2,7 @@
 ghost use Rattle.std.specs.Prelude.{◌≡◌, ◌≤◌, ◌<◌, ℕ, IfOk, IfSome, length, slice_index};
 ghost use Rattle.cloak_model.specs.RecordFault as spec;
 ghost use Rattle.cloak_model.specs.Fields.{number as fields_number};
+ghost use Rattle.cloak_model.specs.Items.{item_of};
 ghost use Rattle.record_law.specs.Items as items;
 ghost use Rattle.record_reader.specs.Reading.{judged};
 
@@ -26,8 +27,8 @@ fn is_numbered(stage: Stage, tag: Tag, fields: &[u8]) -> bool
 }
 
 /// What came before the items after this one.
-pub fn stage_after(stage: Stage, item: &Item) -> Stage
-    ensures { result ≡ spec.stage_after stage item.now }
+pub fn stage_after(stage: Stage, item: &Item<'_>) -> Stage
+    ensures { result ≡ spec.stage_after stage (item_of item.now) }
 {
     match *item {
         Item::Step { number } => Stage::Steps(number),

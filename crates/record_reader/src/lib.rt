@@ -2,8 +2,8 @@
 //!
 //! The layer above may rely on this: a `Reader` returns the items of a record (`cloak_model`, `specs/Record`) one after
 //! another and then none; of any other file the items before its first fault, and then that fault (`specs/RecordFault`),
-//! as often as it is asked. It makes the item in the place of its kind among those that its caller keeps. It reads the file
-//! ahead, into a window of its own, and takes no memory.
+//! as often as it is asked. A page is copied into the caller's room, and lent from there. It reads the file ahead,
+//! into a window of its own, and takes no memory.
 //!
 //! No body changes `law_of_reading`. These changed definitions were tried on a copy, and with none of them did its
 //! proof go through: no item may be returned anywhere, not only at the record's end; a fault may be one of another
@@ -14,13 +14,11 @@ mod ahead;
 mod fault;
 mod fields;
 mod judging;
-mod kept;
 mod law;
 mod reader;
 mod reading;
 mod tags;
 
 pub use fault::NextFault;
-pub use kept::KeptItems;
 pub use law::law_of_reading;
 pub use reader::Reader;

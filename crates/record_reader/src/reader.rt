@@ -1,16 +1,18 @@
 //! The reader of a record.
 ghost use Rattle.std.specs.Prelude.{◌≡◌, ◌<◌, ◌^◌, ℕ, List, [], Some, None, Ok, IfSome, OnErr};
 ghost use Rattle.io_traits.specs.Told.{SameFiles};
-ghost use Rattle.cloak_model.specs.declared.item.Item.{Item};
-ghost use Rattle.cloak_model.specs.declared.record.Tag.{Tag};
+ghost use Rattle.cloak_model.specs.declared.item.Item as code;
+ghost use Rattle.cloak_model.specs.Items as item;
+ghost use Rattle.cloak_model.specs.Items.{item_of};
 ghost use Rattle.cloak_model.specs.Record.{IsItem};
 
+use crate::NextFault;
 use crate::ahead::Ahead;
+use crate::fields::item_in;
 use crate::judging::{fault_of, judge, stage_after};
 use crate::reading::items_from;
 use crate::tags::size_of;
-use crate::{KeptItems, NextFault};
-use cloak_model::{Stage, Tag};
+use cloak_model::{Item, Stage};
 use io_traits::Shelf;
 
 /// Reads the items of a record, one after another, from a file that stays as it is meanwhile.
@@ -27,7 +29,6 @@ impl<'a> Reader<'a> {
     ghost use Rattle.record_reader.specs.Ahead.{readable};
     ghost use Rattle.record_reader.specs.Reading.{IsBehind, ReadsNext, ReadsCount, ReadsCounts, SamePlace};
     ghost use Rattle.record_reader.specs.Reading.{item_read, reader_offset};
-    ghost use Rattle.record_reader.specs.Kept.{kept_item};
 
     /// At the front of the file of this name.
     pub fn open(name: &'a str) -> Reader<'a>
@@ -43,23 +44,21 @@ impl<'a> Reader<'a> {
         }
     }
 
-    /// Reads the next item into its place among those that are kept, and tells its kind; none after End, if the file
-    /// ends there. A fault leaves the reader where it stands.
-    pub fn next<S: Shelf>(
+    /// Reads the next item; none after End, if the file ends there. A page is lent from the room. A fault leaves the
+    /// reader where it stands.
+    pub fn next<'p, S: Shelf>(
         &mut self,
         shelf: &mut S,
-        kept: &mut KeptItems,
-    ) -> Result<Option<Tag>, NextFault>
-        ensures next { IfSome (S.held shelf.old self.old.name.now) (λ bytes. (front : List Item) →
+        room: &'p mut [u8; 4096],
+    ) -> Result<Option<Item<'p>>, NextFault>
+        ensures next { IfSome (S.held shelf.old self.old.name.now) (λ bytes. (front : List item.Item) →
             IsBehind self.old (readable bytes) front →
-            ReadsNext (readable bytes) front self.new (item_read result kept.new)) }
-        ensures item { (t : Tag) → result ≡ Ok (Some t) → IsItem (kept_item t kept.new) }
-        ensures moves { (t : Tag) → result ≡ Ok (Some t) → reader_offset self.old < reader_offset self.new }
+            ReadsNext (readable bytes) front self.new (item_read result)) }
+        ensures item { (i : code.Item) → result ≡ Ok (Some i) → IsItem (item_of i) }
+        ensures moves { (i : code.Item) → result ≡ Ok (Some i) → reader_offset self.old < reader_offset self.new }
         ensures within { reader_offset self.new < 2 ^ 64 }
         ensures same { self.new.name ≡ self.old.name }
         ensures unchanged { OnErr result (SamePlace self.old self.new) }
-        ensures kept_at_fault { OnErr result (kept.new ≡ kept.old) }
-        ensures kept_at_end { result ≡ Ok None → kept.new ≡ kept.old }
         ensures files { SameFiles (S.held shelf.old) (S.held shelf.new) }
         ensures counts { ReadsCounts (S.reading_faults shelf.old) (S.reading_faults shelf.new)
             (S.writing_faults shelf.old) (S.writing_faults shelf.new) result }
@@ -81,10 +80,10 @@ impl<'a> Reader<'a> {
             Err(wrong) => Err(NextFault::Record(fault_of(from + bytes.len() as u64, from, wrong))),
             Ok(None) => Ok(None),
             Ok(Some(tag)) => {
-                kept.set(tag, &bytes[1..]);
+                let item = item_in(tag, &bytes[1..], room);
                 self.at = from.saturating_add(1 + size_of(tag) as u64);
-                self.stage = stage_after(self.stage, kept.item(tag));
-                Ok(Some(tag))
+                self.stage = stage_after(self.stage, &item);
+                Ok(Some(item))
             }
         }
     }

@@ -1,7 +1,7 @@
 -- What a record that was shown is answered.
 use Rattle.std.proofs.Common.{◌≡◌, ℕ, List, Option, Some, Result, Ok, Err, Bool, inl, inr, refl, sym, subst}
 use Rattle.cloak_base.specs.declared.causes.Failed.{Failed}
-use Rattle.cloak_model.specs.declared.item.Item.{Item}
+use Rattle.cloak_model.specs.Items.{Item}
 use Rattle.kernel_report.specs.Putting.{PutsMore}
 use Rattle.kernel_report.proofs.PutFacts.{put_behind}
 use Rattle.io_traits.specs.Told.{Puts}

@@ -1,7 +1,7 @@
 -- Items that are chosen one after another.
 use Rattle.std.proofs.Common.{◌≡◌, ◌≤◌, ◌+◌, Bool, true, false, List, [], ◌∷◌, ◌++◌, length, Option, Some, None, refl, arith, length-append}
 use Rattle.std.proofs.lemmas.List.Sums.{fold-append}
-use Rattle.cloak_model.specs.declared.item.Item.{Item}
+use Rattle.cloak_model.specs.Items.{Item}
 use Rattle.record_text.specs.declared.place.RecordPlace.{RecordPlace}
 use Rattle.record_text.specs.declared.selection.Selection.{Selection}
 use Rattle.record_text.specs.Counting.{Chosen, chosen, chosen_more, chosen_more_by, none_chosen}

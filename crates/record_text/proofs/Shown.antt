@@ -1,7 +1,7 @@
 -- Items that are shown in lines one after another.
 use Rattle.std.proofs.Common.{◌≡◌, ℕ, List, [], ◌∷◌, ◌++◌, Option, Some, None, IfSome, refl, sym, ap, ◌∙◌, inl}
 use Rattle.std.proofs.lemmas.List.Sums.{fold-append}
-use Rattle.cloak_model.specs.declared.item.Item.{Item}
+use Rattle.cloak_model.specs.Items.{Item}
 use Rattle.record_reader.specs.Ahead.{readable}
 use Rattle.kernel_report.specs.Putting.{Putting, PutsMore}
 use Rattle.kernel_report.proofs.PutFacts.{then, text_is}

@@ -1,6 +1,6 @@
 -- Items that are counted as they are read.
 use Rattle.std.proofs.Common.{◌≡◌, ◌<◌, ◌≤◌, ◌+◌, ◌-◌, ◌^◌, ℕ, List, [], ◌∷◌, ◌++◌, length, Option, refl, sym, ap, subst, ◌∙◌, arith}
-use Rattle.cloak_model.specs.declared.item.Item.{Item}
+use Rattle.cloak_model.specs.Items.{Item}
 use Rattle.record_reader.specs.Reading.{reader_offset}
 use Rattle.record_reader.specs.declared.reader.Reader.{Reader}
 use Rattle.read_back.specs.Items.{StandsAt}

@@ -1,7 +1,7 @@
 -- Kinds of items, with their names, and what of a record is chosen.
 use Rattle.std.specs.Prelude.{ℕ, ◌^◌, ◌-◌, ◌==◌, ◌&&◌, Bool, true, false, List, [], ◌∷◌, codes, nat_le, Option, Some, None}
-use Rattle.cloak_model.specs.declared.item.Item.{Item}
-use Rattle.cloak_model.specs.declared.item.Item.TheVariants as item
+use Rattle.cloak_model.specs.Items.{Item}
+use Rattle.cloak_model.specs.Items as item
 use Rattle.record_text.specs.declared.kinds.Kinds.{Kinds}
 use Rattle.record_text.specs.declared.place.RecordPlace.{RecordPlace}
 use Rattle.record_text.specs.declared.place.RecordPlace.TheVariants as place

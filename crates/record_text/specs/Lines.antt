@@ -1,7 +1,7 @@
 -- The lines of a record: one for the opening, each step, the closing and the end, with the items of that place.
 use Rattle.std.specs.Prelude.{ℕ, ◌&&◌, Bool, true, false, List, [], ◌++◌, codes, decimal, Option, Some, None, if◌then◌else◌}
 use Rattle.std.specs.List.{fold}
-use Rattle.cloak_model.specs.declared.item.Item.{Item}
+use Rattle.cloak_model.specs.Items.{Item}
 use Rattle.record_text.specs.declared.kinds.Kinds.{Kinds}
 use Rattle.record_text.specs.declared.selection.Selection.{Selection}
 use Rattle.record_text.specs.declared.place.RecordPlace.{RecordPlace}

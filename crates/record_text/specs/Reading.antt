@@ -1,7 +1,7 @@
 -- What is shown of a record.
 use Rattle.std.specs.Prelude.{ℕ, List, [], ◌++◌, Option, Some, None, Result, Ok, Err, Bool, true, false}
 use Rattle.cloak_base.specs.declared.causes.Failed.{Failed}
-use Rattle.cloak_model.specs.declared.item.Item.{Item}
+use Rattle.cloak_model.specs.Items.{Item}
 use Rattle.command_parts.specs.declared.status.Status.{Status}
 use Rattle.command_parts.specs.declared.status.Status.TheVariants as status
 use Rattle.read_back.specs.Reading.{status_of_ending}

@@ -1,7 +1,7 @@
 -- What of a record was shown or counted, and where reading ended.
 use Rattle.std.specs.Prelude.{ℕ, List, Option, Some, Result, Ok, Err}
 use Rattle.cloak_base.specs.declared.causes.Failed.{Failed}
-use Rattle.cloak_model.specs.declared.item.Item.{Item}
+use Rattle.cloak_model.specs.Items.{Item}
 use Rattle.kernel_report.specs.Putting.{Putting, PutsMore}
 use Rattle.read_back.specs.Reading.{IsReadTo, never_unfit}
 use Rattle.read_back.specs.declared.ending.Ending.{Ending}

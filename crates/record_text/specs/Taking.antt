@@ -2,7 +2,7 @@
 use Rattle.std.specs.Prelude.{◌≡◌, List, Result, Ok}
 use Rattle.cloak_base.specs.declared.causes.Failed.{Failed}
 use Rattle.io_traits.specs.declared.sink.Sink as sinks
-use Rattle.cloak_model.specs.declared.item.Item.{Item}
+use Rattle.cloak_model.specs.Items.{Item}
 use Rattle.kernel_report.specs.Putting.{Putting, PutsMore, putting}
 use Rattle.record_text.specs.declared.lines.Line.{Line}
 use Rattle.record_text.specs.declared.selection.Selection.{Selection}

@@ -1,8 +1,9 @@
 //! How many items are chosen of each kind.
+ghost use Rattle.cloak_model.specs.Items.{item_of};
 ghost use Rattle.std.specs.Prelude.{◌≡◌, ◌^◌, ◌-◌, ◌<◌, ◌++◌, [], ◌∷◌, List, length};
 ghost use Rattle.std.specs.List.{count_by};
 ghost use Rattle.cloak_model.specs.Report.{number_line};
-ghost use Rattle.cloak_model.specs.declared.item.Item.{Item};
+ghost use Rattle.cloak_model.specs.Items.{Item as AnyItem};
 ghost use Rattle.kernel_report.specs.Putting.{PutsMore, putting};
 ghost use Rattle.record_text.specs.Counting.{AreCounts, counts_text};
 ghost use Rattle.record_text.specs.Kinds.{is_of_kind};
@@ -28,9 +29,9 @@ pub struct KindCounts {
 }
 
 /// How many items are of a kind, after one more.
-fn counted(count: u64, kind: Kinds, item: &Item) -> u64
-    ensures { (items : List Item) → length items < 2 ^ 64 - 1 → count ≡ count_by (is_of_kind kind) items →
-        result ≡ count_by (is_of_kind kind) (items ++ item.now ∷ []) }
+fn counted(count: u64, kind: Kinds, item: &Item<'_>) -> u64
+    ensures { (items : List AnyItem) → length items < 2 ^ 64 - 1 → count ≡ count_by (is_of_kind kind) items →
+        result ≡ count_by (is_of_kind kind) (items ++ (item_of item.now) ∷ []) }
 {
     if kind.has(item) {
         count.saturating_add(1)
@@ -68,9 +69,9 @@ impl KindCounts {
     }
 
     /// One more.
-    pub fn count(&mut self, item: &Item)
-        ensures { (items : List Item) → length items < 2 ^ 64 - 1 → AreCounts self.old items →
-            AreCounts self.new (items ++ item.now ∷ []) }
+    pub fn count(&mut self, item: &Item<'_>)
+        ensures { (items : List AnyItem) → length items < 2 ^ 64 - 1 → AreCounts self.old items →
+            AreCounts self.new (items ++ (item_of item.now) ∷ []) }
     {
         self.cipher = counted(self.cipher, Kinds::CIPHER, item);
         self.put = counted(self.put, Kinds::PUT, item);
@@ -86,7 +87,7 @@ impl KindCounts {
 
     /// A line for each kind.
     pub fn put<O: Sink>(&self, out: &mut O, so_far: SoFar) -> SoFar
-        ensures { (items : List Item) → AreCounts self.now items →
+        ensures { (items : List AnyItem) → AreCounts self.now items →
             PutsMore (putting O.Sink out.old so_far) (putting O.Sink out.new result) (counts_text items) }
     {
         let so_far = put_count(out, so_far, b"cipher ", self.cipher);

@@ -1,4 +1,5 @@
 //! An item in words.
+ghost use Rattle.cloak_model.specs.Items.{item_of};
 ghost use Rattle.std.specs.Prelude.{◌++◌};
 ghost use Rattle.cloak_model.specs.Report.{words_text};
 ghost use Rattle.kernel_report.specs.Putting.{PutsMore, putting};
@@ -145,8 +146,8 @@ fn put_loaded<O: Sink>(out: &mut O, so_far: SoFar, domain: u8, value: u32) -> So
 
 /// An item that is no marker, in words.
 #[tactic(auto, unfolding(crate::specs::Items::item_text))]
-pub fn put_item<O: Sink>(out: &mut O, so_far: SoFar, item: &Item) -> SoFar
-    ensures { PutsMore (putting O.Sink out.old so_far) (putting O.Sink out.new result) (spec.item_text item.now) }
+pub fn put_item<O: Sink>(out: &mut O, so_far: SoFar, item: &Item<'_>) -> SoFar
+    ensures { PutsMore (putting O.Sink out.old so_far) (putting O.Sink out.new result) (spec.item_text (item_of item.now)) }
 {
     match item {
         Item::Cipher { frame, bytes } => put_cipher(out, so_far, *frame, bytes),

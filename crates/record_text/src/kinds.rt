@@ -1,4 +1,5 @@
 //! Kinds of items, which a reader of a record chooses.
+ghost use Rattle.cloak_model.specs.Items.{item_of};
 ghost use Rattle.std.specs.Prelude.{◌≡◌};
 ghost use Rattle.record_text.specs.Kinds as spec;
 
@@ -104,8 +105,8 @@ impl Kinds {
     };
 
     /// The item is of one of these kinds.
-    pub fn has(&self, item: &Item) -> bool
-        ensures { result ≡ spec.is_of_kind self.now item.now }
+    pub fn has(&self, item: &Item<'_>) -> bool
+        ensures { result ≡ spec.is_of_kind self.now (item_of item.now) }
     {
         match item {
             Item::Cipher { .. } => self.cipher,

@@ -1,4 +1,5 @@
 //! The lines of a record: one for the opening, each step, the closing and the end, with the items of that place.
+ghost use Rattle.cloak_model.specs.Items.{item_of};
 ghost use Rattle.std.specs.Prelude.{◌≡◌, [], if◌then◌else◌};
 ghost use Rattle.kernel_report.specs.Putting.{PutsMore, putting};
 ghost use Rattle.record_text.specs.Lines as spec;
@@ -99,9 +100,9 @@ fn at_place<O: Sink>(
 }
 
 /// Shows an item that is chosen.
-fn put_chosen<O: Sink>(out: &mut O, so_far: SoFar, line: Line, item: &Item) -> SoFar
+fn put_chosen<O: Sink>(out: &mut O, so_far: SoFar, line: Line, item: &Item<'_>) -> SoFar
     ensures { PutsMore (putting O.Sink out.old so_far) (putting O.Sink out.new result)
-        (spec.item_on_line line item.now) }
+        (spec.item_on_line line (item_of item.now)) }
 {
     let so_far = begin_line(out, so_far, line);
     let so_far = text(out, so_far, b"; ");
@@ -114,12 +115,12 @@ fn put_on_line<O: Sink>(
     out: &mut O,
     so_far: SoFar,
     line: Line,
-    item: &Item,
+    item: &Item<'_>,
     selection: &Selection,
 ) -> (SoFar, Line)
     ensures text { PutsMore (putting O.Sink out.old so_far) (putting O.Sink out.new result.0)
-        (spec.on_line selection.now line item.now).text }
-    ensures line { result.1 ≡ (spec.on_line selection.now line item.now).line }
+        (spec.on_line selection.now line (item_of item.now)).text }
+    ensures line { result.1 ≡ (spec.on_line selection.now line (item_of item.now)).line }
 {
     if selection.has_item(line.place, item) {
         let so_far = put_chosen(out, so_far, line, item);
@@ -142,12 +143,12 @@ pub fn put_next<O: Sink>(
     out: &mut O,
     so_far: SoFar,
     line: Line,
-    item: &Item,
+    item: &Item<'_>,
     selection: &Selection,
 ) -> (SoFar, Line)
     ensures text { PutsMore (putting O.Sink out.old so_far) (putting O.Sink out.new result.0)
-        (spec.line_more selection.now line item.now).text }
-    ensures line { result.1 ≡ (spec.line_more selection.now line item.now).line }
+        (spec.line_more selection.now line (item_of item.now)).text }
+    ensures line { result.1 ≡ (spec.line_more selection.now line (item_of item.now)).line }
 {
     match place_marked(item) {
         Some(place) => at_place(out, so_far, line, place, selection),

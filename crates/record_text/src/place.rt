@@ -1,4 +1,5 @@
 //! Where the items of a record stand.
+ghost use Rattle.cloak_model.specs.Items.{item_of};
 ghost use Rattle.std.specs.Prelude.{◌≡◌};
 ghost use Rattle.record_text.specs.Kinds as spec;
 
@@ -15,8 +16,8 @@ pub enum RecordPlace {
 }
 
 /// The place that a marker begins.
-pub fn place_marked(item: &Item) -> Option<RecordPlace>
-    ensures { result ≡ spec.place_marked item.now }
+pub fn place_marked(item: &Item<'_>) -> Option<RecordPlace>
+    ensures { result ≡ spec.place_marked (item_of item.now) }
 {
     match *item {
         Item::Step { number } => Some(RecordPlace::Step(number)),

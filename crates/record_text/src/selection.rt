@@ -1,4 +1,5 @@
 //! What of a record is chosen.
+ghost use Rattle.cloak_model.specs.Items.{item_of};
 ghost use Rattle.std.specs.Prelude.{◌≡◌};
 ghost use Rattle.record_text.specs.Kinds as spec;
 ghost use Rattle.record_text.specs.Lines.{has_bare};
@@ -40,15 +41,15 @@ impl Selection {
     }
 
     /// An item of this place, which is no marker, is chosen.
-    pub fn has_item(&self, place: RecordPlace, item: &Item) -> bool
-        ensures { result ≡ spec.has_item self.now place item.now }
+    pub fn has_item(&self, place: RecordPlace, item: &Item<'_>) -> bool
+        ensures { result ≡ spec.has_item self.now place (item_of item.now) }
     {
         self.has_chosen_kind(item) && self.has_place(place)
     }
 
     /// An item is of a kind that is chosen.
-    fn has_chosen_kind(&self, item: &Item) -> bool
-        ensures { result ≡ spec.has_chosen_kind self.now.only item.now }
+    fn has_chosen_kind(&self, item: &Item<'_>) -> bool
+        ensures { result ≡ spec.has_chosen_kind self.now.only (item_of item.now) }
     {
         match self.only {
             None => true,

@@ -1,4 +1,5 @@
 //! A record, from its first item to its end or its first fault.
+ghost use Rattle.cloak_model.specs.Items.{item_of};
 ghost use Rattle.std.specs.Prelude.{◌≡◌, ◌<◌, ◌-◌, ◌^◌, length, Ok, Some};
 ghost use Rattle.kernel_report.specs.Putting.{putting};
 ghost use Rattle.io_traits.specs.Told.{SameFiles};
@@ -13,7 +14,7 @@ use cloak_base::Failed;
 use cloak_model::Item;
 use io_traits::{Shelf, Sink};
 use read_back::{Ending, TakeItems, for_each_item, next_item};
-use record_reader::{KeptItems, Reader};
+use record_reader::Reader;
 
 /// An output that shows items in lines, and the line that was shown last.
 #[derive(Drop)]
@@ -30,7 +31,7 @@ impl<'a, O: Sink> TakeItems for LinesOutput<'a, O> {
 
     ghost took = { TookInLines O.Sink };
 
-    fn take_item(&mut self, item: &Item) -> Result<(), Failed> {
+    fn take_item(&mut self, item: &Item<'_>) -> Result<(), Failed> {
         let (put, next) = put_next(self.out, Ok(()), self.line, item, self.selection);
         self.line = next;
         put
@@ -76,11 +77,11 @@ fn count_next(
     counts: &mut KindCounts,
     selection: &Selection,
     place: RecordPlace,
-    item: &Item,
+    item: &Item<'_>,
 ) -> RecordPlace
     ensures counts { (c : Chosen) → c.place ≡ place → length c.items < 2 ^ 64 - 1 → AreCounts counts.old c.items →
-        AreCounts counts.new (chosen_more selection.now c item.now).items }
-    ensures place { (c : Chosen) → c.place ≡ place → result ≡ (chosen_more selection.now c item.now).place }
+        AreCounts counts.new (chosen_more selection.now c (item_of item.now)).items }
+    ensures place { (c : Chosen) → c.place ≡ place → result ≡ (chosen_more selection.now c (item_of item.now)).place }
 {
     if let Some(next) = place_marked(item) {
         return next;
@@ -106,10 +107,10 @@ pub fn count_items<S: Shelf>(
     let mut counts = KindCounts::new();
     let mut place = RecordPlace::Opening;
     let mut reader = Reader::open(name);
-    let mut kept = KeptItems::new();
+    let mut room = [0; 4096];
     loop {
-        match next_item(&mut reader, shelf, &mut kept) {
-            Ok(tag) => place = count_next(&mut counts, selection, place, kept.item(tag)),
+        match next_item(&mut reader, shelf, &mut room) {
+            Ok(item) => place = count_next(&mut counts, selection, place, &item),
             Err(ending) => return (counts, ending),
         }
     }

@@ -1,16 +1,17 @@
 -- Machines that run alone take the items of a record, one after another.
-use Rattle.std.proofs.Common.{◌≡◌, ◌<◌, ◌≤◌, ◌+◌, ◌*◌, ◌/◌, ◌%◌, ℕ, true, List, [], ◌∷◌, ◌++◌, length, slice_get, slice_index_or, slice_set, Option, Some, None, option_map, unwrap_or, Result, Ok, Err, refl, sym, ap, subst, ◌∙◌, inl, inr, arith}
+use Rattle.std.proofs.Common.{◌≡◌, ◌<◌, ◌≤◌, ◌+◌, ◌*◌, ◌/◌, ◌%◌, ℕ, Bool, true, false, List, [], ◌∷◌, ◌++◌, length, slice_get, slice_index_or, slice_set, Option, Some, None, option_map, is_some, unwrap_or, Result, Ok, Err, refl, sym, ap, subst, ◌∙◌, inl, inr, arith}
 use Rattle.std.proofs.lemmas.Bool.{cases_lt}
 use Rattle.std.proofs.lemmas.List.{get_or-set_other, get_or-set_same, get_or_append_left}
 use Rattle.std.proofs.Math.Seq.{get_or-append_seam}
 use Rattle.std.proofs.lemmas.Option.{slice_get_cases, slice_get_past, slice_get_within, unwrap_or-slice_get}
 use Rattle.cloak_model.specs.declared.image.Bundle.{Bundle}
 use Rattle.cloak_model.specs.declared.image.Program.{Program}
-use Rattle.cloak_model.specs.declared.item.Item.{Item}
+use Rattle.cloak_model.specs.Items.{Item}
 use Rattle.cloak_model.specs.Exchange.{Piece}
 use Rattle.cloak_model.specs.DomainAlone as domain
 use Rattle.cloak_model.specs.DomainAlone.{domain_alone, domain_taken, opened_domain, take_domain_item}
 use Rattle.cloak_model.specs.Contexts.{Context, context_at, domain_of}
+use Rattle.cloak_model.specs.Resources.{resource_at}
 use Rattle.cloak_model.specs.Hart.{Hart, started}
 use Rattle.cloak_base.specs.declared.names.HartId.{HartId}
 use Rattle.cloak_model.specs.KernelAlone as kernel
@@ -24,7 +25,7 @@ use Rattle.alone_views.specs.KernelEnding.{EndsAs, is_end}
 use Rattle.alone_views.specs.declared.asked.AskedAccess.{AskedAccess}
 use Rattle.alone_views.specs.declared.asked.AskedAccess.TheVariants as asked
 use Rattle.replayed_run.specs.Questions.{access_if, access_in, question_in}
-use Rattle.replayed_run.specs.Alone.{IsUnfitForProgram, context_in, standing, standing_told, words_of}
+use Rattle.replayed_run.specs.Alone.{IsUnfitForProgram, context_in, has_resource, resource_in, standing, standing_told, words_of}
 use Rattle.replayed_run.specs.Machines.{ProgramStands, ProgramsStand, ProgramsTake, StandAlone, TakeAlone}
 use Rattle.replayed_run.specs.declared.machines.HartWords.{HartWords}
 use Rattle.replayed_run.specs.declared.machines.Machines.{Machines}
@@ -363,6 +364,33 @@ context_past b items machines programs ctx stand same past =
     let count = stand.programs.count in
     sym (ap (λ (p : Option Program). standing ctx (context_in b items ctx p))
     (slice_get_past b.programs (ctx / 8) (omega (arith, past, all, count))))
+
+-- The resources of a program.
+
+pub resource_is : (b : Bundle) (items : List Item) (machines : Machines) (programs : List DomainAlone) (d n : ℕ)
+    (machine : DomainAlone) (r : Bool) → StandAlone b items machines → programs ≡ machines.programs.items →
+    d < length programs → machine ≡ slice_index_or programs d machine →
+    ((number : ℕ) (schedule : List ℕ) (s : domain.DomainAlone) → StandsForDomain number schedule machine s →
+    s.unfit ≡ None → r ≡ is_some (resource_at s.part.domain.control.resources n)) → r ≡ has_resource b items d n
+resource_is b items machines programs d n machine r stand same low is tells =
+    let at = program_at b items programs d
+    (subst (λ (l : List DomainAlone). ProgramsStand b items l) (sym same) stand.programs) low in
+    let stands : ProgramStands b items d at.0 machine =
+    subst (λ (m : DomainAlone). ProgramStands b items d at.0 m)
+    (ap (λ (l : List DomainAlone). slice_index_or l d machine) (sym same) ∙ sym is)
+    (stand.programs.each d at.0 machine at.1) in
+    tells d b.kernel.schedule (domain_alone d b.kernel.schedule at.0 items) stands.stands stands.fits
+    ∙ ap (λ (p : Option Program). resource_in b items d n p) (sym at.1)
+
+-- there is no such program
+pub resource_past : (b : Bundle) (items : List Item) (machines : Machines) (programs : List DomainAlone) (d n : ℕ) →
+    StandAlone b items machines → programs ≡ machines.programs.items → length programs ≤ d →
+    false ≡ has_resource b items d n
+resource_past b items machines programs d n stand same past =
+    let all = ap (λ (l : List DomainAlone). length l) same in
+    let count = stand.programs.count in
+    sym (ap (λ (p : Option Program). resource_in b items d n p)
+    (slice_get_past b.programs d (omega (arith, past, all, count))))
 
 -- Harts.
 

@@ -3,7 +3,7 @@ use Rattle.std.proofs.Common.{◌≡◌, ◌+◌, ◌*◌, ◌/◌, ◌&&◌, �
 use Rattle.std.specs.List.{fold}
 use Rattle.std.proofs.lemmas.List.Sums.{fold-append}
 use Rattle.cloak_model.specs.declared.image.Bundle.{Bundle}
-use Rattle.cloak_model.specs.declared.item.Item.{Item}
+use Rattle.cloak_model.specs.Items.{Item}
 use Rattle.cloak_model.specs.declared.outcome.Kernel.{Kernel}
 use Rattle.cloak_model.specs.KernelAlone as model
 use Rattle.cloak_model.specs.KernelAlone.{kernel_alone, kernel_hart}
@@ -11,7 +11,7 @@ use Rattle.alone_views.specs.KernelEnding.{plain_ending}
 use Rattle.replayed_run.specs.Alone.{standing_told, words_of}
 use Rattle.replayed_run.specs.ContextsTold.{resumed_at}
 use Rattle.replayed_run.specs.Machines.{StandAlone}
-use Rattle.replayed_run.specs.Noted.{Noted, asked_at_end, asked_from, asked_unless, is_in_space, is_left, no_notes, noted_in, noted_more, notes_after, resume_noted}
+use Rattle.replayed_run.specs.Noted.{Noted, asked_at_end, asked_from, asked_unless, halted_at_end, halted_by, halted_from, is_in_space, is_left, no_notes, noted_in, noted_more, notes_after, resume_noted}
 use Rattle.replayed_run.specs.PagesTold.{Paged, PagesTold, opened_pages, paged_in, paged_more, pages_after, pages_of}
 use Rattle.replayed_run.specs.Questions.{Questioned, no_questions, question_for, questioned_in, questioned_more, questions_after}
 use Rattle.replayed_run.specs.Watching.{Watches, notes_of}
@@ -121,6 +121,21 @@ asked_told s stage ending true is ends = refl
 asked_told s stage ending false is ends =
     asked_as s stage ending (λ number at. ends number (is ∙ at))
     ∙ ap (λ (p : model.KernelStage). asked_from p (λ hart. plain_ending hart s)) (sym is)
+
+-- with which value a hart halted, by how the last plain step ended
+
+pub halted_told : (s : model.KernelAlone) (stage : model.KernelStage) (ending : Kernel) → s.stage ≡ stage →
+    ((number : ℕ) → s.stage ≡ model.Outside number → ending ≡ plain_ending number s) →
+    halted_from stage (λ hart. ending) ≡ halted_at_end s
+halted_told s (model.Outside hart) ending is ends =
+    ap (λ (e : Kernel). halted_by e) (ends hart is)
+    ∙ ap (λ (p : model.KernelStage). halted_from p (λ number. plain_ending number s)) (sym is)
+halted_told s model.Between ending is ends =
+    ap (λ (p : model.KernelStage). halted_from p (λ number. plain_ending number s)) (sym is)
+halted_told s (model.Inside hart ctx) ending is ends =
+    ap (λ (p : model.KernelStage). halted_from p (λ number. plain_ending number s)) (sym is)
+halted_told s model.Left ending is ends =
+    ap (λ (p : model.KernelStage). halted_from p (λ number. plain_ending number s)) (sym is)
 
 -- a context that a hart outside resumed
 pub resumed_told : (b : Bundle) (items : List Item) (n : Notes) (ctx hart : ℕ) (c : StandingContext) (words : HartWords) →

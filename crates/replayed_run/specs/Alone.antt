@@ -1,9 +1,10 @@
 -- What the machines that run alone make of a record: the kernel, and each program of the image.
-use Rattle.std.specs.Prelude.{ℕ, ◌≡◌, ◌⊎◌, ◌+◌, ◌*◌, Bool, nat_lt, List, length, slice_get, slice_index, Option, Some, None}
+use Rattle.std.specs.Prelude.{ℕ, ◌≡◌, ◌⊎◌, ◌+◌, ◌*◌, Bool, false, nat_lt, List, length, slice_get, slice_index, Option, Some, None, is_some}
 use Rattle.cloak_model.specs.declared.image.Bundle.{Bundle}
 use Rattle.cloak_model.specs.declared.image.Program.{Program}
-use Rattle.cloak_model.specs.declared.item.Item.{Item}
+use Rattle.cloak_model.specs.Items.{Item}
 use Rattle.cloak_model.specs.Contexts.{Context, context_at, domain_of, slot_of}
+use Rattle.cloak_model.specs.Resources.{resource_at}
 use Rattle.cloak_model.specs.Csr.{satp_of}
 use Rattle.cloak_model.specs.Hart.{Hart}
 use Rattle.cloak_model.specs.DomainAlone.{domain_alone}
@@ -49,6 +50,15 @@ standing ctx (Some c) = Some (record { space = domain_of ctx * 8 + c.space; on =
 
 abbrev pub standing_told : Bundle → List Item → ℕ → Option StandingContext
 standing_told b items ctx = standing ctx (context_told b items ctx)
+
+-- there is a resource of this number in a program, as that alone has it
+abbrev pub resource_in : Bundle → List Item → ℕ → ℕ → Option Program → Bool
+resource_in b items d n None = false
+resource_in b items d n (Some p) =
+    is_some (resource_at (domain_alone d b.kernel.schedule p items).part.domain.control.resources n)
+
+abbrev pub has_resource : Bundle → List Item → ℕ → ℕ → Bool
+has_resource b items d n = resource_in b items d n (slice_get b.programs d)
 
 -- the context that a hart names as it asks to resume one, and its page table
 abbrev pub words_of : Hart → HartWords

@@ -7,8 +7,9 @@ use Rattle.cloak_base.specs.declared.names.Kind.TheVariants.{Fetch}
 use Rattle.cloak_base.specs.declared.names.Mode.{Mode}
 use Rattle.cloak_base.specs.declared.names.Mode.TheVariants.{U, S}
 use Rattle.cloak_base.specs.declared.names.PageId.{PageId}
-use Rattle.cloak_model.specs.Csr.{mxr_of, satp_of, sum_of}
+use Rattle.cloak_model.specs.Csr.{interrupt_due, mxr_of, satp_of, sum_of}
 use Rattle.cloak_model.specs.Hart.{Hart}
+use Rattle.cloak_model.specs.KernelStep.{ticked}
 use Rattle.cloak_model.specs.KernelAlone.{KernelAlone, KernelStage, Between, Inside, Left, Outside}
 use Rattle.cloak_model.specs.Memory.{is_in_ram, value_in}
 use Rattle.cloak_model.specs.Walk.{Walk, walk}
@@ -75,7 +76,11 @@ presented_for ram tables (asked.Uncloaked address) = None
 abbrev pub presented_by : KernelAlone → AskedAccess → Option PresentedPage
 presented_by s question = presented_for s.kernel.ram (tables_in s) question
 
--- The host call on the disk that a hart outside is about to make.
+-- The host call on the disk that a hart outside makes in its next step.
+
+-- it makes none, and takes the timer's interrupt
+abbrev pub is_interrupted : Hart → Bool
+is_interrupted h = interrupt_due (ticked h).mode (ticked h).csrs
 
 -- the frame from which it fetches
 abbrev pub frame_fetched : List (List ℕ) → Hart → Option ℕ
@@ -109,4 +114,4 @@ call_from ram h (Some at) =
     else None
 
 abbrev pub disk_call : List (List ℕ) → Hart → Option DiskCall
-disk_call ram h = call_from ram h (frame_fetched ram h)
+disk_call ram h = if is_interrupted h then None else call_from ram h (frame_fetched ram h)

@@ -1,9 +1,9 @@
 -- What is noted of a run: what its items say, and what the machines that run alone make of them.
-use Rattle.std.specs.Prelude.{ℕ, zero, suc, ◌+◌, ◌*◌, ◌/◌, ◌==◌, Bool, true, false, ◌&&◌, not, List, [], ◌∷◌, ◌++◌, Option, Some, None, if◌then◌else◌}
-use Rattle.std.specs.List.{fold}
+use Rattle.std.specs.Prelude.{ℕ, zero, suc, ◌+◌, ◌*◌, ◌/◌, ◌==◌, Bool, true, false, ◌&&◌, ◌||◌, not, List, [], ◌∷◌, ◌++◌, Option, Some, None, if◌then◌else◌}
+use Rattle.std.specs.List.{fold, list_all}
 use Rattle.cloak_model.specs.declared.image.Bundle.{Bundle}
-use Rattle.cloak_model.specs.declared.item.Item.{Item}
-use Rattle.cloak_model.specs.declared.item.Item.TheVariants as item
+use Rattle.cloak_model.specs.Items.{Item}
+use Rattle.cloak_model.specs.Items as item
 use Rattle.cloak_model.specs.declared.outcome.Kernel.{Kernel}
 use Rattle.cloak_model.specs.declared.outcome.Kernel.TheVariants as outcome
 use Rattle.cloak_model.specs.KernelAlone as model
@@ -23,7 +23,20 @@ pub record Noted : Type 0 where
   pub notes : Notes
 
 abbrev pub no_notes : Notes
-no_notes = record { step = 0; has_resumed = false; contexts = no_contexts; asked = None }
+no_notes =
+    record {
+      step = 0;
+      has_resumed = false;
+      contexts = no_contexts;
+      asked = None;
+      has_missed = false;
+      is_stopped = false;
+      halted = None;
+    }
+
+-- a draw was missing: for a frame, which was shown as zeros, or for a question that was stopped and ended no program
+abbrev pub lacks_draw : Notes → Bool
+lacks_draw n = n.has_missed || n.is_stopped
 
 -- The context for which a hart outside asks by its plain step.
 
@@ -48,6 +61,26 @@ asked_unless resumed stage ending = if resumed then None else asked_from stage (
 -- It asks for one as the step that is open ends, and the step has no resume.
 abbrev pub asked_at_end : Bool → model.KernelAlone → Option Asking
 asked_at_end resumed s = if resumed then None else asked_from s.stage (λ hart. plain_ending hart s)
+
+-- The value with which a hart outside halts by its plain step.
+
+abbrev pub halted_by : Kernel → Option ℕ
+halted_by (outcome.Halt value) = Some value
+halted_by (outcome.Resume ctx answer) = None
+halted_by outcome.Stay = None
+halted_by outcome.Trapped = None
+halted_by (outcome.Put byte) = None
+
+-- by how the plain step of the hart that is outside ends
+abbrev pub halted_from : model.KernelStage → (ℕ → Kernel) → Option ℕ
+halted_from (model.Outside hart) ends = halted_by (ends hart)
+halted_from model.Between ends = None
+halted_from (model.Inside hart ctx) ends = None
+halted_from model.Left ends = None
+
+-- as the step that is open ends
+abbrev pub halted_at_end : model.KernelAlone → Option ℕ
+halted_at_end s = halted_from s.stage (λ hart. plain_ending hart s)
 
 -- Contexts.
 
@@ -91,6 +124,12 @@ resumed_notes b now n ctx = record n {
 abbrev pub left_notes : Bundle → List Item → Notes → ℕ → Notes
 left_notes b now n ctx = record n { contexts = leave_noted b now n ctx (standing_told b now ctx) }
 
+-- A frame is shown.
+
+-- every byte is zero, as of a frame whose page found no draw
+abbrev pub is_wiped : List ℕ → Bool
+is_wiped bytes = list_all (λ byte. byte == 0) bytes
+
 -- What an item adds to the notes, with the items before it, and with it.
 abbrev pub notes_after : Bundle → List Item → List Item → Notes → Item → Notes
 notes_after b before now n (item.Step number) = record {
@@ -98,9 +137,18 @@ notes_after b before now n (item.Step number) = record {
   has_resumed = false;
   contexts = n.contexts;
   asked = asked_at_end n.has_resumed (kernel_alone b.kernel before);
+  has_missed = n.has_missed;
+  is_stopped = n.is_stopped;
+  halted = halted_at_end (kernel_alone b.kernel before);
 }
 notes_after b before now n (item.Close steps) =
-    record n { asked = asked_at_end n.has_resumed (kernel_alone b.kernel before) }
+    record n {
+      asked = asked_at_end n.has_resumed (kernel_alone b.kernel before);
+      halted = halted_at_end (kernel_alone b.kernel before);
+    }
+notes_after b before now n (item.Cipher frame bytes) = record n { has_missed = n.has_missed || is_wiped bytes }
+notes_after b before now n (item.Stopped d) = record n { is_stopped = true }
+notes_after b before now n (item.Ended d) = record n { is_stopped = false }
 notes_after b before now n (item.Resume domain ctx answer) = resumed_notes b now n ctx
 notes_after b before now n (item.Leave shown) = left_notes b now n shown.ctx
 notes_after b before now n _ = n

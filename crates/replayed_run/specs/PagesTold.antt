@@ -1,19 +1,18 @@
 -- Which page each frame holds, and what was last shown of each page, as far as the items of a record tell it.
-use Rattle.std.specs.Prelude.{ℕ, zero, suc, ◌+◌, ◌*◌, ◌/◌, ◌==◌, Bool, List, [], ◌∷◌, ◌++◌, length, map, replicate, slice_get, slice_index_or, slice_set, Option, Some, None, if◌then◌else◌}
-use Rattle.std.specs.List.{fold, list_all}
+use Rattle.std.specs.Prelude.{ℕ, zero, suc, ◌+◌, ◌*◌, ◌==◌, ◌&&◌, not, List, [], ◌∷◌, ◌++◌, length, map, replicate, slice_get, slice_index_or, slice_set, Option, Some, None, if◌then◌else◌}
+use Rattle.std.specs.List.{fold}
 use Rattle.sha2.specs.Sha256.{sha256}
 use Rattle.cloak_base.specs.declared.names.PageId.{PageId}
 use Rattle.cloak_model.specs.declared.image.Bundle.{Bundle}
 use Rattle.cloak_model.specs.declared.image.Program.{Program}
-use Rattle.cloak_model.specs.declared.item.Item.{Item}
-use Rattle.cloak_model.specs.declared.item.Item.TheVariants as item
+use Rattle.cloak_model.specs.Items.{Item}
+use Rattle.cloak_model.specs.Items as item
+use Rattle.cloak_model.specs.Contexts.{domain_of}
 use Rattle.cloak_model.specs.KernelAlone.{kernel_alone}
-use Rattle.replayed_run.specs.Alone.{standing_told}
-use Rattle.replayed_run.specs.ContextsTold.{told_of}
+use Rattle.replayed_run.specs.Alone.{has_resource, standing_told}
 use Rattle.replayed_run.specs.Leading.{presented_by}
-use Rattle.replayed_run.specs.Noted.{is_left, noted_in}
+use Rattle.replayed_run.specs.Noted.{is_wiped, noted_in}
 use Rattle.replayed_run.specs.Questions.{questioned_in}
-use Rattle.replayed_run.specs.declared.contexts.ToldContext.{ToldContext}
 use Rattle.replayed_run.specs.declared.frames.PresentedPage.{PresentedPage}
 use Rattle.replayed_run.specs.declared.machines.StandingContext.{StandingContext}
 use Rattle.replayed_run.specs.declared.pages.Pages.{Pages}
@@ -71,10 +70,6 @@ opened_pages frames programs = programs_placed programs (length programs) (no_pa
 
 -- A frame is shown.
 
--- every byte is zero, as of a frame whose page found no draw
-abbrev pub is_wiped : List ℕ → Bool
-is_wiped bytes = list_all (λ byte. byte == 0) bytes
-
 -- the bytes are of the page that the frame held
 abbrev pub showing_of : ℕ → ℕ → List ℕ → Option PageId → Option Showing
 showing_of frame step digest None = None
@@ -104,23 +99,20 @@ abbrev pub after_grant : Option PresentedPage → PagesTold → PagesTold
 after_grant None p = p
 after_grant (Some found) p = reached found.page found.frame p
 
--- A context left and is not there any more. If its space ended with it, what is shown of a page of its program from then on
--- may be of another page.
+-- A context left and is not there any more. The resources are gone that ended with it, and the pages of each: what is shown
+-- of a page of such a number from then on is of another resource.
 
-abbrev pub forgotten : ℕ → Option Showing → Option Showing
-forgotten d None = None
-forgotten d (Some s) = if s.page.domain == d then None else Some s
+abbrev pub forgotten : Bundle → List Item → ℕ → Option Showing → Option Showing
+forgotten b items d None = None
+forgotten b items d (Some s) =
+    if (s.page.domain == d) && not (has_resource b items d s.page.resource) then None else Some s
 
-abbrev pub all_forgotten : ℕ → PagesTold → PagesTold
-all_forgotten d p = record p { last = map (forgotten d) p.last }
+abbrev pub ended_forgotten : Bundle → List Item → ℕ → PagesTold → PagesTold
+ended_forgotten b items d p = record p { last = map (forgotten b items d) p.last }
 
-abbrev pub after_end : Bundle → List Item → Option ToldContext → PagesTold → PagesTold
-after_end b items None p = p
-after_end b items (Some was) p = if is_left b items was.space 8 then all_forgotten (was.space / 8) p else p
-
-abbrev pub after_leave : Bundle → List Item → Option StandingContext → Option ToldContext → PagesTold → PagesTold
-after_leave b items (Some c) was p = p
-after_leave b items None was p = after_end b items was p
+abbrev pub after_leave : Bundle → List Item → ℕ → Option StandingContext → PagesTold → PagesTold
+after_leave b items ctx (Some c) p = p
+after_leave b items ctx None p = ended_forgotten b items (domain_of ctx) p
 
 -- What an item does, with the items before it, and with it.
 abbrev pub pages_after : Bundle → List Item → List Item → PagesTold → Item → PagesTold
@@ -128,7 +120,7 @@ pages_after b before now p (item.Cipher frame bytes) = after_cipher p (noted_in 
 pages_after b before now p (item.Ok d) =
     after_grant (presented_by (kernel_alone b.kernel now) (questioned_in b now).questions.last) p
 pages_after b before now p (item.Leave left) =
-    after_leave b now (standing_told b now left.ctx) (told_of (noted_in b before).notes.contexts left.ctx) p
+    after_leave b now left.ctx (standing_told b now left.ctx) p
 pages_after b before now p _ = p
 
 -- The items so far, and the pages.

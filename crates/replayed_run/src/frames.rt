@@ -117,6 +117,18 @@ pub struct DiskCall {
     pub frame: usize,
 }
 
+/// The hart takes the timer's interrupt in its next step.
+#[tactic(auto, unfolding(cloak_model::specs::KernelStep::ticked))]
+fn is_interrupted(hart: &Hart) -> bool
+    ensures { result ≡ leading.is_interrupted hart.now }
+{
+    let mut csrs = hart.csrs;
+    if hart.timer == 1 {
+        csrs.set_pending(true);
+    }
+    csrs.due(hart.mode)
+}
+
 /// A hart in S mode calls for a block to be read or written.
 fn calls_disk(hart: &Hart, word: u32) -> bool
     ensures { result ≡ leading.calls_disk hart.now word }
@@ -139,10 +151,13 @@ fn call_for(hart: &Hart, frame: Option<usize>) -> Option<DiskCall>
     }
 }
 
-/// The host call that a hart outside is about to make, if it reaches the disk.
+/// The host call that a hart outside makes in its next step, if it reaches the disk.
 pub fn disk_call(frames: &[[u8; 4096]], hart: &Hart) -> Option<DiskCall>
     ensures { result ≡ leading.disk_call frames.now hart.now }
 {
+    if is_interrupted(hart) {
+        return None;
+    }
     match frame_at(frames, tables_of(hart), hart.mode, hart.pc, Kind::Fetch) {
         None => None,
         Some(frame) => {

@@ -1,9 +1,10 @@
 //! The machines that run alone on the items of a record: the kernel, and each program.
+ghost use Rattle.cloak_model.specs.Items.{item_of};
 ghost use Rattle.std.specs.Prelude.{◌≡◌, ◌++◌, [], ◌∷◌, List, IfOk, option_copied, slice_get};
 ghost use Rattle.cloak_model.specs.Bundle.{IsInGrammar};
 ghost use Rattle.cloak_model.specs.Record.{IsItem};
 ghost use Rattle.cloak_model.specs.declared.image.Bundle.{Bundle};
-ghost use Rattle.cloak_model.specs.declared.item.Item.{Item};
+ghost use Rattle.cloak_model.specs.Items.{Item as AnyItem};
 ghost use Rattle.cloak_model.specs.KernelAlone.{kernel_alone, kernel_hart};
 ghost use Rattle.alone_views.specs.KernelStages.{stood_stage};
 ghost use Rattle.replayed_run.specs.Alone as alone;
@@ -69,9 +70,9 @@ fn open_programs(alloc: Global, bundle: &Bundle) -> Result<Vec<DomainAlone>, NoM
 }
 
 /// Gives an item to each program, up to the first that it does not fit.
-fn give_programs(programs: &mut [DomainAlone], item: &Item) -> Result<(), Unfit>
-    ensures { (b : Bundle) (items : List Item) → ProgramsStand b items programs.old →
-        ProgramsTake b (items ++ item.now ∷ []) programs.new result }
+fn give_programs(programs: &mut [DomainAlone], item: &Item<'_>) -> Result<(), Unfit>
+    ensures { (b : Bundle) (items : List AnyItem) → ProgramsStand b items programs.old →
+        ProgramsTake b (items ++ (item_of item.now) ∷ []) programs.new result }
 {
     for number in 0..programs.len() {
         if let Err(unfit) = programs[number].take(item) {
@@ -94,9 +95,9 @@ impl Machines {
     }
 
     /// Takes the next item. Once one did not fit, the machines are of no more use.
-    pub fn take(&mut self, item: &Item) -> Result<(), Unfit>
-        ensures { (b : Bundle) (items : List Item) → IsItem item.now → StandAlone b items self.old →
-            TakeAlone b items item.now self.new result }
+    pub fn take(&mut self, item: &Item<'_>) -> Result<(), Unfit>
+        ensures { (b : Bundle) (items : List AnyItem) → IsItem (item_of item.now) → StandAlone b items self.old →
+            TakeAlone b items (item_of item.now) self.new result }
     {
         if let Err(unfit) = self.kernel.take(item, &mut Silent {}) {
             return Err(unfit);
@@ -106,7 +107,7 @@ impl Machines {
 
     /// Where the items of the kernel stand.
     pub fn stage(&self) -> KernelStage
-        ensures { (b : Bundle) (items : List Item) → StandAlone b items self.now →
+        ensures { (b : Bundle) (items : List AnyItem) → StandAlone b items self.now →
             stood_stage result ≡ (kernel_alone b.kernel items).stage }
     {
         self.kernel.stage()
@@ -114,7 +115,7 @@ impl Machines {
 
     /// What a hart says; of a number without a hart what one says as a run begins.
     pub fn words_of(&self, hart: usize) -> HartWords
-        ensures { (b : Bundle) (items : List Item) → StandAlone b items self.now →
+        ensures { (b : Bundle) (items : List AnyItem) → StandAlone b items self.now →
             result ≡ alone.words_of (kernel_hart (kernel_alone b.kernel items).kernel hart) }
     {
         let harts = self.kernel.harts();
@@ -127,7 +128,7 @@ impl Machines {
 
     /// The hart of a number.
     pub fn hart_at(&self, number: usize) -> Option<&Hart>
-        ensures { (b : Bundle) (items : List Item) → StandAlone b items self.now →
+        ensures { (b : Bundle) (items : List AnyItem) → StandAlone b items self.now →
             option_copied result ≡ slice_get (kernel_alone b.kernel items).kernel.harts number }
     {
         self.kernel.harts().get(number)
@@ -135,7 +136,7 @@ impl Machines {
 
     /// The page tables of a hart.
     fn tables_at(&self, number: usize) -> Option<Tables>
-        ensures { (b : Bundle) (items : List Item) → StandAlone b items self.now →
+        ensures { (b : Bundle) (items : List AnyItem) → StandAlone b items self.now →
             result ≡ leading.tables_by (slice_get (kernel_alone b.kernel items).kernel.harts number) }
     {
         match self.hart_at(number) {
@@ -146,7 +147,7 @@ impl Machines {
 
     /// The page tables of the hart whose step is open.
     pub fn tables(&self) -> Option<Tables>
-        ensures { (b : Bundle) (items : List Item) → StandAlone b items self.now →
+        ensures { (b : Bundle) (items : List AnyItem) → StandAlone b items self.now →
             result ≡ leading.tables_in (kernel_alone b.kernel items) }
     {
         match self.stage() {
@@ -159,7 +160,7 @@ impl Machines {
 
     /// The frames as the kernel sees them.
     pub fn frames(&self) -> &[[u8; 4096]]
-        ensures { (b : Bundle) (items : List Item) → StandAlone b items self.now →
+        ensures { (b : Bundle) (items : List AnyItem) → StandAlone b items self.now →
             result.now ≡ (kernel_alone b.kernel items).kernel.ram }
     {
         self.kernel.frames()
@@ -167,7 +168,7 @@ impl Machines {
 
     /// The frame that an address of a program leads to.
     pub fn frame_for(&self, tables: Tables, address: u32, kind: Kind) -> Option<usize>
-        ensures { (b : Bundle) (items : List Item) → StandAlone b items self.now →
+        ensures { (b : Bundle) (items : List AnyItem) → StandAlone b items self.now →
             result ≡ leading.frame_for (kernel_alone b.kernel items).kernel.ram tables address kind }
     {
         frame_at(self.frames(), tables, Mode::U, address, kind)
@@ -181,7 +182,7 @@ impl Machines {
         address: u32,
         kind: Kind,
     ) -> Option<PresentedPage>
-        ensures { (b : Bundle) (items : List Item) → StandAlone b items self.now →
+        ensures { (b : Bundle) (items : List AnyItem) → StandAlone b items self.now →
             result ≡ leading.presented_under (kernel_alone b.kernel items).kernel.ram tables page address kind }
     {
         match tables {
@@ -200,7 +201,7 @@ impl Machines {
 
     /// The page of this question of a program, and the frame in which the kernel presents it.
     pub fn presented(&self, question: AskedAccess) -> Option<PresentedPage>
-        ensures { (b : Bundle) (items : List Item) → StandAlone b items self.now →
+        ensures { (b : Bundle) (items : List AnyItem) → StandAlone b items self.now →
             result ≡ leading.presented_by (kernel_alone b.kernel items) question }
     {
         match question {
@@ -216,7 +217,7 @@ impl Machines {
 
     /// A context, if there is one of this number.
     pub fn context(&self, ctx: u32) -> Option<StandingContext>
-        ensures { (b : Bundle) (items : List Item) → StandAlone b items self.now →
+        ensures { (b : Bundle) (items : List AnyItem) → StandAlone b items self.now →
             result ≡ alone.standing_told b items ctx }
     {
         let programs = self.programs.as_slice();
@@ -234,9 +235,23 @@ impl Machines {
         }
     }
 
+    /// There is a resource of this number in a program.
+    pub fn has_resource(&self, domain: u32, resource: u32) -> bool
+        ensures { (b : Bundle) (items : List AnyItem) → StandAlone b items self.now →
+            result ≡ alone.has_resource b items domain resource }
+    {
+        let programs = self.programs.as_slice();
+        let number = domain as usize;
+        if number < programs.len() {
+            programs[number].has_resource(resource)
+        } else {
+            false
+        }
+    }
+
     /// What the open step of a program asks for after this many answers.
     fn question(&self, domain: u8, answers: usize) -> AskedAccess
-        ensures { (b : Bundle) (items : List Item) → StandAlone b items self.now →
+        ensures { (b : Bundle) (items : List AnyItem) → StandAlone b items self.now →
             result ≡ question.question_in b items domain answers }
     {
         let programs = self.programs.as_slice();
@@ -249,9 +264,9 @@ impl Machines {
     }
 
     /// The question for which an item is the answer, after this many answers in the step.
-    pub fn question_for(&self, item: &Item, answers: usize) -> AskedAccess
-        ensures { (b : Bundle) (items : List Item) → StandAlone b items self.now →
-            result ≡ question.question_for b items answers item.now }
+    pub fn question_for(&self, item: &Item<'_>, answers: usize) -> AskedAccess
+        ensures { (b : Bundle) (items : List AnyItem) → StandAlone b items self.now →
+            result ≡ question.question_for b items answers (item_of item.now) }
     {
         match *item {
             Item::Ok { domain } => self.question(domain, answers),

@@ -24,6 +24,12 @@ pub struct Notes {
     pub contexts: ToldContexts,
     /// The context for which a hart asked in the step that ended last, if the record has no resume of it.
     pub asked: Option<Asking>,
+    /// A frame was shown as zeros, as one is whose page found no draw.
+    pub has_missed: bool,
+    /// A question was stopped, and no program ended since.
+    pub is_stopped: bool,
+    /// The value with which the step that ended last halted.
+    pub halted: Option<u32>,
 }
 
 /// The context for which a hart asks by a plain step that ended so.
@@ -51,6 +57,31 @@ pub fn asked_from(stage: KernelStage, ending: Kernel) -> Option<Asking>
     }
 }
 
+/// The value with which a plain step halted that ended so.
+fn halted_by(ending: Kernel) -> Option<u32>
+    ensures { result ≡ spec.halted_by ending }
+{
+    match ending {
+        Kernel::Halt(value) => Some(value),
+        Kernel::Resume { .. } => None,
+        Kernel::Stay => None,
+        Kernel::Trapped => None,
+        Kernel::Put(_) => None,
+    }
+}
+
+/// The value with which the hart halted that was outside, by how the last plain step ended.
+pub fn halted_from(stage: KernelStage, ending: Kernel) -> Option<u32>
+    ensures { result ≡ spec.halted_from (stood_stage stage) (λ hart. ending) }
+{
+    match stage {
+        KernelStage::Outside { .. } => halted_by(ending),
+        KernelStage::Between => None,
+        KernelStage::Inside { .. } => None,
+        KernelStage::Left => None,
+    }
+}
+
 impl Notes {
     /// Nothing is noted yet.
     pub fn new() -> Notes
@@ -61,6 +92,9 @@ impl Notes {
             has_resumed: false,
             contexts: ToldContexts::new(),
             asked: None,
+            has_missed: false,
+            is_stopped: false,
+            halted: None,
         }
     }
 }

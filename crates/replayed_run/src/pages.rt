@@ -1,8 +1,12 @@
 //! Which page each frame holds, and what was last shown of each page.
-ghost use Rattle.std.specs.Prelude.{◌≡◌, ◌<◌, ◌≤◌, IfOk, None, Some, length, map, replicate, slice_index_or, slice_set, if◌then◌else◌};
+ghost use Rattle.std.specs.Prelude.{◌≡◌, ◌<◌, ◌≤◌, IfOk, List, None, Some, length, map, replicate, slice_index_or, slice_set, if◌then◌else◌};
+ghost use Rattle.cloak_model.specs.declared.image.Bundle.{Bundle};
+ghost use Rattle.cloak_model.specs.Items.{Item};
+ghost use Rattle.replayed_run.specs.Machines.{StandAlone};
 ghost use Rattle.replayed_run.specs.PagesTold as spec;
 ghost use Rattle.replayed_run.specs.PagesTold.{pages_of};
 
+use crate::machines::Machines;
 use cloak_base::{NoMemory, PageId};
 use cloak_model::Program;
 use std::alloc::Global;
@@ -73,32 +77,37 @@ fn set_last(last: &mut [Option<Showing>], place: usize, now: Option<Showing>)
     }
 }
 
-/// What was last shown of a page is of this program.
-fn is_of(domain: u32, was: &Option<Showing>) -> bool
-    ensures { spec.forgotten domain was.now ≡ if result then None else was.now }
+/// What was last shown of a page is of this program, and of a resource that is not there any more.
+fn is_gone(machines: &Machines, domain: u32, was: &Option<Showing>) -> bool
+    ensures { (b : Bundle) (items : List Item) → StandAlone b items machines.now →
+        spec.forgotten b items domain was.now ≡ if result then None else was.now }
 {
     match was {
         None => false,
-        Some(showing) => showing.page.domain == domain,
+        Some(Showing { page, .. }) => {
+            page.domain == domain && !machines.has_resource(domain, page.resource)
+        }
     }
 }
 
-/// What was last shown of the page at this place is of no more use if it is of this program.
-fn forget_at(last: &mut [Option<Showing>], place: usize, domain: u32)
+/// What was last shown of the page at this place is of no more use if it is of a resource of this program that ended.
+fn forget_at(last: &mut [Option<Showing>], place: usize, machines: &Machines, domain: u32)
     requires { place < length last.old }
-    ensures { last.new ≡ slice_set last.old place (spec.forgotten domain (slice_index_or last.old place None)) }
+    ensures { (b : Bundle) (items : List Item) → StandAlone b items machines.now → last.new ≡
+        slice_set last.old place (spec.forgotten b items domain (slice_index_or last.old place None)) }
 {
-    if is_of(domain, &last[place]) {
+    if is_gone(machines, domain, &last[place]) {
         last[place] = None;
     }
 }
 
-/// What was last shown of the pages of a program is of no more use.
-fn forget_all(last: &mut [Option<Showing>], domain: u32)
-    ensures { last.new ≡ map (spec.forgotten domain) last.old }
+/// What was last shown of the pages of a program's resources that ended is of no more use.
+fn forget_ended(last: &mut [Option<Showing>], machines: &Machines, domain: u32)
+    ensures { (b : Bundle) (items : List Item) → StandAlone b items machines.now →
+        last.new ≡ map (spec.forgotten b items domain) last.old }
 {
     for place in 0..last.len() {
-        forget_at(last, place, domain);
+        forget_at(last, place, machines, domain);
     }
 }
 
@@ -196,11 +205,12 @@ impl Pages {
         }
     }
 
-    /// A space of a program ended, and pages with it: what is shown of a page from now on may be of another one.
-    pub fn forget(&mut self, domain: u32)
-        ensures { pages_of self.new ≡ spec.all_forgotten domain (pages_of self.old) }
+    /// Resources of a program ended, and their pages: what is shown of such a page from now on is of another resource.
+    pub fn forget(&mut self, machines: &Machines, domain: u32)
+        ensures { (b : Bundle) (items : List Item) → StandAlone b items machines.now →
+            pages_of self.new ≡ spec.ended_forgotten b items domain (pages_of self.old) }
     {
-        forget_all(self.last.as_mut_slice(), domain);
+        forget_ended(self.last.as_mut_slice(), machines, domain);
     }
 
     /// A frame shows zeros: the page that it held is no more.

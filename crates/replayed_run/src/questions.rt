@@ -1,4 +1,5 @@
 //! What a program asks for in a step: its accesses, in order.
+ghost use Rattle.cloak_model.specs.Items.{item_of};
 ghost use Rattle.std.specs.Prelude.{◌≡◌, ◌<◌, ℕ, List, Some, None, IfSome};
 ghost use Rattle.cloak_model.specs.DomainAlone as model;
 ghost use Rattle.alone_views.specs.DomainStanding.{StandsForDomain};
@@ -45,8 +46,8 @@ impl Questions {
     }
 
     /// After an item, which is the answer of a question if it is an answer.
-    pub fn after(self, item: &Item, question: AskedAccess) -> Questions
-        ensures { result ≡ spec.questions_after self question item.now }
+    pub fn after(self, item: &Item<'_>, question: AskedAccess) -> Questions
+        ensures { result ≡ spec.questions_after self question (item_of item.now) }
     {
         match item {
             Item::Step { .. } => Questions::none(),

@@ -11,9 +11,7 @@ impl Emit for Silent {
 
     ghost gave = { GaveSilent };
 
-    fn item(&mut self, _: &Item) {}
-
-    fn cipher(&mut self, _: u32, _: &[u8; 4096]) {}
+    fn item(&mut self, _: &Item<'_>) {}
 
     fn console(&mut self, _: u8) {}
 }

@@ -1,11 +1,12 @@
 //! A run as it is made again from the items of its record: the kernel, the programs, what is noted of them, and which page each
 //! frame shows.
-ghost use Rattle.std.specs.Prelude.{◌≡◌, ◌/◌, ◌*◌, ◌++◌, ◌&&◌, [], ◌∷◌, List, IfOk, false, not, option_copied, slice_get};
+ghost use Rattle.cloak_model.specs.Items.{item_of};
+ghost use Rattle.std.specs.Prelude.{◌≡◌, ◌/◌, ◌*◌, ◌++◌, ◌&&◌, ◌||◌, [], ◌∷◌, List, IfOk, false, not, option_copied, slice_get};
 ghost use Rattle.cloak_model.specs.Bundle.{IsInGrammar};
 ghost use Rattle.cloak_model.specs.KernelAlone.{kernel_alone, kernel_hart};
 ghost use Rattle.cloak_model.specs.Record.{IsItem};
 ghost use Rattle.cloak_model.specs.declared.image.Bundle.{Bundle};
-ghost use Rattle.cloak_model.specs.declared.item.Item.{Item};
+ghost use Rattle.cloak_model.specs.Items.{Item as AnyItem};
 ghost use Rattle.alone_views.specs.KernelStages.{stood_stage};
 ghost use Rattle.replayed_run.specs.Alone as alone;
 ghost use Rattle.replayed_run.specs.Alone.{standing_told};
@@ -23,7 +24,7 @@ ghost use Rattle.replayed_run.specs.Watching.{KeepsRun, PagesNext, WatchTakes, W
 use crate::contexts::{FirstTable, ToldContext};
 use crate::frames::{PresentedPage, Tables};
 use crate::machines::{HartWords, Machines, StandingContext};
-use crate::notes::{Asking, Notes, asked_from};
+use crate::notes::{Asking, Notes, asked_from, halted_from};
 use crate::pages::{Pages, Showing};
 use crate::questions::Questions;
 use alone_views::{AskedAccess, KernelStage, Unfit};
@@ -44,7 +45,7 @@ pub struct Watch {
 
 /// Every byte is zero.
 fn is_wiped(bytes: &[u8; 4096]) -> bool
-    ensures { result ≡ paging.is_wiped bytes.now }
+    ensures { result ≡ noted.is_wiped bytes.now }
 {
     bytes.iter().all(|byte| *byte == 0)
 }
@@ -79,7 +80,7 @@ impl Watch {
 
     /// Where the items of the kernel stand.
     pub fn stage(&self) -> KernelStage
-        ensures { (b : Bundle) (items : List Item) → Watches b items self.now →
+        ensures { (b : Bundle) (items : List AnyItem) → Watches b items self.now →
             stood_stage result ≡ (kernel_alone b.kernel items).stage }
     {
         self.machines.stage()
@@ -87,7 +88,7 @@ impl Watch {
 
     /// What a hart says as it asks to resume a context.
     pub fn words_of(&self, hart: usize) -> HartWords
-        ensures { (b : Bundle) (items : List Item) → Watches b items self.now →
+        ensures { (b : Bundle) (items : List AnyItem) → Watches b items self.now →
             result ≡ alone.words_of (kernel_hart (kernel_alone b.kernel items).kernel hart) }
     {
         self.machines.words_of(hart)
@@ -95,7 +96,7 @@ impl Watch {
 
     /// The hart of a number.
     pub fn hart_at(&self, number: usize) -> Option<&Hart>
-        ensures { (b : Bundle) (items : List Item) → Watches b items self.now →
+        ensures { (b : Bundle) (items : List AnyItem) → Watches b items self.now →
             option_copied result ≡ slice_get (kernel_alone b.kernel items).kernel.harts number }
     {
         self.machines.hart_at(number)
@@ -103,7 +104,7 @@ impl Watch {
 
     /// The page tables of the hart whose step is open.
     pub fn tables(&self) -> Option<Tables>
-        ensures { (b : Bundle) (items : List Item) → Watches b items self.now →
+        ensures { (b : Bundle) (items : List AnyItem) → Watches b items self.now →
             result ≡ leading.tables_in (kernel_alone b.kernel items) }
     {
         self.machines.tables()
@@ -111,7 +112,7 @@ impl Watch {
 
     /// The frames as the kernel sees them.
     pub fn frames(&self) -> &[[u8; 4096]]
-        ensures { (b : Bundle) (items : List Item) → Watches b items self.now →
+        ensures { (b : Bundle) (items : List AnyItem) → Watches b items self.now →
             result.now ≡ (kernel_alone b.kernel items).kernel.ram }
     {
         self.machines.frames()
@@ -119,7 +120,7 @@ impl Watch {
 
     /// The frame that an address of a program leads to.
     pub fn frame_for(&self, tables: Tables, address: u32, kind: Kind) -> Option<usize>
-        ensures { (b : Bundle) (items : List Item) → Watches b items self.now →
+        ensures { (b : Bundle) (items : List AnyItem) → Watches b items self.now →
             result ≡ frame_for (kernel_alone b.kernel items).kernel.ram tables address kind }
     {
         self.machines.frame_for(tables, address, kind)
@@ -127,7 +128,7 @@ impl Watch {
 
     /// Which page each frame holds, and what was shown of them.
     pub fn pages(&self) -> &Pages
-        ensures { (b : Bundle) (items : List Item) → Watches b items self.now →
+        ensures { (b : Bundle) (items : List AnyItem) → Watches b items self.now →
             pages_of result.now ≡ (paged_in b items).pages }
     {
         &self.pages
@@ -140,9 +141,23 @@ impl Watch {
         self.notes.asked
     }
 
+    /// A draw was missing: for a frame, which was shown as zeros, or for a question that was stopped and ended no program.
+    pub fn lacks_draw(&self) -> bool
+        ensures { result ≡ noted.lacks_draw (notes_of self.now) }
+    {
+        self.notes.has_missed || self.notes.is_stopped
+    }
+
+    /// The value with which the step that ended last halted.
+    pub fn halted(&self) -> Option<u32>
+        ensures { result ≡ (notes_of self.now).halted }
+    {
+        self.notes.halted
+    }
+
     /// There is a program of this number.
     pub fn has_program(&self, domain: u32) -> bool
-        ensures { (b : Bundle) (items : List Item) → Watches b items self.now →
+        ensures { (b : Bundle) (items : List AnyItem) → Watches b items self.now →
             result ≡ alone.has_program b domain }
     {
         (domain as usize) < self.machines.programs.len()
@@ -164,7 +179,7 @@ impl Watch {
 
     /// A context, if there is one of this number.
     pub fn context(&self, ctx: u32) -> Option<StandingContext>
-        ensures { (b : Bundle) (items : List Item) → StandAlone b items self.now.machines →
+        ensures { (b : Bundle) (items : List AnyItem) → StandAlone b items self.now.machines →
             result ≡ standing_told b items ctx }
     {
         self.machines.context(ctx)
@@ -172,7 +187,7 @@ impl Watch {
 
     /// The page of the last question, and the frame in which the kernel presents it.
     pub fn presented(&self) -> Option<PresentedPage>
-        ensures { (b : Bundle) (items : List Item) → Watches b items self.now →
+        ensures { (b : Bundle) (items : List AnyItem) → Watches b items self.now →
             result ≡ leading.presented_by (kernel_alone b.kernel items) (questioned_in b items).questions.last }
     {
         self.machines.presented(self.questions.last)
@@ -180,7 +195,7 @@ impl Watch {
 
     /// A context is in this space.
     fn is_in_space(&self, ctx: u32, space: u32) -> bool
-        ensures { (b : Bundle) (items : List Item) → StandAlone b items self.now.machines →
+        ensures { (b : Bundle) (items : List AnyItem) → StandAlone b items self.now.machines →
             result ≡ noted.is_in_space space (standing_told b items ctx) }
     {
         match self.context(ctx) {
@@ -191,7 +206,7 @@ impl Watch {
 
     /// No context of a program is in this space.
     fn is_left(&self, space: u32) -> bool
-        ensures { (b : Bundle) (items : List Item) → StandAlone b items self.now.machines →
+        ensures { (b : Bundle) (items : List AnyItem) → StandAlone b items self.now.machines →
             result ≡ noted.is_left b items space 8 }
     {
         let first = space / 8 * 8;
@@ -204,7 +219,7 @@ impl Watch {
 
     /// A context was resumed.
     fn note_resume(&mut self, ctx: u32)
-        ensures notes { (b : Bundle) (items : List Item) → StandAlone b items self.old.machines →
+        ensures notes { (b : Bundle) (items : List AnyItem) → StandAlone b items self.old.machines →
             self.new.notes ≡ noted.resumed_notes b items self.old.notes ctx }
         ensures machines { self.new.machines ≡ self.old.machines }
         ensures pages { self.new.pages ≡ self.old.pages }
@@ -221,7 +236,7 @@ impl Watch {
 
     /// A context left. If it ended, its space may have ended with it.
     fn note_leave(&mut self, ctx: u32)
-        ensures notes { (b : Bundle) (items : List Item) → StandAlone b items self.old.machines →
+        ensures notes { (b : Bundle) (items : List AnyItem) → StandAlone b items self.old.machines →
             self.new.notes ≡ noted.left_notes b items self.old.notes ctx }
         ensures machines { self.new.machines ≡ self.old.machines }
         ensures pages { self.new.pages ≡ self.old.pages }
@@ -240,6 +255,7 @@ impl Watch {
     fn note_end(&mut self, stage: KernelStage)
         ensures notes { self.new.notes ≡ record self.old.notes {
           asked = noted.asked_unless self.old.notes.has_resumed (stood_stage stage) self.old.machines.kernel.ending;
+          halted = noted.halted_from (stood_stage stage) (λ hart. self.old.machines.kernel.ending);
         } }
         ensures machines { self.new.machines ≡ self.old.machines }
         ensures pages { self.new.pages ≡ self.old.pages }
@@ -249,6 +265,7 @@ impl Watch {
         } else {
             asked_from(stage, self.machines.kernel.ending())
         };
+        self.notes.halted = halted_from(stage, self.machines.kernel.ending());
     }
 
     /// A step begins.
@@ -261,10 +278,23 @@ impl Watch {
         self.notes.has_resumed = false;
     }
 
+    /// A frame is shown, as zeros if its page found no draw.
+    fn note_missed(&mut self, bytes: &[u8; 4096])
+        ensures notes { self.new.notes ≡ record self.old.notes {
+          has_missed = self.old.notes.has_missed || noted.is_wiped bytes.now;
+        } }
+        ensures machines { self.new.machines ≡ self.old.machines }
+        ensures pages { self.new.pages ≡ self.old.pages }
+    {
+        if is_wiped(bytes) {
+            self.notes.has_missed = true;
+        }
+    }
+
     /// Notes an item that the machines took, before which the kernel was at this stage.
-    fn note(&mut self, stage: KernelStage, item: &Item)
-        ensures notes { (b : Bundle) (items : List Item) → WatchTook b items item.now (stood_stage stage) self.old →
-            self.new.notes ≡ notes_after b items (items ++ item.now ∷ []) self.old.notes item.now }
+    fn note(&mut self, stage: KernelStage, item: &Item<'_>)
+        ensures notes { (b : Bundle) (items : List AnyItem) → WatchTook b items (item_of item.now) (stood_stage stage) self.old →
+            self.new.notes ≡ notes_after b items (items ++ (item_of item.now) ∷ []) self.old.notes (item_of item.now) }
         ensures machines { self.new.machines ≡ self.old.machines }
         ensures pages { self.new.pages ≡ self.old.pages }
     {
@@ -276,15 +306,15 @@ impl Watch {
             Item::Close { .. } => self.note_end(stage),
             Item::Resume { ctx, .. } => self.note_resume(*ctx),
             Item::Leave(shown) => self.note_leave(shown.ctx),
-            Item::Cipher { .. }
-            | Item::Put { .. }
+            Item::Cipher { bytes, .. } => self.note_missed(bytes),
+            Item::Stopped { .. } => self.notes.is_stopped = true,
+            Item::Ended { .. } => self.notes.is_stopped = false,
+            Item::Put { .. }
             | Item::End
             | Item::Ok { .. }
             | Item::Absent { .. }
             | Item::Word { .. }
-            | Item::Timer { .. }
-            | Item::Stopped { .. }
-            | Item::Ended { .. } => {}
+            | Item::Timer { .. } => {}
         }
     }
 
@@ -306,7 +336,7 @@ impl Watch {
     /// A program was granted this question.
     fn note_grant(&mut self, asked: AskedAccess)
         ensures run { KeepsRun self.old self.new }
-        ensures pages { (b : Bundle) (items : List Item) → StandAlone b items self.old.machines →
+        ensures pages { (b : Bundle) (items : List AnyItem) → StandAlone b items self.old.machines →
             pages_of self.new.pages ≡ paging.after_grant
             (leading.presented_by (kernel_alone b.kernel items) asked) (pages_of self.old.pages) }
     {
@@ -315,30 +345,25 @@ impl Watch {
         }
     }
 
-    /// A context left. If its space ended with it, what was shown of its program's pages is of no more use.
+    /// A context left. If it is not there any more, what was shown of pages that ended with it is of no more use.
     fn note_end_of_pages(&mut self, ctx: u32)
         ensures run { KeepsRun self.old self.new }
-        ensures pages { (b : Bundle) (items : List Item) → StandAlone b items self.old.machines →
-            pages_of self.new.pages ≡ paging.after_leave b items (standing_told b items ctx)
-            (told_of (notes_of self.old).contexts ctx) (pages_of self.old.pages) }
+        ensures pages { (b : Bundle) (items : List AnyItem) → StandAlone b items self.old.machines →
+            pages_of self.new.pages ≡ paging.after_leave b items ctx (standing_told b items ctx) (pages_of self.old.pages) }
     {
-        if self.context(ctx).is_some() {
-            return;
-        }
-        if let Some(was) = self.told(ctx) {
-            if self.is_left(was.space) {
-                self.pages.forget(was.space / 8);
-            }
+        match self.context(ctx) {
+            Some(_) => {}
+            None => self.pages.forget(&self.machines, ctx / 8),
         }
     }
 
     /// Notes what an item says of pages, of which this is the question. Returns what it shows of one, if it does.
-    fn note_page(&mut self, item: &Item, asked: AskedAccess) -> Option<Showing>
+    fn note_page(&mut self, item: &Item<'_>, asked: AskedAccess) -> Option<Showing>
         ensures run { KeepsRun self.old self.new }
-        ensures pages { (b : Bundle) (items : List Item) → PagesNext b items item.now asked self.old →
+        ensures pages { (b : Bundle) (items : List AnyItem) → PagesNext b items (item_of item.now) asked self.old →
             pages_of self.new.pages ≡
-            pages_after b items (items ++ item.now ∷ []) (pages_of self.old.pages) item.now }
-        ensures shows { result ≡ showing_in (pages_of self.old.pages) (notes_of self.old).step item.now }
+            pages_after b items (items ++ (item_of item.now) ∷ []) (pages_of self.old.pages) (item_of item.now) }
+        ensures shows { result ≡ showing_in (pages_of self.old.pages) (notes_of self.old).step (item_of item.now) }
     {
         match item {
             Item::Cipher { frame, bytes } => self.note_cipher(*frame, bytes),
@@ -364,11 +389,11 @@ impl Watch {
     }
 
     /// Takes the next item. Returns what it shows of a page, if it does.
-    pub fn take(&mut self, item: &Item) -> Result<Option<Showing>, Unfit>
-        ensures takes { (b : Bundle) (items : List Item) → IsItem item.now → Watches b items self.old →
-            WatchTakes b items item.now self.new result }
-        ensures shows { (b : Bundle) (items : List Item) → IsItem item.now → Watches b items self.old →
-            IfOk result (λ showing. showing ≡ showing_told b items item.now) }
+    pub fn take(&mut self, item: &Item<'_>) -> Result<Option<Showing>, Unfit>
+        ensures takes { (b : Bundle) (items : List AnyItem) → IsItem (item_of item.now) → Watches b items self.old →
+            WatchTakes b items (item_of item.now) self.new result }
+        ensures shows { (b : Bundle) (items : List AnyItem) → IsItem (item_of item.now) → Watches b items self.old →
+            IfOk result (λ showing. showing ≡ showing_told b items (item_of item.now)) }
     {
         let stage = self.machines.stage();
         let question = self.machines.question_for(item, self.questions.answers);

@@ -14,6 +14,8 @@ use Rattle.kernel_isolation.proofs.Turns.{IsSteady, turn_is_alone}
 use Rattle.reservation_law.specs.Deeds.{Idle, deed_of}
 use Rattle.reservation_law.specs.Writes.{outside_deed}
 use Rattle.reservation_law.proofs.Keeping.{AreWhole}
+use Rattle.cloak_model.proofs.SealStays.{seal_stays}
+use Rattle.reservation_law.proofs.Sizes.{IsChained}
 use Rattle.reservation_law.proofs.Turns.{TurnDoes, step_done}
 
 -- A hart that does not exist does nothing: no memory lies where it begins.
@@ -30,12 +32,14 @@ idle_past : (j : Joint) (inside : Option ℕ) → inside ≡ None → outside_de
 idle_past j None is = idle_started _ j.disk
 idle_past j (Some ctx) is = refl
 
--- At every moment each hart has its number, each reservation is of a word, and each frame has its 4096 bytes.
+-- At every moment each hart has its number, each reservation is of a word, each frame has its 4096 bytes, and pages
+-- are sealed by chained AES.
 pub record IsOrderly (j : Joint) : Type 0 where
   pub steady : IsSteady j
   pub ids : (k : ℕ) → k < length j.harts → (hart_in j k).id ≡ k
   pub words : (k pa : ℕ) → mark_of k j.memory.marks ≡ Some pa → pa % 4 ≡ 0
   pub whole : AreWhole j.memory.ram
+  pub chained : IsChained j.memory
 
 own_hart : (j : Joint) (number : ℕ) → IsOrderly j → let h = hart_in j number in
     (outside_deed j h h.inside ≡ Idle) ⊎ (h.id ≡ number)
@@ -52,7 +56,7 @@ pub step_does : (m : Moment) → IsOrderly m.joint → let h = hart_in m.joint (
     TurnDoes (outside_deed m.joint h h.inside) (next_hart m) m.joint.harts (seen_in
     m.joint.memory) t.items t.joint.harts
     (seen_in t.joint.memory)
-step_does m orderly = step_done m orderly.steady.places (own_hart m.joint (next_hart m) orderly)
+step_does m orderly = step_done m orderly.steady.places orderly.chained (own_hart m.joint (next_hart m) orderly)
 
 pub step_orderly : (m : Moment) → IsOrderly m.joint → IsOrderly (joint_step m).joint
 step_orderly m orderly =
@@ -68,4 +72,5 @@ step_orderly m orderly =
         | inr there ↦ orderly.words k pa there.0
       ];
       whole = does.whole orderly.whole;
+      chained = seal_stays m ∙ orderly.chained;
     }

@@ -7,7 +7,7 @@ use Rattle.std.proofs.lemmas.List.{get_or_past, get_or-replicate, get_or_append_
 use Rattle.cloak_base.specs.declared.causes.Stop.{Stop}
 use Rattle.cloak_model.specs.declared.image.Bundle.{Bundle}
 use Rattle.cloak_model.specs.declared.image.KernelImage.{KernelImage}
-use Rattle.cloak_model.specs.declared.item.Item.{Item}
+use Rattle.cloak_model.specs.Items.{Item}
 use Rattle.cloak_model.specs.Ahead.{with_shown}
 use Rattle.cloak_model.specs.Beginning.{Beginning, opening_from}
 use Rattle.cloak_model.specs.Cloaking.{seen_in}
@@ -28,7 +28,7 @@ use Rattle.reservation_law.specs.Reservations.{WasReserved, ReservationsAreKept,
 use Rattle.reservation_law.specs.Writes.{meets_word, has_byte, items_extents, hart_of_step, deed_of_step, writes_of_step, outside_deed, spares_word}
 use Rattle.reservation_law.proofs.Keeping.{marks_left}
 use Rattle.reservation_law.proofs.Items.{in_ram_low}
-use Rattle.reservation_law.proofs.Opened.{opened_whole}
+use Rattle.reservation_law.proofs.Opened.{opened_started}
 use Rattle.reservation_law.proofs.Moments.{IsOrderly, step_does, step_orderly}
 use Rattle.reservation_law.proofs.Turns.{TurnDoes}
 use Rattle.cloak_model.proofs.Opening.{length-started_harts}
@@ -116,12 +116,14 @@ pub opened_orderly : (b : Bundle) (from : Beginning) (o : RunEdge) → opening_f
 opened_orderly b from o opens =
     let opened = is_opened b from o opens in
     let harts : o.joint.harts ≡ (started_kernel b.kernel).harts = ap (λ (p : KernelPart). p.harts) opened.part in
+    let begun = opened_started b from o opens in
     record {
       steady = opened.steady;
       ids = subst (λ (l : List Hart). (k : ℕ) → k < length l → (slice_index_or l k (started 0 0)).id ≡ k) (sym harts)
           (kernel_ids b.kernel);
       words = λ k pa is. absurd (opened_marks b from o opens k pa is);
-      whole = opened_whole b from o opens;
+      whole = begun.whole;
+      chained = begun.chained;
     }
 
 -- The steps.

@@ -8,8 +8,8 @@ use Rattle.cloak_base.specs.declared.causes.Violation.{Violation}
 use Rattle.cloak_model.specs.declared.context.ResumeFault.{ResumeFault}
 use Rattle.cloak_model.specs.declared.inside.Went.{Went}
 use Rattle.cloak_model.specs.declared.inside.Went.TheVariants as went
-use Rattle.cloak_model.specs.declared.item.Item.{Item}
-use Rattle.cloak_model.specs.declared.item.Item.TheVariants as item
+use Rattle.cloak_model.specs.Items.{Item}
+use Rattle.cloak_model.specs.Items as item
 use Rattle.cloak_model.specs.declared.outcome.Kernel.{Kernel}
 use Rattle.cloak_model.specs.declared.outcome.Kernel.TheVariants.{Stay, Halt, Resume}
 use Rattle.cloak_model.specs.Ahead.{settle_touched, settled_step, made_after, with_shown}
@@ -43,7 +43,8 @@ use Rattle.reservation_law.specs.Writes.{Extent, has_byte, meets_word, deed_exte
 use Rattle.reservation_law.proofs.Items.{keeps_items, keeps_shown, keeps_inward, extents_append}
 use Rattle.reservation_law.proofs.Keeping.{SparesWord, SparesByte, AreWhole, Keeps, all_first, all_second, keeps_all, keeps_then, keeps_unmarked}
 use Rattle.reservation_law.proofs.Plain.{DoneBy, ticked_id, plain_step_does}
-use Rattle.reservation_law.proofs.Sizes.{HaveSizes, Sizes, cipher_sizes, touched_pages, sizes_domain_step, sizes_end}
+use Rattle.cloak_model.proofs.SealStays.{before_seal}
+use Rattle.reservation_law.proofs.Sizes.{HaveSizes, IsChained, Sizes, cipher_sizes, touched_pages, sizes_domain_step, sizes_end}
 use Rattle.cloak_base.proofs.Lists.{each_append}
 use Rattle.kernel_isolation.proofs.Turns.{memory_ram, memory_places}
 
@@ -295,15 +296,15 @@ outside_by j number s own shown sizes =
     let places : HasPlaces after.memory = shown.places ∙ (sym count ∙ ap length (ram_seen told.world)) in
     ended_done deed number j after items told.answer.ending does places (λ pa is. (done.conditional pa is).1)
 
-outside_done : (j : Joint) (number : ℕ) → HasPlaces j.memory → let h = hart_in j number in
+outside_done : (j : Joint) (number : ℕ) → HasPlaces j.memory → IsChained j.memory → let h = hart_in j number in
     let deed = deed_of h (seen_in (settle_touched h j.disk j.memory).memory) j.disk in
     (deed ≡ Idle) ⊎ (h.id ≡ number) → TurnDone deed number j (outside_step j number h)
 unfolding outside_step settled_step
-outside_done j number places own =
+outside_done j number places chained own =
     let h = hart_in j number in
     let s = settle_touched h j.disk j.memory in
     outside_by j number s own (touched_shown h j.disk j.memory places)
-    (cipher_sizes s.ciphers (touched_pages h j.disk j.memory))
+    (cipher_sizes s.ciphers (touched_pages h j.disk j.memory chained))
 
 -- A hart inside.
 
@@ -362,11 +363,11 @@ domain_done j j' number h d w (went.SpaceGone space s) same reached =
 
 told_done : (j : Joint) (number : ℕ) (h : Hart) (d : ℕ) (c : MidStep) (told : Told DomainStepped) →
     h.id ≡ id_in j.harts number → c.memory ≡ j.memory → c.items ≡ [] → Account (Cloaked c) told.world →
-    Sizes (Cloaked c) told.world → TurnDone Idle number j (after_domain_step j number h d told)
+    IsChained c.memory → Sizes (Cloaked c) told.world → TurnDone Idle number j (after_domain_step j number h d told)
 unfolding after_domain_step
-told_done j number h d c told same memory none account sizes =
+told_done j number h d c told same memory none account chained sizes =
     let w : World = told.world in
-    let sized = sizes.by (record { form = refl; items = subst HaveSizes (sym none) tt }) in
+    let sized = sizes.by (record { form = refl; chained = chained; items = subst HaveSizes (sym none) tt }) in
     let written : items_of w ≡ account.items = account.written ∙ ap (λ (l : List Item). l ++ account.items) none in
     let all : HaveSizes account.items = subst HaveSizes written sized.items in
     let made = keeps_items account.items (seen_in c.memory) account.within all in
@@ -400,15 +401,15 @@ after_interrupt_done j number h d was step places same =
     (record { harts = refl; keeps = keeps_all (seen_in j.memory); places = places })
 
 by_interrupt_done : (due : Bool) (j : Joint) (number : ℕ) (h : Hart) (d slot : ℕ) (was : Domain) →
-    HasPlaces j.memory →
+    HasPlaces j.memory → IsChained j.memory →
     h.id ≡ id_in j.harts number → TurnDone Idle number j (by_interrupt due j number h d slot was)
 unfolding by_interrupt
-by_interrupt_done true j number h d slot was places same = after_interrupt_done j number h d was _ places same
-by_interrupt_done false j number h d slot was places same =
+by_interrupt_done true j number h d slot was places chained same = after_interrupt_done j number h d was _ places same
+by_interrupt_done false j number h d slot was places chained same =
     let c : MidStep = cloak_of j.memory h d (pages_for was (context_at was.control.contexts slot)) in
     told_done j number h d c (domain_step slot was (Cloaked c)) same refl refl
     ((accounts_domain_step slot was (Cloaked c)).by (record { form = refl; places = places }))
-    (sizes_domain_step slot was (Cloaked c))
+    chained (sizes_domain_step slot was (Cloaked c))
 
 not_running_done : (j : Joint) (number ctx : ℕ) (h : Hart) → HasPlaces j.memory → h.id ≡ id_in j.harts number →
     TurnDone Idle number j (left j number h [] (not_running ctx))
@@ -417,17 +418,17 @@ not_running_done j number ctx h places same =
     (record { harts = refl; keeps = keeps_all (seen_in j.memory); places = places })
 
 running_done : (runs : Bool) (j : Joint) (number : ℕ) (h : Hart) (ctx : ℕ) (was : Domain) → HasPlaces j.memory →
-    h.id ≡ id_in j.harts number → TurnDone Idle number j (by_running runs j number h ctx was)
+    IsChained j.memory → h.id ≡ id_in j.harts number → TurnDone Idle number j (by_running runs j number h ctx was)
 unfolding by_running
-running_done false j number h ctx was places same = not_running_done j number ctx h places same
-running_done true j number h ctx was places same =
-    by_interrupt_done (interrupt_due h.mode h.csrs) j number h (domain_of ctx) (slot_of ctx) was places same
+running_done false j number h ctx was places chained same = not_running_done j number ctx h places same
+running_done true j number h ctx was places chained same =
+    by_interrupt_done (interrupt_due h.mode h.csrs) j number h (domain_of ctx) (slot_of ctx) was places chained same
 
 inside_done : (j : Joint) (number : ℕ) (h : Hart) (ctx : ℕ) (found : Option Domain) → HasPlaces j.memory →
-    h.id ≡ id_in j.harts number → TurnDone Idle number j (inside_step j number h ctx found)
+    IsChained j.memory → h.id ≡ id_in j.harts number → TurnDone Idle number j (inside_step j number h ctx found)
 unfolding inside_step
-inside_done j number h ctx None places same = not_running_done j number ctx h places same
-inside_done j number h ctx (Some was) places same = running_done _ j number h ctx was places same
+inside_done j number h ctx None places chained same = not_running_done j number ctx h places same
+inside_done j number h ctx (Some was) places chained same = running_done _ j number h ctx was places chained same
 
 -- The end of a domain after a step.
 
@@ -436,15 +437,15 @@ refused_done : (deed : Deed) (number : ℕ) (j : Joint) (t : Turn) → TurnDone 
 refused_done deed number j t turn = record { done = turn.done; calm = turn.calm; places = turn.places }
 
 end_done : (deed : Deed) (number : ℕ) (j : Joint) (t : Turn) (d : ℕ) (domain : Domain) (v : Violation) →
-    TurnDone deed number j t → t.violation ≡ Some v →
+    IsChained t.joint.memory → TurnDone deed number j t → t.violation ≡ Some v →
     let u = end_domain d domain v t in
     TurnDoes deed number j.harts (seen_in j.memory) u.items u.joint.harts (seen_in u.joint.memory)
 unfolding end_domain
-end_done deed number j t d domain v turn met =
+end_done deed number j t d domain v chained turn met =
     let c : MidStep = cloak_for t.joint.memory d in
     let w : World = (ask_end d (Cloaked c)).world in
     let e : EndsIn c w = end_shows d t.joint.memory turn.places in
-    let sized = (sizes_end d (Cloaked c)).by (record { form = refl; items = tt }) in
+    let sized = (sizes_end d (Cloaked c)).by (record { form = refl; chained = chained; items = tt }) in
     let items : items_of w ≡ cipher_items e.shows.ciphers = ap items_of e.is ∙ e.shows.items in
     let shown = keeps_shown e.shows.ciphers (seen_in t.joint.memory) e.shows.shown.frames
     (subst HaveSizes items sized.items) in
@@ -468,47 +469,53 @@ Does deed number j u = TurnDoes deed number j.harts (seen_in j.memory) u.items u
 
 once_done : (deed : Deed) (number : ℕ) (j : Joint) (t : Turn) (ended : Bool) (d : ℕ) (domain : Domain)
     (v : Violation) →
-    TurnDone deed number j t → t.violation ≡ Some v → Does deed number j (ends_once ended d domain v t)
+    IsChained t.joint.memory → TurnDone deed number j t → t.violation ≡ Some v →
+    Does deed number j (ends_once ended d domain v t)
 unfolding ends_once
-once_done deed number j t true d domain v turn met = (refused_done deed number j t turn).done
-once_done deed number j t false d domain v turn met = end_done deed number j t d domain v turn met
+once_done deed number j t true d domain v chained turn met = (refused_done deed number j t turn).done
+once_done deed number j t false d domain v chained turn met = end_done deed number j t d domain v chained turn met
 
 resumed_done : (deed : Deed) (number : ℕ) (j : Joint) (t : Turn) (found : Option Domain) (d : ℕ) (v : Violation) →
-    TurnDone deed number j t → t.violation ≡ Some v → Does deed number j (ends_resumed found d v t)
+    IsChained t.joint.memory → TurnDone deed number j t → t.violation ≡ Some v →
+    Does deed number j (ends_resumed found d v t)
 unfolding ends_resumed
-resumed_done deed number j t None d v turn met = (refused_done deed number j t turn).done
-resumed_done deed number j t (Some domain) d v turn met =
-    once_done deed number j t domain.control.ended d domain v turn met
+resumed_done deed number j t None d v chained turn met = (refused_done deed number j t turn).done
+resumed_done deed number j t (Some domain) d v chained turn met =
+    once_done deed number j t domain.control.ended d domain v chained turn met
 
 asked_done : (deed : Deed) (number : ℕ) (j : Joint) (t : Turn) (found : Option Domain) (d : ℕ) (v : Violation) →
-    TurnDone deed number j t → t.violation ≡ Some v → Does deed number j (ends_asked found d v t)
+    IsChained t.joint.memory → TurnDone deed number j t → t.violation ≡ Some v →
+    Does deed number j (ends_asked found d v t)
 unfolding ends_asked
-asked_done deed number j t None d v turn met = turn.done
-asked_done deed number j t (Some domain) d v turn met = end_done deed number j t d domain v turn met
+asked_done deed number j t None d v chained turn met = turn.done
+asked_done deed number j t (Some domain) d v chained turn met = end_done deed number j t d domain v chained turn met
 
 answers_done : (deed : Deed) (number : ℕ) (j : Joint) (t : Turn) (inside : Option ℕ) (o : Option Violation) →
-    TurnDone deed number j t → t.violation ≡ o → Does deed number j (answers_violation inside o t)
+    IsChained t.joint.memory → TurnDone deed number j t → t.violation ≡ o →
+    Does deed number j (answers_violation inside o t)
 unfolding answers_violation
-answers_done deed number j t inside None turn met = turn.done
-answers_done deed number j t None (Some v) turn met = resumed_done deed number j t _ (domain_met v) v turn met
-answers_done deed number j t (Some ctx) (Some v) turn met = asked_done deed number j t _ (domain_of ctx) v turn met
+answers_done deed number j t inside None chained turn met = turn.done
+answers_done deed number j t None (Some v) chained turn met =
+    resumed_done deed number j t _ (domain_met v) v chained turn met
+answers_done deed number j t (Some ctx) (Some v) chained turn met =
+    asked_done deed number j t _ (domain_of ctx) v chained turn met
 
 -- Every step.
 
-turn_done : (j : Joint) (number : ℕ) (inside : Option ℕ) → HasPlaces j.memory → let h = hart_in j number in
+turn_done : (j : Joint) (number : ℕ) (inside : Option ℕ) → HasPlaces j.memory → IsChained j.memory → let h = hart_in j number in
     let deed = outside_deed j h inside in (deed ≡ Idle) ⊎ (h.id ≡ number) →
     TurnDone deed number j (turn_of j number h inside)
 unfolding turn_of
-turn_done j number None places own = outside_done j number places own
-turn_done j number (Some ctx) places own =
-    inside_done j number (ticked (hart_in j number)) ctx _ places (ticked_id (hart_in j number))
+turn_done j number None places chained own = outside_done j number places chained own
+turn_done j number (Some ctx) places chained own =
+    inside_done j number (ticked (hart_in j number)) ctx _ places chained (ticked_id (hart_in j number))
 
-pub step_done : (m : Moment) → HasPlaces m.joint.memory → let h = hart_in m.joint (next_hart m) in
+pub step_done : (m : Moment) → HasPlaces m.joint.memory → IsChained m.joint.memory → let h = hart_in m.joint (next_hart m) in
     let deed = outside_deed m.joint h h.inside in (deed ≡ Idle) ⊎ (h.id ≡ next_hart m) →
     let t = joint_step m in
     TurnDoes deed (next_hart m) m.joint.harts (seen_in m.joint.memory) t.items t.joint.harts (seen_in t.joint.memory)
 unfolding joint_step
-step_done m places own =
+step_done m places chained own =
     let h = hart_in m.joint (next_hart m) in
     answers_done (outside_deed m.joint h h.inside) (next_hart m) m.joint (step_before_end m) h.inside _
-    (turn_done m.joint (next_hart m) h.inside places own) refl
+    (before_seal m ∙ chained) (turn_done m.joint (next_hart m) h.inside places chained own) refl

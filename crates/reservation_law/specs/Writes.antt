@@ -3,8 +3,8 @@ use Rattle.std.specs.Prelude.{ℕ, ◌+◌, ◌*◌, nat_lt, nat_le, Bool, not, 
 use Rattle.std.specs.List.{flat_map, list_any}
 use Rattle.cloak_base.specs.Constants.{ram_start}
 use Rattle.cloak_model.specs.declared.image.Bundle.{Bundle}
-use Rattle.cloak_model.specs.declared.item.Item.{Item}
-use Rattle.cloak_model.specs.declared.item.Item.TheVariants.{Cipher, Put}
+use Rattle.cloak_model.specs.Items.{Item}
+use Rattle.cloak_model.specs.Items.{Cipher, Put}
 use Rattle.cloak_model.specs.Ahead.{settle_touched}
 use Rattle.cloak_model.specs.Cloaking.{seen_in}
 use Rattle.cloak_model.specs.Hart.{Hart, hart_after}

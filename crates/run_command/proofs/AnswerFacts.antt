@@ -324,6 +324,7 @@ pub same_files : (asked : spec.Asked) (answer : Status) (held held' : List â„• â
 same_files (spec.Faulty fault) answer held held' same = same
 same_files (spec.View bundle_name record_name) answer held held' same = same
 same_files (spec.Solo domain bundle_name record_name) answer held held' same = same
+same_files (spec.SoloOver domain bundle_name record_name old) answer held held' same = same
 same_files (spec.Gen number bundle_name) answer held held' same = same
 same_files (spec.Demo number steps) answer held held' same = same
 same_files (spec.Stats bundle_name steps from) answer held held' same = same

@@ -1,7 +1,7 @@
 -- If no item of a record is unfit, none is on the way: a machine alone whose item was unfit stays that way.
 use Rattle.std.proofs.Common.{◌≡◌, ◌∙◌, ℕ, List, ◌++◌, Option, Some, None, refl, sym}
 use Rattle.cloak_model.specs.declared.image.KernelImage.{KernelImage}
-use Rattle.cloak_model.specs.declared.item.Item.{Item}
+use Rattle.cloak_model.specs.Items.{Item}
 use Rattle.cloak_model.specs.DomainAlone.{domain_alone_from, opened_with_part}
 use Rattle.cloak_model.specs.Parts.{DomainPart}
 use Rattle.cloak_model.specs.KernelAlone.{kernel_alone, opened_kernel}

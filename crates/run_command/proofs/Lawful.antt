@@ -2,7 +2,7 @@
 use Rattle.std.proofs.Common.{◌≡◌, ◌∙◌, ◌≤◌, ℕ, List, ◌++◌, Ok, Some, ap, slice_get}
 use Rattle.cloak_model.specs.declared.image.Bundle.{Bundle}
 use Rattle.cloak_model.specs.declared.image.Program.{Program}
-use Rattle.cloak_model.specs.declared.item.Item.{Item}
+use Rattle.cloak_model.specs.Items.{Item}
 use Rattle.cloak_model.specs.Beginning.{Beginning}
 use Rattle.cloak_model.specs.Bundle.{IsInGrammar}
 use Rattle.cloak_model.specs.DomainAlone.{domain_alone_from, part_from}
@@ -18,6 +18,9 @@ use Rattle.latest_store.proofs.Histories.{runs_give_latest}
 use Rattle.latest_store.proofs.Sums.{runs_add_up}
 use Rattle.load_law.proofs.Runs.{due_loads_end}
 use Rattle.reservation_law.proofs.Runs.{conditionals_store_reserved}
+use Rattle.context_law.proofs.Conditionals.{conditionals_end}
+use Rattle.context_law.proofs.OtherRegisters.{runs_keep_registers}
+use Rattle.context_law.proofs.RunRegisters.{runs_have_registers}
 use Rattle.context_law.proofs.Runs.{contexts_store_reserved}
 use Rattle.page_law.proofs.Ciphers.{ciphers_show_pages, pages_keep_their_keys}
 use Rattle.page_law.proofs.OwnDraws.{ciphers_have_own_draws}
@@ -100,6 +103,9 @@ is_lawful b from budget r grammar bytes all few runs =
       sums = runs_add_up b from budget r grammar runs;
       conditionals = conditionals_store_reserved b from budget r runs;
       inside = contexts_store_reserved b from budget r grammar begins runs;
+      attempts = conditionals_end b from budget r grammar begins runs;
+      registers = runs_have_registers b from budget r grammar begins runs;
+      kept_registers = runs_keep_registers b from budget r runs;
       ciphers = ciphers_show_pages b from budget r grammar runs;
       draws = ciphers_have_own_draws b from budget r runs;
       keys = pages_keep_their_keys b from budget r grammar runs;

@@ -11,7 +11,8 @@ use Rattle.latest_store.specs.LatestStore.{GivesLatest}
 use Rattle.latest_store.specs.Sums.{AddsUp}
 use Rattle.load_law.specs.Outcomes.{EndsDueLoads}
 use Rattle.reservation_law.specs.Reservations.{StoresOnlyReserved}
-use Rattle.context_law.specs.Inside.{StoresOnlyReservedInside}
+use Rattle.context_law.specs.Inside.{EndsConditionals, StoresOnlyReservedInside}
+use Rattle.context_law.specs.Registers.{OthersKeepRegisters, StepsHaveRegisters}
 use Rattle.page_law.specs.Ciphers.{HaveOwnDraws, ShowsPages}
 use Rattle.page_law.specs.Keys.{HaveOwnKeys}
 use Rattle.kernel_isolation.specs.Isolation.{joint_until}
@@ -40,10 +41,13 @@ pub record AsksRun (asked : spec.Asked) (held : List ℕ → Option (List ℕ)) 
 -- What is true of a run, however it begins and whatever its kernel does: its record reads back; after each step the
 -- kernel, and each program, is what it is alone on its own half; its programs' loads return what was stored last; a load
 -- that is due is completed, or faults to the kernel, or ends its domain, or stops the run; additions to a word of a
--- program by atomic instructions add up; SC stores only a word that was not written since its LR; the kernel is shown
--- pages as ciphertexts alone, each under its program's key and a draw of its own, and at no moment is a page to be sealed
--- under another key; a domain ended only if the kernel's side presented something other than what is recorded, and all
--- that it presented in this way was refused; and as the run was closed, no frame was owed a page any more.
+-- program by atomic instructions add up; SC stores only a word that was not written since its LR, and that of a program
+-- that reached its word writes 0 to its register if it stored it, and 1 if it did nothing; after each step that a context
+-- made its registers are what its instruction says, of which that of a completed load has the value, extended, and no
+-- other step changes them, but for the answer of a call that it waits for; the kernel is shown pages as ciphertexts alone,
+-- each under its program's key and a draw of its own, and at no moment is a page to be sealed under another key; a domain
+-- ended only if the kernel's side presented something other than what is recorded, and all that it presented in this way
+-- was refused; and as the run was closed, no frame was owed a page any more.
 pub record IsLawful (b : Bundle) (from : Beginning) (r : Run) : Type 0 where
   pub reads_back : ReadsBack b from r
   pub isolated : IsIsolated b from r
@@ -52,6 +56,9 @@ pub record IsLawful (b : Bundle) (from : Beginning) (r : Run) : Type 0 where
   pub sums : AddsUp b from r
   pub conditionals : StoresOnlyReserved b r
   pub inside : StoresOnlyReservedInside b from r
+  pub attempts : EndsConditionals b from r
+  pub registers : StepsHaveRegisters b from r
+  pub kept_registers : OthersKeepRegisters b r
   pub ciphers : ShowsPages b from r
   pub draws : HaveOwnDraws b from r
   pub keys : (n : ℕ) → HaveOwnKeys b.programs from (joint_until n r).memory.ledger

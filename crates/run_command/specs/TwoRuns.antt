@@ -2,7 +2,7 @@
 use Rattle.std.specs.Prelude.{ℕ, ◌≡◌, List, slice_get, Some}
 use Rattle.cloak_model.specs.declared.image.Bundle.{Bundle}
 use Rattle.cloak_model.specs.declared.image.Program.{Program}
-use Rattle.cloak_model.specs.declared.item.Item.{Item}
+use Rattle.cloak_model.specs.Items.{Item}
 use Rattle.cloak_model.specs.Record.{IsRecord}
 use Rattle.cloak_model.specs.Run.{Run, exchange, run_inward_half, run_outward_half}
 use Rattle.domain_isolation.specs.Isolation.{AgreeInDomain}

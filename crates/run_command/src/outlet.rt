@@ -1,4 +1,5 @@
 //! Where a run writes: the record to a shelf, the console and the report to a sink.
+ghost use Rattle.cloak_model.specs.Items.{item_of};
 ghost use Rattle.std.specs.Prelude.{◌≡◌, [], ◌∷◌};
 ghost use Rattle.cloak_model.specs.Exchange.{recorded, shown, Emits, item_bytes};
 ghost use Rattle.cloak_machine.specs.Ending.{end_report};
@@ -6,7 +7,7 @@ ghost use Rattle.cloak_machine.specs.Ending.{end_report};
 use crate::pen::RecordPen;
 use cloak_machine::RunEnd;
 use cloak_model::{Emit, Item};
-use exchange_log::{LONGEST, ok_bytes, step_bytes, word_bytes, write_cipher, write_item};
+use exchange_log::{LONGEST, ok_bytes, step_bytes, word_bytes, write_item};
 use io_traits::{Shelf, Sink, put_all};
 
 /// Writes pieces up to the first that fails.
@@ -25,21 +26,13 @@ impl<'s, 'n, 'o, S: Shelf, O: Sink> Emit for Outlet<'s, 'n, 'o, S, O> {
 
     // The most frequent items are appended where they are made, as pieces of a known length.
     #[inline(always)]
-    fn item(&mut self, i: &Item) {
+    fn item(&mut self, i: &Item<'_>) {
         match i {
             Item::Step { number } => self.append(&step_bytes(*number)),
             Item::Ok { domain } => self.append(&ok_bytes(*domain)),
             Item::Word { domain, value } => self.append(&word_bytes(*domain, *value)),
             _ => self.write(i),
         }
-    }
-
-    fn cipher(&mut self, frame: u32, bytes: &[u8; 4096]) {
-        if self.pen.has_failed() {
-            return;
-        }
-        let n = write_cipher(frame, bytes, &mut self.piece);
-        self.pen.append(&self.piece[..n]);
     }
 
     fn console(&mut self, b: u8) {
@@ -56,8 +49,8 @@ impl<'s, 'n, 'o, S: Shelf, O: Sink> Outlet<'s, 'n, 'o, S, O> {
 
     /// Appends an item to the record, by its bytes in the outlet's room.
     #[inline(never)]
-    fn write(&mut self, i: &Item)
-        ensures { Emits (Gave S.Shelf O.Sink) self.old self.new (recorded (item_bytes i.now) ∷ []) }
+    fn write(&mut self, i: &Item<'_>)
+        ensures { Emits (Gave S.Shelf O.Sink) self.old self.new (recorded (item_bytes (item_of i.now)) ∷ []) }
     {
         if self.pen.has_failed() {
             return;

@@ -1,5 +1,5 @@
 //! How many steps a column has.
-ghost use Rattle.std.specs.Prelude.{◌≡◌, ◌/◌, ◌==◌, ◌<◌};
+ghost use Rattle.std.specs.Prelude.{◌≡◌};
 ghost use Rattle.run_notes.specs.Columns as spec;
 
 /// The steps of this many units of 830, rounded up, and at least one.
@@ -13,7 +13,7 @@ pub fn steps_of(units: u32, steps: u32) -> u32
 
 /// Two steps lie in one column.
 pub fn is_same_column(column: u32, a: u32, b: u32) -> bool
-    ensures { 0 < column → result ≡ (a / column == b / column) }
+    ensures { result ≡ spec.is_same_column column a b }
 {
-    a.checked_div(column) == b.checked_div(column)
+    column == 0 || a / column == b / column
 }

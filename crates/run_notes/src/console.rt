@@ -5,8 +5,8 @@ use crate::marks::{Mark, MarkKind, Marks};
 use cloak_base::NoMemory;
 use std::alloc::Global;
 
-/// The most bytes that are drawn each at its step.
-const FIRST: usize = 600;
+/// The most bytes that are drawn each at its step: more do not fit side by side.
+const FIRST: usize = 100;
 
 /// A byte and its step.
 #[derive(Clone, Copy)]
@@ -24,7 +24,7 @@ pub struct Printed {
     pub count: u64,
     /// Where bytes were printed.
     pub marks: Marks,
-    ghost few: { vec_len first ≤ 600 },
+    ghost few: { vec_len first ≤ 100 },
 }
 
 impl Printed {
@@ -52,7 +52,7 @@ impl Printed {
 
     /// All bytes, each with its step; none if there are more than are kept.
     pub fn all(&self) -> Option<&[PrintedByte]>
-        ensures few { IfSome result (λ bytes. length bytes.now ≤ 600) }
+        ensures few { IfSome result (λ bytes. length bytes.now ≤ 100) }
     {
         if self.count <= self.first.len() as u64 {
             Some(self.first.as_slice())

@@ -1,5 +1,5 @@
 //! The marks of a row. Those of one kind in one column are one.
-ghost use Rattle.std.specs.Prelude.{◌≤◌, length, vec_len};
+ghost use Rattle.std.specs.Prelude.{◌≡◌, ◌≤◌, ◌<◌, [], IfOk, length, replicate, None, vec_capacity, vec_len};
 
 use crate::columns::is_same_column;
 use cloak_base::{NoMemory, PageId};
@@ -32,8 +32,13 @@ pub enum MarkKind {
 }
 
 impl MarkKind {
+    ghost use Rattle.run_notes.specs.Marking as spec;
+
     /// Its place among the kinds.
-    fn place(self) -> usize {
+    fn place(self) -> usize
+        ensures value { result ≡ spec.place_of self }
+        ensures below { result < 9 }
+    {
         match self {
             MarkKind::Shown => 0,
             MarkKind::Written => 1,
@@ -66,8 +71,12 @@ pub struct Mark {
 }
 
 impl Mark {
+    ghost use Rattle.run_notes.specs.Marking as spec;
+
     /// One mark.
-    pub fn of(kind: MarkKind, step: u32) -> Mark {
+    pub fn of(kind: MarkKind, step: u32) -> Mark
+        ensures { result ≡ spec.mark_of kind step }
+    {
         Mark {
             kind,
             first: step,
@@ -81,13 +90,44 @@ impl Mark {
     }
 
     /// It tells this number.
-    pub fn with(self, number: u32) -> Mark {
+    pub fn with(self, number: u32) -> Mark
+        ensures { result ≡ record self { number = number } }
+    {
         Mark { number, ..self }
     }
 
     /// It is about this page.
-    pub fn about(self, page: Option<PageId>) -> Mark {
+    pub fn about(self, page: Option<PageId>) -> Mark
+        ensures { result ≡ record self { page = page } }
+    {
         Mark { page, ..self }
+    }
+
+    /// It tells this cause.
+    pub fn because(self, cause: u32) -> Mark
+        ensures { result ≡ record self { cause = cause } }
+    {
+        Mark { cause, ..self }
+    }
+
+    /// A mark of its kind at this step is drawn with it. One of the opening stands only with others of it.
+    fn is_beside(&self, column: u32, step: u32) -> bool
+        ensures { result ≡ spec.is_beside column self.now step }
+    {
+        let opening = self.first == 0 || step == 0;
+        is_same_column(column, self.first, step) && (!opening || self.first == step)
+    }
+
+    /// It and another one after it, as one.
+    fn joined(&self, next: &Mark) -> Mark
+        ensures { result ≡ spec.joined self.now next.now }
+    {
+        Mark {
+            last: next.last,
+            count: self.count.saturating_add(next.count),
+            mixed: self.mixed || (self.number != next.number || self.cause != next.cause),
+            ..*self
+        }
     }
 }
 
@@ -99,11 +139,17 @@ pub struct Marks {
     /// Where the last mark of each kind stands.
     latest: [Option<usize>; 9],
     ghost few: { vec_len made ≤ 1600 },
+    ghost room: { 1600 ≤ vec_capacity made },
 }
 
 impl Marks {
+    ghost use Rattle.run_notes.specs.Marking as spec;
+    ghost use Rattle.run_notes.specs.Marking.{marks_now};
+
     /// None yet.
-    pub fn open(alloc: Global, column: u32) -> Result<Marks, NoMemory> {
+    pub fn open(alloc: Global, column: u32) -> Result<Marks, NoMemory>
+        ensures { IfOk result (λ m. marks_now m ≡ record { column = column; made = []; latest = replicate 9 None }) }
+    {
         Ok(Marks {
             column,
             made: Vec::with_capacity(alloc, MOST)?,
@@ -113,17 +159,19 @@ impl Marks {
 
     /// Those that were made.
     pub fn made(&self) -> &[Mark]
-        ensures { length result.now ≤ 1600 }
+        ensures few { length result.now ≤ 1600 }
+        ensures value { result.now ≡ (marks_now self.now).made }
     {
         self.made.as_slice()
     }
 
-    /// The last mark of a kind, if another one at this step stands in its column.
-    fn latest(&mut self, kind: MarkKind, step: u32) -> Option<usize> {
-        let at = (*self.latest.get(kind.place())?)?;
+    /// Where the last mark of a kind stands, if another one at this step is drawn with it.
+    fn beside(&self, kind: MarkKind, step: u32) -> Option<usize>
+        ensures { result ≡ spec.beside (marks_now self.now) kind step }
+    {
+        let at = self.latest[kind.place()]?;
         let mark = self.made.get(at)?;
-        let opening = mark.first == 0 || step == 0;
-        if is_same_column(self.column, mark.first, step) && (!opening || mark.first == step) {
+        if mark.is_beside(self.column, step) {
             Some(at)
         } else {
             None
@@ -131,29 +179,33 @@ impl Marks {
     }
 
     /// A mark more.
-    fn put(&mut self, mark: Mark) {
+    fn put(&mut self, mark: Mark)
+        ensures { marks_now self.new ≡ spec.put (marks_now self.old) mark }
+    {
         let at = self.made.len();
         if at < MOST {
-            if self.made.push(mark).is_ok() {
-                if let Some(latest) = self.latest.get_mut(mark.kind.place()) {
-                    *latest = Some(at);
-                }
-            }
+            let _ = self.made.push(mark);
+            self.latest[mark.kind.place()] = Some(at);
+        }
+    }
+
+    /// The mark at a place, with another one.
+    fn join(&mut self, at: usize, mark: Mark)
+        ensures { marks_now self.new ≡ spec.added_at (marks_now self.old) mark (Some at) }
+    {
+        if at < self.made.len() {
+            let joined = self.made[at].joined(&mark);
+            self.made[at] = joined;
         }
     }
 
     /// A mark more, or one with the last of its kind.
-    pub fn add(&mut self, mark: Mark) {
-        let Some(at) = self.latest(mark.kind, mark.first) else {
-            self.put(mark);
-            return;
-        };
-        if let Some(latest) = self.made.get_mut(at) {
-            if latest.number != mark.number || latest.cause != mark.cause {
-                latest.mixed = true;
-            }
-            latest.last = mark.last;
-            latest.count = latest.count.saturating_add(mark.count);
+    pub fn add(&mut self, mark: Mark)
+        ensures { marks_now self.new ≡ spec.added (marks_now self.old) mark }
+    {
+        match self.beside(mark.kind, mark.first) {
+            None => self.put(mark),
+            Some(at) => self.join(at, mark),
         }
     }
 }

@@ -1,5 +1,6 @@
 //! What is drawn: how many steps there are, and which frames and blocks have rows.
 ghost use Rattle.std.specs.Prelude.{◌≡◌, ◌≤◌, vec_len, IfOk};
+ghost use Rattle.run_notes.specs.Planning as spec;
 ghost use Rattle.run_notes.specs.Planning.{IsPlan};
 
 use cloak_base::NoMemory;
@@ -9,6 +10,12 @@ use std::alloc::Global;
 const FRAMES: usize = 24;
 
 const BLOCKS: usize = 6;
+
+/// There is much to tell of a frame with more marks.
+const BUSY: u32 = 30;
+
+/// The most frames that have rows, if there is much to tell of more.
+const BUSY_FRAMES: usize = 12;
 
 /// How much there is to tell of a frame or a block.
 #[derive(Clone, Copy)]
@@ -84,9 +91,33 @@ fn chosen(alloc: Global, weights: &[Weight], most: usize) -> Result<Vec<u32>, No
 }
 
 /// How many have something to tell.
-fn told(weights: &[Weight]) -> u32 {
-    let count = weights.iter().filter(|weight| weight.is_shown).count();
+fn told(weights: &[Weight]) -> u32
+    ensures { result ≡ spec.told weights.now }
+{
+    let mut count = 0usize;
+    for weight in weights {
+        if weight.is_shown {
+            count += 1;
+        }
+    }
     count.min(u32::MAX as usize) as u32
+}
+
+/// The most frames that have rows.
+fn most_frames(weights: &[Weight]) -> usize
+    ensures { result ≡ spec.most_frames weights.now }
+{
+    let mut busy = 0usize;
+    for weight in weights {
+        if BUSY < weight.marks {
+            busy += 1;
+        }
+    }
+    if BUSY_FRAMES < busy {
+        BUSY_FRAMES
+    } else {
+        FRAMES
+    }
 }
 
 impl Plan {
@@ -110,11 +141,12 @@ impl Plan {
         frames: &[Weight],
         blocks: &[Weight],
     ) -> Result<Plan, NoMemory>
-        ensures { IfOk result (IsPlan steps end) }
+        ensures { IfOk result (IsPlan steps end frames.now blocks.now) }
     {
-        let chosen_frames = chosen(alloc, frames, FRAMES)?;
+        let most = most_frames(frames);
+        let chosen_frames = chosen(alloc, frames, most)?;
         let chosen_blocks = chosen(alloc, blocks, BLOCKS)?;
-        let more_frames = told(frames).saturating_sub(FRAMES as u32);
+        let more_frames = told(frames).saturating_sub(most as u32);
         let more_blocks = told(blocks).saturating_sub(BLOCKS as u32);
         Ok(Plan {
             steps,

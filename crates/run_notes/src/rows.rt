@@ -1,4 +1,7 @@
 //! The rows of frames and blocks.
+ghost use Rattle.std.specs.Prelude.{◌≡◌, length, map, min, slice_set};
+ghost use Rattle.run_notes.specs.Rowing as spec;
+ghost use Rattle.run_notes.specs.Rowing.{if_of, row_now, rows_now, with_mark, with_put, with_sight};
 
 use crate::look::{Look, Sight};
 use crate::marks::{Mark, Marks};
@@ -42,20 +45,19 @@ impl Row {
     }
 
     /// After so many steps it has this.
-    pub fn set(&mut self, after: u32, sight: Sight) {
-        if sight.page.is_some() {
-            self.had_page = true;
+    pub fn set(&mut self, after: u32, sight: Sight)
+        ensures { row_now self.new ≡ with_sight sight (row_now self.old) }
+    {
+        if sight != self.sight {
+            self.stays.add(Stay {
+                from: self.since,
+                to: after,
+                sight: self.sight,
+                count: 1,
+            });
+            self.since = after.max(self.since);
         }
-        if sight == self.sight {
-            return;
-        }
-        self.stays.add(Stay {
-            from: self.since,
-            to: after,
-            sight: self.sight,
-            count: 1,
-        });
-        self.since = after.max(self.since);
+        self.had_page = self.had_page || sight.page.is_some();
         self.sight = sight;
     }
 
@@ -69,6 +71,69 @@ impl Row {
         });
         self.since = after.max(self.since);
         self.stays.end();
+    }
+}
+
+/// Sets what a frame or a block has.
+fn set_sight(sights: &mut [Sight], number: usize, sight: Sight)
+    ensures { sights.new ≡ slice_set sights.old number sight }
+{
+    if number < sights.len() {
+        sights[number] = sight;
+    }
+}
+
+/// A row has this, if it is of this number.
+fn set_one(row: &mut Row, number: u32, after: u32, sight: Sight)
+    ensures { row_now row.new ≡ if_of number (with_sight sight) (row_now row.old) }
+{
+    if row.number == number {
+        row.set(after, sight);
+    }
+}
+
+/// The row of this number has this.
+fn set_each(rows: &mut [Row], number: u32, after: u32, sight: Sight)
+    ensures { map row_now rows.new ≡ map (if_of number (with_sight sight)) (map row_now rows.old) }
+{
+    for row in rows.iter_mut() {
+        set_one(row, number, after, sight);
+    }
+}
+
+/// A row has a mark more, if it is of this number.
+fn mark_one(row: &mut Row, number: u32, mark: Mark)
+    ensures { row_now row.new ≡ if_of number (with_mark mark) (row_now row.old) }
+{
+    if row.number == number {
+        row.marks.add(mark);
+    }
+}
+
+/// The row of this number has a mark more.
+fn mark_each(rows: &mut [Row], number: u32, mark: Mark)
+    ensures { map row_now rows.new ≡ map (if_of number (with_mark mark)) (map row_now rows.old) }
+{
+    for row in rows.iter_mut() {
+        mark_one(row, number, mark);
+    }
+}
+
+/// A program stored into a row in the open, if it is of this number.
+fn put_one(row: &mut Row, number: u32)
+    ensures { row_now row.new ≡ if_of number with_put (row_now row.old) }
+{
+    if row.number == number {
+        row.had_put = true;
+    }
+}
+
+/// A program stored into the row of this number in the open.
+fn put_each(rows: &mut [Row], number: u32)
+    ensures { map row_now rows.new ≡ map (if_of number with_put) (map row_now rows.old) }
+{
+    for row in rows.iter_mut() {
+        put_one(row, number);
     }
 }
 
@@ -106,7 +171,9 @@ impl Rows {
     }
 
     /// What one has; zeros, if there is no such one.
-    pub fn sight(&self, number: u32) -> Sight {
+    pub fn sight(&self, number: u32) -> Sight
+        ensures { result ≡ spec.sight_at (rows_now self.now) number }
+    {
         match self.sights.get(number as usize) {
             Some(sight) => *sight,
             None => Sight::bare(Look::Zeros),
@@ -114,37 +181,31 @@ impl Rows {
     }
 
     /// After so many steps one has this.
-    pub fn set(&mut self, number: u32, after: u32, sight: Sight) {
-        if let Some(place) = self.sights.get_mut(number as usize) {
-            *place = sight;
-        }
-        for row in self.rows.iter_mut() {
-            if row.number == number {
-                row.set(after, sight);
-            }
-        }
+    pub fn set(&mut self, number: u32, after: u32, sight: Sight)
+        ensures { rows_now self.new ≡ spec.set_at (rows_now self.old) number sight }
+    {
+        set_sight(&mut self.sights, number as usize, sight);
+        set_each(&mut self.rows, number, after, sight);
     }
 
     /// A mark at one.
-    pub fn mark(&mut self, number: u32, mark: Mark) {
-        for row in self.rows.iter_mut() {
-            if row.number == number {
-                row.marks.add(mark);
-            }
-        }
+    pub fn mark(&mut self, number: u32, mark: Mark)
+        ensures { rows_now self.new ≡ spec.marked_at (rows_now self.old) number mark }
+    {
+        mark_each(&mut self.rows, number, mark);
     }
 
     /// A program stored into one in the open.
-    pub fn note_put(&mut self, number: u32) {
-        for row in self.rows.iter_mut() {
-            if row.number == number {
-                row.had_put = true;
-            }
-        }
+    pub fn note_put(&mut self, number: u32)
+        ensures { rows_now self.new ≡ spec.put_at (rows_now self.old) number }
+    {
+        put_each(&mut self.rows, number);
     }
 
     /// How many there are.
-    pub fn len(&self) -> u32 {
+    pub fn len(&self) -> u32
+        ensures { result ≡ min (length (rows_now self.now).sights) 4294967295 }
+    {
         self.sights.len().min(u32::MAX as usize) as u32
     }
 

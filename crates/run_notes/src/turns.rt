@@ -1,5 +1,6 @@
 //! Who runs on a hart: the kernel, or a context. Short turns are gathered until they fill a stretch, with the time of each.
-ghost use Rattle.std.specs.Prelude.{◌≤◌, length, vec_len};
+ghost use Rattle.std.specs.Prelude.{◌≡◌, ◌≤◌, ◌-◌, length, vec_len};
+ghost use Rattle.run_notes.specs.Turning as spec;
 
 use cloak_base::NoMemory;
 use std::alloc::Global;
@@ -20,38 +21,71 @@ pub struct Turn {
     pub count: u32,
 }
 
+/// The place of who runs among the times.
+fn place_of(inside: Option<u32>) -> usize
+    ensures { result ≡ spec.place_of inside }
+{
+    match inside {
+        None => 0,
+        Some(ctx) => (ctx / 8).min(3) as usize + 1,
+    }
+}
+
+/// The context that runs, or 0.
+fn context_of(inside: Option<u32>) -> u32
+    ensures { result ≡ spec.context_of inside }
+{
+    match inside {
+        None => 0,
+        Some(ctx) => ctx,
+    }
+}
+
+/// The times of each together.
+fn times_of(a: &[u32; 5], b: &[u32; 5]) -> [u32; 5]
+    ensures { result ≡ spec.times_of a.now b.now }
+{
+    [
+        a[0].saturating_add(b[0]),
+        a[1].saturating_add(b[1]),
+        a[2].saturating_add(b[2]),
+        a[3].saturating_add(b[3]),
+        a[4].saturating_add(b[4]),
+    ]
+}
+
 impl Turn {
     /// One turn.
-    fn of(from: u32, to: u32, inside: Option<u32>) -> Turn {
+    fn of(from: u32, to: u32, inside: Option<u32>) -> Turn
+        ensures { result ≡ spec.turn_of from to inside }
+    {
         let mut times = [0; 5];
-        let length = to.saturating_sub(from);
-        let place = match inside {
-            None => 0,
-            Some(ctx) => (ctx / 8).min(3).saturating_add(1),
-        };
-        if let Some(time) = times.get_mut(place as usize) {
-            *time = length;
-        }
+        times[place_of(inside)] = to.saturating_sub(from);
         Turn {
             from,
             to,
             times,
-            ctx: inside.unwrap_or(0),
+            ctx: context_of(inside),
             count: 1,
         }
     }
 
     /// How many steps it has.
-    pub fn length(&self) -> u32 {
+    pub fn length(&self) -> u32
+        ensures { result ≡ self.now.to - self.now.from }
+    {
         self.to.saturating_sub(self.from)
     }
 
-    /// With another turn right after it.
-    fn join(&mut self, next: &Turn) {
-        self.to = next.to;
-        self.count = self.count.saturating_add(next.count);
-        for (time, more) in self.times.iter_mut().zip(next.times.iter()) {
-            *time = u32::saturating_add(*time, *more);
+    /// It and another turn right after it, as one.
+    fn joined(&self, next: &Turn) -> Turn
+        ensures { result ≡ spec.joined self.now next.now }
+    {
+        Turn {
+            to: next.to,
+            times: times_of(&self.times, &next.times),
+            count: self.count.saturating_add(next.count),
+            ..*self
         }
     }
 }
@@ -117,11 +151,7 @@ impl Turns {
         }
         let group = match self.group {
             None => turn,
-            Some(group) => {
-                let mut joined = group;
-                joined.join(&turn);
-                joined
-            }
+            Some(group) => group.joined(&turn),
         };
         self.group = Some(group);
         if group.length() >= self.column {

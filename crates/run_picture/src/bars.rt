@@ -15,22 +15,20 @@ pub fn text_width(signs: u64) -> u64 {
 
 /// The class of a bar.
 fn bar_class(sight: &Sight) -> Label {
-    let (before, after) = match sight.look {
+    let before = match sight.look {
         Look::Zeros => return Label::of("zero"),
         Look::Open => return Label::of("kern"),
         Look::Lost => return Label::of("cq"),
-        Look::Cipher => ("c", ""),
-        Look::Old => ("c", " o"),
-        Look::Altered => ("c", ""),
-        Look::Used => ("f", " u"),
-        Look::Changed => ("f", ""),
+        Look::Cipher | Look::Altered => "c",
+        Look::Old | Look::OldAltered => "o",
+        Look::Used => "u",
+        Look::Changed => "f",
     };
     let Some(domain) = sight.domain() else {
         return Label::of("cq");
     };
     let mut class = Label::of(before);
     class.number(u64::from(domain % 4));
-    class.text(after);
     class
 }
 
@@ -94,7 +92,7 @@ fn put_bar(canvas: &mut Canvas, stay: &Stay, y: u64) -> Result<(), NoMemory> {
     };
     canvas.rect(area, &bar_class(&stay.sight), &stay_title(stay))?;
     let none = Label::new();
-    if stay.sight.look == Look::Altered {
+    if stay.sight.look == Look::Altered || stay.sight.look == Look::OldAltered {
         canvas.path(x, y, &outline(width), &Label::of("alt"), &none)?;
     }
     if stay.count > 1 {

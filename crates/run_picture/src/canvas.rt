@@ -11,6 +11,9 @@ pub const LEFT: u64 = 1500;
 
 pub const WIDTH: u64 = 8300;
 
+/// Where they end.
+pub const RIGHT: u64 = 9800;
+
 /// The most elements of a picture's body.
 pub const MOST: u64 = 1900;
 
@@ -166,4 +169,15 @@ impl Canvas {
     pub fn down(&mut self, by: u64) {
         self.y = self.y.saturating_add(by);
     }
+}
+
+/// The head of some rows, with what they show.
+pub fn put_section(canvas: &mut Canvas, words: &str, what: &str) -> Result<(), NoMemory> {
+    canvas.down(200);
+    let label = Label::of(words);
+    let x = label.len().saturating_mul(86).saturating_add(260);
+    canvas.text(160, canvas.y, "h", &label)?;
+    canvas.text(x, canvas.y, "dim sm halo", &Label::of(what))?;
+    canvas.down(80);
+    Ok(())
 }

@@ -1,4 +1,7 @@
 //! The rows of harts.
+ghost use Rattle.std.specs.Prelude.{◌≡◌};
+ghost use Rattle.run_picture.specs.Words as words;
+ghost use Rattle.svg_text.specs.Labels.{put_signs, signs_of};
 
 use crate::bars::{text_width, wider_marks};
 use crate::canvas::{Area, Canvas};
@@ -61,17 +64,30 @@ fn quarters(turn: &Turn) -> [u32; 5] {
     parts
 }
 
-/// Who has the place of a number among times.
-fn put_party(label: &mut Label, place: u32, turn: &Turn) {
-    if place == 0 {
-        label.text("kernel");
-        return;
-    }
-    label.text("program ");
-    label.number(u64::from(place).saturating_sub(1));
+/// The context of a turn, if it is one of a context.
+#[tactic(auto, using(svg_text::proofs::Putting::put_put))]
+fn put_context(label: &mut Label, turn: &Turn)
+    ensures { signs_of label.new ≡ put_signs (signs_of label.old) (words.context_words turn.now) }
+{
     if turn.count == 1 {
         label.text(", context ");
         label.number(u64::from(turn.ctx % 8));
+    } else {
+        label.text("");
+    }
+}
+
+/// Who has the place of a number among times.
+#[tactic(auto, using(svg_text::proofs::Putting::put_put))]
+fn put_party(label: &mut Label, place: u32, turn: &Turn)
+    ensures { signs_of label.new ≡ put_signs (signs_of label.old) (words.party_words place turn.now) }
+{
+    if place == 0 {
+        label.text("kernel");
+    } else {
+        label.text("program ");
+        label.number(u64::from(place) - 1);
+        put_context(label, turn);
     }
 }
 
@@ -116,9 +132,8 @@ fn turn_class(place: u32, width: u64) -> Label {
     if place == 0 {
         return Label::of(if width > 80 { "kern" } else { "kern nb" });
     }
-    let mut class = Label::of("f");
+    let mut class = Label::of("u");
     class.number(u64::from(place.saturating_sub(1) % 4));
-    class.text(" u");
     class
 }
 

@@ -3,28 +3,38 @@
 use crate::canvas::{Area, Canvas};
 use crate::glyphs::put_glyph;
 use cloak_base::NoMemory;
-use run_notes::{MarkKind, Notes};
+use run_notes::{Look, MarkKind, Marks, Notes, Row};
 use svg_text::Label;
 
 /// The right end of the legend.
 const RIGHT: u64 = 9850;
 
 /// Bars of the legend, each with its class, whether it has an outline, and its words.
-static BARS: [(&str, bool, &str); 6] = [
-    ("zero", false, "zeros"),
-    ("kern", true, "memory that is not cloaked"),
-    ("c0", true, "ciphertext of a page"),
-    ("c0 o", true, "old ciphertext: no page takes it any more"),
+static BARS: [(Look, &str, &str, &str); 9] = [
+    (Look::Zeros, "zero", "", "zeros"),
+    (Look::Open, "kern", "box", "not cloaked"),
+    (Look::Cipher, "c0", "box", "ciphertext"),
+    (Look::Altered, "c0", "alt", "ciphertext, stored into"),
     (
-        "f0 u",
-        true,
-        "plain, in use by its program; unchanged since it was last shown",
+        Look::Old,
+        "o0",
+        "box",
+        "old ciphertext, which no page takes",
+    ),
+    (Look::OldAltered, "o0", "alt", "old, stored into"),
+    (
+        Look::Used,
+        "u0",
+        "box",
+        "page in use, as it was last encrypted",
     ),
     (
+        Look::Changed,
         "f0",
-        true,
-        "plain, in use; changed: the kernel never saw these bytes",
+        "box",
+        "page in use, changed: the kernel never saw these bytes",
     ),
+    (Look::Lost, "cq", "box", "not known"),
 ];
 
 /// Marks of the legend, with their words.
@@ -44,7 +54,7 @@ static GLYPHS: [(MarkKind, &str); 7] = [
 /// Where the next part of the legend stands, as wide as this: in the line, or in the next one.
 fn place(canvas: &mut Canvas, x: u64, width: u64) -> u64 {
     if x.saturating_add(width) > RIGHT {
-        canvas.down(220);
+        canvas.down(190);
         160
     } else {
         x
@@ -57,101 +67,100 @@ fn put_bar(
     x: u64,
     width: u64,
     class: &Label,
-    has_outline: bool,
+    outline: &str,
 ) -> Result<(), NoMemory> {
     let area = Area {
         x,
         y: canvas.y,
         width,
-        height: 140,
+        height: 120,
     };
     canvas.rect(area, class, &Label::new())?;
-    if has_outline {
-        canvas.rect(area, &Label::of("box"), &Label::new())?;
+    if outline != "" {
+        canvas.rect(area, &Label::of(outline), &Label::new())?;
     }
     Ok(())
 }
 
-/// The kinds of bars.
-fn put_bars(canvas: &mut Canvas) -> Result<(), NoMemory> {
+/// Words of the legend.
+fn put_words(canvas: &mut Canvas, x: u64, label: &Label) -> Result<(), NoMemory> {
+    canvas.text(x, canvas.y.saturating_add(105), "sm", label)
+}
+
+/// How wide words of the legend are.
+fn words_width(label: &Label) -> u64 {
+    label.len().saturating_mul(66)
+}
+
+/// A look is in the picture.
+fn is_seen(notes: &Notes, look: Look) -> bool {
+    let at = |row: &Row| row.stays.made().iter().any(|stay| stay.sight.look == look);
+    notes.frames.rows().iter().any(at) || notes.blocks.rows().iter().any(at)
+}
+
+/// The kinds of bars that occur.
+fn put_bars(canvas: &mut Canvas, notes: &Notes) -> Result<u64, NoMemory> {
     let mut x = 160;
-    for (class, has_outline, words) in &BARS {
+    for (look, class, outline, words) in &BARS {
+        if !is_seen(notes, *look) {
+            continue;
+        }
         let label = Label::of(words);
-        let width = label.len().saturating_mul(71).saturating_add(380);
+        let width = words_width(&label).saturating_add(280);
         x = place(canvas, x, width);
-        put_bar(canvas, x, 260, &Label::of(class), *has_outline)?;
-        canvas.text(
-            x.saturating_add(320),
-            canvas.y.saturating_add(120),
-            "",
-            &label,
-        )?;
-        x = x.saturating_add(width).saturating_add(60);
+        put_bar(canvas, x, 220, &Label::of(class), outline)?;
+        put_words(canvas, x.saturating_add(270), &label)?;
+        x = x.saturating_add(width).saturating_add(100);
     }
-    canvas.down(220);
-    Ok(())
+    Ok(x)
 }
 
 /// A kind of marks is in the picture.
 fn occurs(notes: &Notes, kind: MarkKind) -> bool {
-    let at = |marks: &run_notes::Marks| marks.made().iter().any(|mark| mark.kind == kind);
+    let at = |marks: &Marks| marks.made().iter().any(|mark| mark.kind == kind);
     notes.frames.rows().iter().any(|row| at(&row.marks))
         || notes.harts.iter().any(|row| at(&row.marks))
 }
 
 /// The kinds of marks that occur.
-fn put_glyphs(canvas: &mut Canvas, notes: &Notes) -> Result<(), NoMemory> {
-    let mut x = 160;
+fn put_glyphs(canvas: &mut Canvas, notes: &Notes, x: u64) -> Result<u64, NoMemory> {
+    let mut x = x;
     for (kind, words) in &GLYPHS {
         if !occurs(notes, *kind) {
             continue;
         }
         let label = Label::of(words);
-        let width = label.len().saturating_mul(73).saturating_add(240);
+        let width = words_width(&label).saturating_add(200);
         x = place(canvas, x, width);
-        put_glyph(
-            canvas,
-            *kind,
-            x.saturating_add(70),
-            canvas.y.saturating_add(70),
-            &Label::new(),
-        )?;
-        canvas.text(
-            x.saturating_add(200),
-            canvas.y.saturating_add(120),
-            "",
-            &label,
-        )?;
-        x = x.saturating_add(width).saturating_add(80);
+        let y = canvas.y.saturating_add(60);
+        put_glyph(canvas, *kind, x.saturating_add(80), y, &Label::new())?;
+        put_words(canvas, x.saturating_add(200), &label)?;
+        x = x.saturating_add(width).saturating_add(100);
     }
-    Ok(())
+    Ok(x)
 }
 
 /// The programs, if there are two.
-fn put_programs(canvas: &mut Canvas, count: u64) -> Result<(), NoMemory> {
+fn put_programs(canvas: &mut Canvas, count: u64, x: u64) -> Result<(), NoMemory> {
     if count < 2 {
         return Ok(());
     }
-    canvas.down(220);
-    let mut x = 160;
+    let mut x = x;
     for number in 0..count.min(4) {
         let (mut striped, mut full) = (Label::of("c"), Label::of("f"));
         striped.number(number);
         full.number(number);
-        put_bar(canvas, x, 130, &striped, false)?;
-        put_bar(canvas, x.saturating_add(130), 130, &full, false)?;
         let mut label = Label::of("program ");
         label.number(number);
         label.text(" (P");
         label.number(number);
         label.text(")");
-        canvas.text(
-            x.saturating_add(320),
-            canvas.y.saturating_add(120),
-            "",
-            &label,
-        )?;
-        x = x.saturating_add(1500);
+        let width = words_width(&label).saturating_add(280);
+        x = place(canvas, x, width);
+        put_bar(canvas, x, 110, &striped, "")?;
+        put_bar(canvas, x.saturating_add(110), 110, &full, "")?;
+        put_words(canvas, x.saturating_add(270), &label)?;
+        x = x.saturating_add(width).saturating_add(100);
     }
     Ok(())
 }
@@ -167,11 +176,11 @@ pub fn put_head(
     let reading = Label::of(
         "Time runs to the right, in steps. A page in use is plain for its program alone: when the kernel looks at the frame, it finds ciphertext.",
     );
-    canvas.text(160, 520, "dim", &reading)?;
-    canvas.y = 620;
-    put_bars(canvas)?;
-    put_glyphs(canvas, notes)?;
-    put_programs(canvas, programs)?;
-    canvas.down(240);
+    canvas.text(160, 500, "dim", &reading)?;
+    canvas.y = 590;
+    let x = put_bars(canvas, notes)?;
+    let x = put_glyphs(canvas, notes, x)?;
+    put_programs(canvas, programs, x)?;
+    canvas.down(150);
     Ok(())
 }

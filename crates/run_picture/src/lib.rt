@@ -4,16 +4,19 @@
 //! there are more elements than a picture has room for, it does so again with wider columns.
 //!
 //! The layer above may rely on this: each text that `draw` returns is a picture (`svg_text`): well-formed, with at most
-//! 2,000 elements. That it shows the run is tested, and no clause says it.
+//! 2,000 elements. What is told in words is what `specs/Words` says. That each note comes to its place is tested, and no clause
+//! says it.
 #![tactic(auto)]
 
 mod bars;
 mod canvas;
+mod console;
 mod drawing;
 mod glyphs;
 mod harts;
 mod head;
 mod names;
+mod sentences;
 mod style;
 
 pub use drawing::{Picture, RecordEnd, draw};

@@ -1,6 +1,8 @@
 //! What is told in words: of what a frame has, and of marks.
-ghost use Rattle.std.specs.Prelude.{◌≡◌};
+ghost use Rattle.std.specs.Prelude.{◌≡◌, ◌++◌, decimal};
 ghost use Rattle.run_picture.specs.Signs as signs;
+ghost use Rattle.run_picture.specs.Words as words;
+ghost use Rattle.svg_text.specs.Labels.{put_signs, signs_of};
 
 use cloak_base::{EXIT, PageId, TIMER_CAUSE};
 use run_notes::{Look, Mark, MarkKind, Sight};
@@ -9,57 +11,129 @@ use svg_text::Label;
 /// The cause of a call.
 const CALLED: u32 = 8;
 
+/// A text and a number.
+#[tactic(auto, using(svg_text::proofs::Putting::put_put))]
+fn put_numbered(label: &mut Label, text: &str, number: u32)
+    ensures { signs_of label.new ≡ put_signs (signs_of label.old) (text.now ++ decimal number) }
+{
+    label.text(text);
+    label.number(u64::from(number));
+}
+
+/// The number of a resource, if it is not the first.
+fn put_resource(label: &mut Label, resource: u32)
+    ensures { signs_of label.new ≡ put_signs (signs_of label.old) (words.resource_words resource) }
+{
+    if resource == 0 {
+        label.text("");
+    } else {
+        put_numbered(label, " of resource ", resource);
+    }
+}
+
 /// A page.
-pub fn put_page(label: &mut Label, page: PageId) {
+#[tactic(auto, using(svg_text::proofs::Putting::put_put))]
+pub fn put_page(label: &mut Label, page: PageId)
+    ensures { signs_of label.new ≡ put_signs (signs_of label.old) (words.page_words page) }
+{
     label.text("program ");
     label.number(u64::from(page.domain));
     label.text(", page ");
     label.number(u64::from(page.page));
-    if page.resource != 0 {
-        label.text(" of resource ");
-        label.number(u64::from(page.resource));
-    }
+    put_resource(label, page.resource);
 }
 
 /// Steps, from the one after `from` to `to`.
-pub fn put_steps(label: &mut Label, from: u32, to: u32) {
-    let first = u64::from(from).saturating_add(1);
-    if first >= u64::from(to) {
-        label.text("step ");
-        label.number(u64::from(to));
-    } else {
+#[tactic(auto, using(svg_text::proofs::Putting::put_put))]
+pub fn put_steps(label: &mut Label, from: u32, to: u32)
+    ensures { signs_of label.new ≡ put_signs (signs_of label.old) (words.step_words from to) }
+{
+    let first = u64::from(from) + 1;
+    if first < u64::from(to) {
         label.text("steps ");
         label.number(first);
         label.text(" to ");
         label.number(u64::from(to));
+    } else {
+        label.text("step ");
+        label.number(u64::from(to));
+    }
+}
+
+/// What a look means, of a page with a number or with none.
+fn look_words(look: Look, is_numbered: bool) -> &'static str
+    ensures { result.now ≡ words.look_words look is_numbered }
+{
+    match look {
+        Look::Zeros => "zeros",
+        Look::Open => "memory that is not cloaked",
+        Look::Lost => "not known: the items of its program do not fit",
+        Look::Cipher => "ciphertext",
+        Look::Old => "ciphertext that no page takes any more,",
+        Look::Altered => "ciphertext into which was stored since,",
+        Look::OldAltered => "ciphertext into which was stored, and that no page takes any more,",
+        Look::Used => {
+            if is_numbered {
+                "in use by its program, not changed since ciphertext"
+            } else {
+                "in use by its program, not changed since it was made"
+            }
+        }
+        Look::Changed => {
+            if is_numbered {
+                "in use by its program, newer than ciphertext"
+            } else {
+                "in use by its program, not shown so far"
+            }
+        }
+    }
+}
+
+/// What stands between a look and its page.
+fn between_words(look: Look) -> &'static str
+    ensures { result.now ≡ words.between_words look }
+{
+    match look {
+        Look::Zeros => "",
+        Look::Open => "",
+        Look::Lost => "",
+        Look::Cipher => " of ",
+        Look::Old => " of ",
+        Look::Altered => " of ",
+        Look::OldAltered => " of ",
+        Look::Used => ": ",
+        Look::Changed => ": ",
+    }
+}
+
+/// The number of a ciphertext, if there is one.
+#[tactic(auto, using(svg_text::proofs::Putting::put_put))]
+fn put_number(label: &mut Label, number: u32)
+    ensures { signs_of label.new ≡ put_signs (signs_of label.old) (words.number_words number) }
+{
+    if number == 0 {
+        label.text("");
+    } else {
+        label.text(" no. ");
+        label.number(u64::from(number));
     }
 }
 
 /// What a frame or a block has, in full.
-pub fn put_sight(label: &mut Label, sight: &Sight) {
-    let (before, between) = match sight.look {
-        Look::Zeros => ("zeros", ""),
-        Look::Open => ("memory that is not cloaked", ""),
-        Look::Lost => ("not known: the items of its program do not fit", ""),
-        Look::Cipher => ("ciphertext", " of "),
-        Look::Old => ("ciphertext that no page takes any more,", " of "),
-        Look::Altered => ("ciphertext into which was stored since,", " of "),
-        Look::Used => ("in use by its program, not changed since ciphertext", ": "),
-        Look::Changed if sight.number == 0 => ("in use by its program, not shown so far", ": "),
-        Look::Changed => ("in use by its program, newer than ciphertext", ": "),
-    };
+#[tactic(auto, using(svg_text::proofs::Putting::put_put))]
+pub fn put_sight(label: &mut Label, sight: &Sight)
+    ensures { signs_of label.new ≡ put_signs (signs_of label.old) (words.sight_words sight.now) }
+{
+    let before = look_words(sight.look, 0 < sight.number);
     match sight.page {
         Some(page) => {
             label.text(before);
-            if sight.number > 0 {
-                label.text(" no. ");
-                label.number(u64::from(sight.number));
-            }
-            label.text(between);
+            put_number(label, sight.number);
+            label.text(between_words(sight.look));
             put_page(label, page);
         }
         None => {
-            if matches!(sight.look, Look::Cipher | Look::Old | Look::Altered) {
+            if sight.is_cipher() {
                 label.text("ciphertext of a page that is not known");
             } else {
                 label.text(before);
@@ -90,15 +164,15 @@ pub fn short_sight(sight: &Sight, form: u32) -> Label {
         Look::Cipher => "ciphertext",
         Look::Old => "old",
         Look::Altered => "altered",
-        Look::Used => "plain, unchanged",
-        Look::Changed => "plain, changed",
+        Look::OldAltered => "old, altered",
+        Look::Used => "in use, unchanged",
+        Look::Changed => "in use, changed",
     };
     let Some(page) = sight.page else {
         label.text(words);
         return label;
     };
-    let has_number = sight.number > 0
-        && matches!(sight.look, Look::Cipher | Look::Old | Look::Altered);
+    let has_number = sight.number > 0 && sight.is_cipher();
     match form {
         0 => {
             put_short_page(&mut label, page);
@@ -137,28 +211,54 @@ fn kind_words(kind: MarkKind) -> &'static str {
     }
 }
 
+/// The name of a call.
+#[tactic(auto, using(svg_text::proofs::Putting::put_put))]
+fn put_call(label: &mut Label, number: u32)
+    ensures { signs_of label.new ≡ put_signs (signs_of label.old) (words.call_words number) }
+{
+    if number == EXIT {
+        label.text("EXIT");
+    } else if number == 1 {
+        label.text("WRITE");
+    } else if number == 2 {
+        label.text("OPEN");
+    } else if number == 3 {
+        label.text("READ");
+    } else {
+        label.text("call ");
+        label.number(u64::from(number));
+    }
+}
+
+/// What a cause other than a call means.
+#[tactic(auto, using(svg_text::proofs::Putting::put_put))]
+fn put_cause(label: &mut Label, cause: u32)
+    ensures { signs_of label.new ≡ put_signs (signs_of label.old) (words.cause_words cause) }
+{
+    if cause == TIMER_CAUSE {
+        label.text("timer");
+    } else if cause == 1 || cause == 12 {
+        label.text("fault: fetch");
+    } else if cause == 5 || cause == 13 {
+        label.text("fault: load");
+    } else if cause == 7 || cause == 15 {
+        label.text("fault: store");
+    } else if cause == 24 {
+        label.text("not there");
+    } else {
+        label.text("trap ");
+        label.number(u64::from(cause));
+    }
+}
+
 /// Why a context left, in a word or two.
-pub fn leave_words(label: &mut Label, mark: &Mark) {
-    match mark.cause {
-        CALLED => match mark.number {
-            EXIT => label.text("EXIT"),
-            1 => label.text("WRITE"),
-            2 => label.text("OPEN"),
-            3 => label.text("READ"),
-            number => {
-                label.text("call ");
-                label.number(u64::from(number));
-            }
-        },
-        TIMER_CAUSE => label.text("timer"),
-        1 | 12 => label.text("fault: fetch"),
-        5 | 13 => label.text("fault: load"),
-        7 | 15 => label.text("fault: store"),
-        24 => label.text("not there"),
-        cause => {
-            label.text("trap ");
-            label.number(u64::from(cause));
-        }
+pub fn leave_words(label: &mut Label, mark: &Mark)
+    ensures { signs_of label.new ≡ put_signs (signs_of label.old) (words.leave_words mark.now) }
+{
+    if mark.cause == CALLED {
+        put_call(label, mark.number);
+    } else {
+        put_cause(label, mark.cause);
     }
 }
 

@@ -9,25 +9,25 @@ use svg_text::{Attributes, Key, Label, Markup, Tag};
 static RULES: [&str; 22] = [
     "text{font:13px \"DejaVu Sans\",Verdana,sans-serif}.t{font-size:19px;font-weight:bold}.h{font-weight:bold}",
     ".sm{font-size:12px}.mono{font-family:\"DejaVu Sans Mono\",monospace}.mid{text-anchor:middle}.end{text-anchor:end}",
-    ".grid{stroke-width:1}.halo{stroke-width:4;paint-order:stroke;stroke-linejoin:round}.u{fill-opacity:.45}.o{opacity:.3}",
+    ".grid{stroke-width:1}.halo{stroke-width:4;paint-order:stroke;stroke-linejoin:round}.w{fill-opacity:.3}",
     ".kern{stroke-width:.6}.nb{stroke-width:0}.zero{stroke-width:.7;stroke-dasharray:2 2}.mk,.stop{stroke-width:1}",
     ".ln{stroke-width:1.3;fill:none}.hb{stroke-width:3}.box,.alt{fill:none;stroke-width:1}.alt{stroke-dasharray:4 2}",
     ".mv{stroke-width:1.3;fill:none;opacity:.55}.in{stroke-dasharray:3 3}.lb{pointer-events:none}",
-    ".cq{fill:url(#hq)}.c0{fill:url(#h0)}.c1{fill:url(#h1)}.c2{fill:url(#h2)}.c3{fill:url(#h3)}",
+    ".cq{fill:url(#hq)}.c0{fill:url(#h0)}.c1{fill:url(#h1)}.c2{fill:url(#h2)}.c3{fill:url(#h3)}.o0{fill:url(#w0)}.o1{fill:url(#w1)}.o2{fill:url(#w2)}.o3{fill:url(#w3)}",
     ".bg{fill:#ffffff}text{fill:#1a1a1a}.dim{fill:#5c5c5c}.grid{stroke:#dedede}.mk0{fill:#5c5c5c}",
     ".kern{fill:#ebebeb;stroke:#5c5c5c}.zero{fill:#ffffff;stroke:#5c5c5c}.mk{fill:#1a1a1a;stroke:#ffffff}",
     ".ln,.mv{stroke:#1a1a1a}.stop{fill:#c00000;stroke:#ffffff}.stopt{fill:#c00000}.box,.alt{stroke:#1a1a1a}.halo{stroke:#ffffff}.on{fill:#ffffff}",
-    ".f0{fill:#0072b2}.f1{fill:#b34700}.f2{fill:#00755a}.f3{fill:#8e4585}",
+    ".f0{fill:#0072b2}.f1{fill:#b34700}.f2{fill:#00755a}.f3{fill:#8e4585}.u0{fill:#8cc0dc}.u1{fill:#ddac8c}.u2{fill:#8cc1b5}.u3{fill:#ccabc8}",
     "@media (prefers-color-scheme:dark){",
     ".bg{fill:#15171a}text{fill:#f0f0f0}.dim{fill:#aeb4bb}.grid{stroke:#33383e}.mk0{fill:#aeb4bb}",
     ".kern{fill:#2b3036;stroke:#aeb4bb}.zero{fill:#15171a;stroke:#aeb4bb}.mk{fill:#f0f0f0;stroke:#15171a}",
     ".ln,.mv{stroke:#f0f0f0}.stop{fill:#ff7b7b;stroke:#15171a}.stopt{fill:#ff7b7b}.box,.alt{stroke:#f0f0f0}.halo{stroke:#15171a}.on{fill:#101214}",
-    ".f0{fill:#63b8f0}.f1{fill:#f59b57}.f2{fill:#4fd0ae}.f3{fill:#d99bd3}",
+    ".f0{fill:#63b8f0}.f1{fill:#f59b57}.f2{fill:#4fd0ae}.f3{fill:#d99bd3}.u0{fill:#385f7a}.u1{fill:#7a5235}.u2{fill:#2f6a5d}.u3{fill:#6d526d}",
     "}@media print{",
     ".bg{fill:#ffffff}text{fill:#1a1a1a}.dim{fill:#5c5c5c}.grid{stroke:#dedede}.mk0{fill:#5c5c5c}",
     ".kern{fill:#ebebeb;stroke:#5c5c5c}.zero{fill:#ffffff;stroke:#5c5c5c}.mk{fill:#1a1a1a;stroke:#ffffff}",
     ".ln,.mv{stroke:#1a1a1a}.stop{fill:#c00000;stroke:#ffffff}.stopt{fill:#c00000}.box,.alt{stroke:#1a1a1a}.halo{stroke:#ffffff}.on{fill:#ffffff}",
-    ".f0{fill:#0072b2}.f1{fill:#b34700}.f2{fill:#00755a}.f3{fill:#8e4585}",
+    ".f0{fill:#0072b2}.f1{fill:#b34700}.f2{fill:#00755a}.f3{fill:#8e4585}.u0{fill:#8cc0dc}.u1{fill:#ddac8c}.u2{fill:#8cc1b5}.u3{fill:#ccabc8}",
     "}",
 ];
 
@@ -81,15 +81,18 @@ fn put_pattern(
     Ok(())
 }
 
-/// The element of the patterns: one for each program, and one for what is not known.
+/// The element of the patterns: two for each program, of ciphertext and of old ciphertext, and one for what is not known.
 pub fn put_patterns(alloc: Global, body: &mut Markup) -> Result<(), NoMemory> {
     let mut patterns = Markup::new(alloc);
     for (number, turn) in TURNS.iter().enumerate() {
-        let mut name = Label::of("h");
+        let (mut name, mut old) = (Label::of("h"), Label::of("w"));
         name.number(number as u64);
+        old.number(number as u64);
         let mut class = Label::of("f");
         class.number(number as u64);
         put_pattern(alloc, &mut patterns, &name, turn, "2.2", &class)?;
+        class.text(" w");
+        put_pattern(alloc, &mut patterns, &old, turn, "2.2", &class)?;
     }
     let name = Label::of("hq");
     put_pattern(

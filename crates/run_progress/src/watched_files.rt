@@ -71,4 +71,8 @@ impl<D: FileSystem + Drop, W: Watch + Drop> FileSystem for WatchedFiles<D, W> {
         }
         written
     }
+
+    fn sync(&self, file: &D::File, name: &str) -> Result<(), Failed> {
+        self.disk.sync(file, name)
+    }
 }

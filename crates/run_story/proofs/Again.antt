@@ -1,7 +1,7 @@
 -- A record is read once more, as far as the question for a page.
 use Rattle.std.proofs.Common.{◌≡◌, ◌∙◌, ◌≢◌, ◌<◌, ℕ, List, [], ◌∷◌, ◌++◌, length, length-append, Option, Some, None, IfOk, Result, Ok, Err, inl, inr, refl, sym, subst, arith}
 use Rattle.cloak_model.specs.declared.image.Bundle.{Bundle}
-use Rattle.cloak_model.specs.declared.item.Item.{Item}
+use Rattle.cloak_model.specs.Items.{Item}
 use Rattle.cloak_model.specs.DomainAlone.{opened_domain}
 use Rattle.cloak_model.specs.KernelAlone.{opened_kernel}
 use Rattle.record_law.proofs.Staying.{kernel_stays, program_stays}

@@ -2,7 +2,7 @@
 use Rattle.std.proofs.Common.{◌≡◌, ◌≢◌, ℕ, List, ◌++◌, Option, Some, None, IfSome, Err, inl, inr, refl, sym, ap, subst, ◌∙◌, string_bytes}
 use Rattle.io_traits.specs.Told.{Grows}
 use Rattle.cloak_model.specs.declared.image.Bundle.{Bundle}
-use Rattle.cloak_model.specs.declared.item.Item.{Item}
+use Rattle.cloak_model.specs.Items.{Item}
 use Rattle.cloak_model.specs.declared.fault.BundleFault.{BundleFault}
 use Rattle.cloak_model.specs.BundleFault.{bundle_fault}
 use Rattle.command_parts.specs.Bundles.{IsInFile, ReadsBundle, ReadsJudging}
@@ -71,11 +71,11 @@ no_bundle {S} {O} bundle_name record_name before after r answer reads (inr front
 told_text : (b : Bundle) (items : List Item) (s : Story) → Knows b items s →
     story_text s ≡ string_bytes s.text ++ last_sentence b items
 told_text b items s knows =
-    ap (λ (n : Notes). string_bytes s.text ++ summary n.step (ended_count s.ended) s.refused) knows.watches.notes
-    ∙ (ap (λ (l : List (Option ℕ)). string_bytes s.text ++ summary (noted_in b items).notes.step (ended_count l) s.refused)
+    ap (λ (n : Notes). string_bytes s.text ++ summary n (ended_count s.ended) s.refused) knows.watches.notes
+    ∙ (ap (λ (l : List (Option ℕ)). string_bytes s.text ++ summary (noted_in b items).notes (ended_count l) s.refused)
     knows.ended
     ∙ ap (λ (n : ℕ). string_bytes s.text
-    ++ summary (noted_in b items).notes.step (ended_count (told_in b items).ended) n) knows.refused)
+    ++ summary (noted_in b items).notes (ended_count (told_in b items).ended) n) knows.refused)
 
 -- a story was shown
 pub shows_story : {S O : Type 0} (bundle_name record_name : List ℕ) (before after : Outside S O) (b : Bundle) (s : Story)

@@ -1,15 +1,12 @@
 -- Two fronts of a file, of which one is shorter.
-use Rattle.std.proofs.Common.{◌≡◌, ◌∙◌, ◌<◌, ◌+◌, ℕ, ltb, false, true, List, [], ◌∷◌, ◌++◌, length, length-append, take, Some, None, inl, inr, refl, sym, ap, subst, arith}
+use Rattle.std.proofs.Common.{◌≡◌, ◌∙◌, ◌<◌, ℕ, List, [], ◌∷◌, ◌++◌, length, Some, None, inl, inr, refl, sym, ap, subst, arith}
 use Rattle.std.specs.List.{AllByRecursion, flat_map}
-use Rattle.std.specs.Str.{bytes_eq}
-use Rattle.std.proofs.lemmas.Bool.{le-ltb}
 use Rattle.std.proofs.lemmas.List.{append-nil}
-use Rattle.std.proofs.lemmas.Slice.Eq.{bytes_eq-Decides}
-use Rattle.cloak_model.specs.Exchange.{item_bytes, record_magic}
+use Rattle.cloak_model.specs.Exchange.{item_bytes}
 use Rattle.cloak_model.specs.Record.{IsItem, IsRecord}
-use Rattle.cloak_model.specs.RecordFault.{Begins, magic_fault, stage_after, stage_behind}
+use Rattle.cloak_model.specs.RecordFault.{Begins, stage_after, stage_behind}
 use Rattle.cloak_model.specs.declared.fault.RecordFault.{RecordFault}
-use Rattle.cloak_model.specs.declared.item.Item.{Item}
+use Rattle.cloak_model.specs.Items.{Item}
 use Rattle.cloak_model.specs.declared.record.Stage.{Stage}
 use Rattle.cloak_model.specs.declared.record.Stage.TheVariants.{Opening}
 use Rattle.record_law.proofs.Following.{Succeeds}

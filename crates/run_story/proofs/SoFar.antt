@@ -1,7 +1,7 @@
 -- A record is read and told, as far as its items were taken.
 use Rattle.std.proofs.Common.{◌≡◌, ℕ, List, [], ◌∷◌, ◌++◌, length, Option, Result, Ok, Err, subst}
 use Rattle.cloak_model.specs.declared.image.Bundle.{Bundle}
-use Rattle.cloak_model.specs.declared.item.Item.{Item}
+use Rattle.cloak_model.specs.Items.{Item}
 use Rattle.record_reader.specs.declared.reader.Reader.{Reader}
 use Rattle.read_back.proofs.NextItem.{told_begins}
 use Rattle.read_back.specs.Items.{Finds, StandsAt}

@@ -3,7 +3,7 @@ use Rattle.std.proofs.Common.{◌≡◌, ℕ, Bool, true, false, if◌then◌els
 use Rattle.std.proofs.lemmas.Bool.{false≢true}
 use Rattle.cloak_model.specs.Contexts.{domain_of}
 use Rattle.cloak_model.specs.declared.image.Bundle.{Bundle}
-use Rattle.cloak_model.specs.declared.item.Item.{Item}
+use Rattle.cloak_model.specs.Items.{Item}
 use Rattle.read_back.specs.declared.ending.Ending.TheVariants as ending
 use Rattle.replayed_run.specs.Alone.{IsUnfitAlone, has_program}
 use Rattle.replayed_run.specs.Noted.{noted_in}

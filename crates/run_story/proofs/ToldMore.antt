@@ -3,7 +3,7 @@ use Rattle.std.proofs.Common.{◌≡◌, ℕ, List, [], ◌∷◌, ◌++◌, len
 use Rattle.std.specs.List.{fold}
 use Rattle.std.proofs.lemmas.List.Sums.{fold-append}
 use Rattle.cloak_model.specs.declared.image.Bundle.{Bundle}
-use Rattle.cloak_model.specs.declared.item.Item.{Item}
+use Rattle.cloak_model.specs.Items.{Item}
 use Rattle.replayed_run.specs.Noted.{noted_in}
 use Rattle.run_story.specs.Passages.{AreToldBy, IsToldAtOnce, IsToldBy}
 use Rattle.run_story.specs.Telling.{GrowsBy}

@@ -2,7 +2,7 @@
 use Rattle.std.specs.Prelude.{ℕ, ◌≡◌, ◌≢◌, ◌⊎◌, List, [], ◌∷◌, ◌++◌, Option, Some, IfSome, Result, Ok, Err}
 use Rattle.io_traits.specs.Told.{Grows, Rose}
 use Rattle.cloak_model.specs.declared.image.Bundle.{Bundle}
-use Rattle.cloak_model.specs.declared.item.Item.{Item}
+use Rattle.cloak_model.specs.Items.{Item}
 use Rattle.cloak_model.specs.declared.fault.BundleFault.{BundleFault}
 use Rattle.cloak_model.specs.declared.fault.RecordFault.{RecordFault}
 use Rattle.cloak_model.specs.BundleFault.{bundle_fault}
@@ -132,7 +132,7 @@ HasBundleFault told = IfSome told (λ bytes. (fault : BundleFault) × (bundle_fa
 -- the last sentence of a record with these items
 abbrev pub last_sentence : Bundle → List Item → List ℕ
 last_sentence b items =
-    summary (noted_in b items).notes.step (ended_count (told_in b items).ended) (told_in b items).refused
+    summary (noted_in b items).notes (ended_count (told_in b items).ended) (told_in b items).refused
 
 -- The bundle is a file's, and its record is refused: reading ended so, and the line for that was shown.
 pub record IsRefusedRecord {S O : Type 0} (bundle_name record_name : List ℕ) (before after : Outside S O) : Type 0 where
@@ -146,7 +146,8 @@ pub record IsRefusedRecord {S O : Type 0} (bundle_name record_name : List ℕ) (
 
 -- The record was explained. Each of its items fits: the kernel alone and each program alone take it, and each program and
 -- each step that ends by what was presented has its cause. What was shown is a passage for each violation that the items tell,
--- in their order, and a last sentence: how many steps there are, how many programs ended, and how many resumes were refused.
+-- in their order, and a last sentence: how many steps there are, how many programs ended, and how many resumes were refused;
+-- or, if there is no violation, how the run ended.
 pub record IsExplained {S O : Type 0} (bundle_name record_name : List ℕ) (before after : Outside S O) : Type 0 where
   pub bundle : Bundle
   pub file : IsInFile (before.files.held bundle_name) bundle

@@ -1,12 +1,12 @@
 -- What was done to a page that was presented, and to the frames in which it was shown and presented: the events, in their
 -- order, of the items of a record.
-use Rattle.std.specs.Prelude.{ℕ, zero, suc, ◌-◌, ◌^◌, ◌==◌, ◌&&◌, ◌||◌, min, Bool, true, false, List, [], ◌∷◌, ◌++◌, length, drop, slice_index, slice_get, Option, Some, None, bytes_eq, if◌then◌else◌}
+use Rattle.std.specs.Prelude.{ℕ, zero, suc, ◌-◌, ◌/◌, ◌^◌, ◌==◌, ◌&&◌, ◌||◌, min, Bool, true, false, List, [], ◌∷◌, ◌++◌, length, drop, slice_index, slice_get, Option, Some, None, bytes_eq, if◌then◌else◌}
 use Rattle.std.specs.List.{fold}
 use Rattle.cloak_base.specs.Pages.{same_page}
 use Rattle.cloak_base.specs.Registers.{register}
 use Rattle.cloak_model.specs.declared.image.Bundle.{Bundle}
-use Rattle.cloak_model.specs.declared.item.Item.{Item}
-use Rattle.cloak_model.specs.declared.item.Item.TheVariants as item
+use Rattle.cloak_model.specs.Items.{Item}
+use Rattle.cloak_model.specs.Items as item
 use Rattle.cloak_model.specs.Hart.{Hart}
 use Rattle.cloak_model.specs.KernelAlone as model
 use Rattle.cloak_model.specs.KernelAlone.{kernel_alone}
@@ -16,6 +16,7 @@ use Rattle.replayed_run.specs.Noted.{noted_in}
 use Rattle.replayed_run.specs.PagesTold.{showing_told}
 use Rattle.replayed_run.specs.declared.frames.DiskCall.{DiskCall}
 use Rattle.replayed_run.specs.declared.pages.Showing.{Showing}
+use Rattle.run_story.specs.Carrying.{Carrying, carrying_moved, carrying_shown, is_carried, none_carried}
 use Rattle.run_story.specs.declared.deeds.FrameChange.{FrameChange}
 use Rattle.run_story.specs.declared.deeds.PageDeed.{PageDeed}
 use Rattle.run_story.specs.declared.deeds.PageDeed.TheVariants as deed
@@ -93,30 +94,38 @@ change_between None now = None
 abbrev pub frame_change : List (List ℕ) → List (List ℕ) → ℕ → Option FrameChange
 frame_change was now frame = change_between (slice_get was frame) (slice_get now frame)
 
--- a frame changed: a step that makes a host call on the disk moves a block, and another one stores
-abbrev pub change_deed : ℕ → ℕ → Option DiskCall → FrameChange → PageDeed
-change_deed hart frame (Some call) change = deed.Moved hart call
-change_deed hart frame None change = deed.Stored hart frame change
+-- A step changed a frame. One of a hart outside that makes a host call on the disk stores nothing else, and another one stores;
+-- in one of a hart inside the context stores, at an address that is not cloaked.
+abbrev pub change_events : ℕ → ℕ → Option ℕ → Option DiskCall → ℕ → Option FrameChange → List PageEvent
+change_events step hart ctx (Some call) frame change = []
+change_events step hart ctx None frame None = []
+change_events step hart ctx None frame (Some change) = event step (deed.Stored hart ctx frame change) ∷ []
 
-abbrev pub change_events : ℕ → ℕ → Option DiskCall → ℕ → Option FrameChange → List PageEvent
-change_events step hart call frame None = []
-change_events step hart call frame (Some change) = event step (change_deed hart frame call change) ∷ []
+-- a host call that was done answers 0
+abbrev pub done_by : Option DiskCall → Option Hart → Option DiskCall
+done_by None now = None
+done_by (Some call) None = None
+done_by (Some call) (Some now) = if register now.regs 10 == 0 then Some call else None
 
--- a frame of interest went to the disk: a host call that was done answers 0
-abbrev pub writing_events : Presented → ℕ → ℕ → Option DiskCall → Option Hart → List PageEvent
-writing_events p step hart (Some call) (Some now) =
-    if call.is_write && (is_of_interest p call.frame && (register now.regs 10 == 0))
-    then event step (deed.Moved hart call) ∷ []
-    else []
-writing_events p step hart (Some call) None = []
-writing_events p step hart None now = []
+-- a block was moved, to or from a frame of interest or a place that has bytes of the page
+abbrev pub moving_events : Presented → Carrying → ℕ → ℕ → Option DiskCall → List PageEvent
+moving_events p c step hart None = []
+moving_events p c step hart (Some call) =
+    if is_of_interest p call.frame || is_carried c call then event step (deed.Moved hart call) ∷ [] else []
 
 -- the frame that was presented changed, if it is another one than that in which the page was last shown
-abbrev pub presented_events : Presented → ℕ → ℕ → Option DiskCall → List (List ℕ) → List (List ℕ) → List PageEvent
-presented_events p step hart call was now =
+abbrev pub presented_events : Presented → ℕ → ℕ → Option ℕ → Option DiskCall → List (List ℕ) → List (List ℕ) →
+    List PageEvent
+presented_events p step hart ctx call was now =
     if shown_in p == p.found.frame
     then []
-    else change_events step hart call p.found.frame (frame_change was now p.found.frame)
+    else change_events step hart ctx call p.found.frame (frame_change was now p.found.frame)
+
+-- a third frame changed, into which bytes of the page were read
+abbrev pub third_events : Option ℕ → ℕ → ℕ → Option ℕ → Option DiskCall → List (List ℕ) → List (List ℕ) →
+    List PageEvent
+third_events None step hart ctx call was now = []
+third_events (Some frame) step hart ctx call was now = change_events step hart ctx call frame (frame_change was now frame)
 
 -- where the address leads
 abbrev pub leads_in : Presented → List (List ℕ) → Option ℕ
@@ -129,56 +138,110 @@ frame_eq None (Some b) = false
 frame_eq (Some a) None = false
 
 -- the address leads elsewhere
-abbrev pub leading_events : Presented → ℕ → Option ℕ → Option ℕ → List PageEvent
-leading_events p step from to =
-    if frame_eq from to then [] else event step (deed.Leads p.found.address from to) ∷ []
+abbrev pub leading_events : Presented → ℕ → Option ℕ → Option ℕ → Option ℕ → List PageEvent
+leading_events p step ctx from to =
+    if frame_eq from to then [] else event step (deed.Leads ctx p.found.address from to) ∷ []
 
--- a step of this hart, which was about to make this call on the disk, by the kernel before it and after it
-abbrev pub step_events : Presented → ℕ → ℕ → Option DiskCall → KernelPart → KernelPart → List PageEvent
-step_events p step hart call was now =
-    writing_events p step hart call (slice_get now.harts hart)
-    ++ (change_events step hart call (shown_in p) (frame_change was.ram now.ram (shown_in p))
-    ++ (presented_events p step hart call was.ram now.ram
-    ++ leading_events p step (leads_in p was.ram) (leads_in p now.ram)))
+-- What this hart did in a step, by the kernel before and after it: by its own instruction, for which it made this call on the
+-- disk; or by a store of this context, which it is inside.
+abbrev pub step_events : Presented → Carrying → ℕ → ℕ → Option ℕ → Option DiskCall → KernelPart → KernelPart → List PageEvent
+step_events p c step hart ctx call was now =
+    moving_events p c step hart (done_by call (slice_get now.harts hart))
+    ++ (change_events step hart ctx call (shown_in p) (frame_change was.ram now.ram (shown_in p))
+    ++ (presented_events p step hart ctx call was.ram now.ram
+    ++ (third_events c.third step hart ctx call was.ram now.ram
+    ++ leading_events p step ctx (leads_in p was.ram) (leads_in p now.ram))))
 
-abbrev pub hart_events : Presented → ℕ → ℕ → Option Hart → KernelPart → KernelPart → List PageEvent
-hart_events p step hart None was now = []
-hart_events p step hart (Some h) was now = step_events p step hart (disk_call was.ram h) was now
+abbrev pub hart_events : Presented → Carrying → ℕ → ℕ → Option Hart → KernelPart → KernelPart → List PageEvent
+hart_events p c step hart None was now = []
+hart_events p c step hart (Some h) was now = step_events p c step hart None (disk_call was.ram h) was now
 
 -- a hart that is outside made its step
-abbrev pub made_events : Presented → ℕ → model.KernelStage → KernelPart → KernelPart → List PageEvent
-made_events p step (model.Outside hart) was now = hart_events p step hart (slice_get was.harts hart) was now
-made_events p step model.Between was now = []
-made_events p step (model.Inside hart ctx) was now = []
-made_events p step model.Left was now = []
+abbrev pub made_events : Presented → Carrying → ℕ → model.KernelStage → KernelPart → KernelPart → List PageEvent
+made_events p c step (model.Outside hart) was now = hart_events p c step hart (slice_get was.harts hart) was now
+made_events p c step model.Between was now = []
+made_events p c step (model.Inside hart ctx) was now = []
+made_events p c step model.Left was now = []
 
--- What the items of a record add: a showing, and as a step begins what the one before it did.
+-- a context that runs stored where the kernel sees it
+abbrev pub put_events : Presented → Carrying → ℕ → model.KernelStage → KernelPart → KernelPart → List PageEvent
+put_events p c step (model.Inside hart ctx) was now = step_events p c step hart (Some ctx) None was now
+put_events p c step model.Between was now = []
+put_events p c step (model.Outside hart) was now = []
+put_events p c step model.Left was now = []
 
-abbrev pub item_events : Bundle → Presented → List Item → Item → List PageEvent
-item_events b p items (item.Step number) =
-    made_events p (noted_in b items).notes.step (kernel_alone b.kernel items).stage (kernel_alone b.kernel items).kernel
+-- What a step moves.
+
+abbrev pub call_of : List (List ℕ) → Option Hart → Option DiskCall
+call_of ram None = None
+call_of ram (Some h) = disk_call ram h
+
+-- a hart that is outside made its step
+abbrev pub made_move : model.KernelStage → KernelPart → KernelPart → Option DiskCall
+made_move (model.Outside hart) was now = done_by (call_of was.ram (slice_get was.harts hart)) (slice_get now.harts hart)
+made_move model.Between was now = None
+made_move (model.Inside hart ctx) was now = None
+made_move model.Left was now = None
+
+abbrev pub moved : Presented → Option DiskCall → Carrying → Carrying
+moved p None c = c
+moved p (Some call) c = carrying_moved (is_of_interest p call.frame) call c
+
+-- What the items of a record add: a showing, a store of a program, and as a step begins what the one before it did.
+
+abbrev pub item_events : Bundle → Presented → Carrying → List Item → Item → List PageEvent
+item_events b p c items (item.Step number) =
+    made_events p c (noted_in b items).notes.step (kernel_alone b.kernel items).stage (kernel_alone b.kernel items).kernel
     (kernel_alone b.kernel (items ++ item.Step number ∷ [])).kernel
-item_events b p items i = showing_events p (showing_told b items i)
+item_events b p c items (item.Put address width value) =
+    put_events p c (noted_in b items).notes.step (kernel_alone b.kernel items).stage (kernel_alone b.kernel items).kernel
+    (kernel_alone b.kernel (items ++ item.Put address width value ∷ [])).kernel
+item_events b p c items i = showing_events p (showing_told b items i)
 
--- The items so far, all that was done, and where the bytes that were found had last been shown.
+-- Where bytes of the page are after an item, by what it shows and what the step moved that it ends.
+
+abbrev pub is_shown : Presented → Option Showing → Bool
+is_shown p None = false
+is_shown p (Some s) = same_page s.page p.found.page
+
+abbrev pub carrying_after : Presented → Item → Option Showing → Option DiskCall → Carrying → Carrying
+carrying_after p (item.Cipher frame bytes) showing move c = carrying_shown frame (is_shown p showing) c
+carrying_after p (item.Step number) showing move c = moved p move c
+carrying_after p _ showing move c = c
+
+-- after these items, of which this is the last
+abbrev pub carrying_next : Bundle → Presented → Carrying → List Item → Item → Carrying
+carrying_next b p c items i =
+    carrying_after p i (showing_told b items i)
+    (made_move (kernel_alone b.kernel items).stage (kernel_alone b.kernel items).kernel
+    (kernel_alone b.kernel (items ++ i ∷ [])).kernel) c
+
+-- The items so far, all that was done, where the bytes that were found had last been shown, and where bytes of the page are.
 pub record Done : Type 0 where
   pub items : List Item
   pub events : List PageEvent
   pub origin : Option Showing
+  pub carrying : Carrying
 
-abbrev pub nothing_done : Done
-nothing_done = record { items = []; events = []; origin = None }
+abbrev pub nothing_done : Bundle → Done
+nothing_done b = record {
+  items = [];
+  events = [];
+  origin = None;
+  carrying = none_carried b.kernel.frames (length b.kernel.disk / 4096);
+}
 
 unfoldable pub done_more : Bundle → Presented → Done → Item → Done
 done_more b p d i = record {
   items = d.items ++ i ∷ [];
-  events = d.events ++ item_events b p d.items i;
+  events = d.events ++ item_events b p d.carrying d.items i;
   origin = origin_after p d.origin (showing_told b d.items i);
+  carrying = carrying_next b p d.carrying d.items i;
 }
 
 -- what these items do
 abbrev pub done_in : Bundle → Presented → List Item → Done
-done_in b p items = fold (done_more b p) nothing_done items
+done_in b p items = fold (done_more b p) (nothing_done b) items
 
 -- The last sixteen are told, and how many there were before.
 

@@ -2,10 +2,11 @@
 use Rattle.std.specs.Prelude.{ℕ, ◌≡◌, Bool, true, false, List, [], ◌∷◌, ◌++◌, Option, Result, Ok, Err}
 use Rattle.cloak_base.specs.declared.causes.NoMemory.{NoMemory}
 use Rattle.cloak_model.specs.declared.image.Bundle.{Bundle}
-use Rattle.cloak_model.specs.declared.item.Item.{Item}
+use Rattle.cloak_model.specs.Items.{Item}
 use Rattle.replayed_run.specs.Alone.{IsUnfitAlone}
 use Rattle.replayed_run.specs.Watching.{Watches}
 use Rattle.replayed_run.specs.declared.watch.Watch.{Watch}
+use Rattle.run_story.specs.Carrying.{carrying_of}
 use Rattle.run_story.specs.Deeds.{done_in, last_events, left_out}
 use Rattle.run_story.specs.Passages.{AreReadAgain}
 use Rattle.run_story.specs.declared.deeds.Deeds.{Deeds}
@@ -22,6 +23,7 @@ pub record Gathers (b : Bundle) (p : Presented) (items : List Item) (d : Deeds) 
   pub target : d.target ≡ p
   pub last : KeepsLast (done_in b p items).events d
   pub origin : d.origin ≡ (done_in b p items).origin
+  pub carrying : carrying_of d.carriers ≡ (done_in b p items).carrying
 
 -- It is gathered of the items before the question, which were read once more.
 pub record GathersAgain (b : Bundle) (file : Option (List ℕ)) (p : Presented) (d : Deeds) : Type 0 where

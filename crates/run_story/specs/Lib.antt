@@ -1,3 +1,4 @@
+pub mod Carrying
 pub mod Presenting
 pub mod Deeds
 pub mod Told

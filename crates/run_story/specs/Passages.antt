@@ -1,5 +1,5 @@
 -- The sentences of a story.
-use Rattle.std.specs.Prelude.{ℕ, ◌≡◌, ◌/◌, ◌==◌, ◌++◌, length, List, [], ◌∷◌, codes, decimal, Option, Some, None, IfSome, string_bytes, if◌then◌else◌}
+use Rattle.std.specs.Prelude.{ℕ, ◌≡◌, ◌/◌, ◌==◌, ◌++◌, length, Bool, true, false, List, [], ◌∷◌, codes, decimal, Option, Some, None, IfSome, string_bytes, if◌then◌else◌}
 use Rattle.std.specs.List.{flat_map}
 use Rattle.hex.specs.Hex.{encode_lower}
 use Rattle.cloak_model.specs.Report.{hexadecimal}
@@ -7,14 +7,16 @@ use Rattle.cloak_base.specs.declared.names.Kind.{Kind}
 use Rattle.cloak_base.specs.declared.names.Kind.TheVariants as kind
 use Rattle.cloak_base.specs.declared.names.PageId.{PageId}
 use Rattle.cloak_model.specs.declared.image.Bundle.{Bundle}
-use Rattle.cloak_model.specs.declared.item.Item.{Item}
+use Rattle.cloak_model.specs.Items.{Item}
 use Rattle.record_reader.specs.Ahead.{readable}
 use Rattle.read_back.specs.Reading.{BeginsWith}
+use Rattle.replayed_run.specs.Noted.{lacks_draw}
 use Rattle.replayed_run.specs.declared.contexts.FirstTable.{FirstTable}
 use Rattle.replayed_run.specs.declared.contexts.ToldContext.{ToldContext}
 use Rattle.replayed_run.specs.declared.frames.DiskCall.{DiskCall}
 use Rattle.replayed_run.specs.declared.frames.PresentedPage.{PresentedPage}
 use Rattle.replayed_run.specs.declared.notes.Asking.{Asking}
+use Rattle.replayed_run.specs.declared.notes.Notes.{Notes}
 use Rattle.replayed_run.specs.declared.pages.Showing.{Showing}
 use Rattle.run_story.specs.Deeds.{Done, done_in, last_events, left_out}
 use Rattle.run_story.specs.Told.{ByPage, ByQuestion, ByResume, OfNone, Violation}
@@ -160,17 +162,28 @@ change_text c =
     then first_changed c
     else first_changed c ++ (codes ", and so on, " ++ decimal c.count ++ codes " bytes in all")
 
+-- a store of the kernel, or of a context where the kernel sees it
+abbrev pub stored_text : ℕ → Option ℕ → ℕ → FrameChange → List ℕ
+stored_text hart None frame change =
+    codes "the kernel, on hart " ++ decimal hart ++ codes ", stored to frame " ++ decimal frame ++ codes ": "
+    ++ change_text change
+stored_text hart (Some ctx) frame change =
+    codes "context " ++ decimal ctx ++ codes ", on hart " ++ decimal hart ++ codes ", stored in the open to frame "
+    ++ decimal frame ++ codes ": " ++ change_text change
+
+abbrev pub table_changed : Option ℕ → List ℕ
+table_changed None = codes "the kernel changed its page table: "
+table_changed (Some ctx) = codes "context " ++ decimal ctx ++ codes " changed the kernel's page table: "
+
 abbrev pub deed_text : PageDeed → List ℕ
 deed_text (deed.LastShown showing) =
     (page_name showing.page ++ codes " was last shown, in frame " ++ decimal showing.frame ++ codes ", ")
     ++ (codes "as ciphertext with the digest " ++ encode_lower showing.digest)
 deed_text (deed.Shown page frame) = page_name page ++ codes " was shown, in frame " ++ decimal frame
 deed_text (deed.Moved hart call) = codes "the kernel, on hart " ++ decimal hart ++ codes ", " ++ call_name call
-deed_text (deed.Stored hart frame change) =
-    codes "the kernel, on hart " ++ decimal hart ++ codes ", stored to frame " ++ decimal frame ++ codes ": "
-    ++ change_text change
-deed_text (deed.Leads address from to) =
-    codes "the kernel changed its page table: "
+deed_text (deed.Stored hart ctx frame change) = stored_text hart ctx frame change
+deed_text (deed.Leads ctx address from to) =
+    table_changed ctx
     ++ (hexadecimal address ++ (codes " led to " ++ frame_name from ++ codes ", and now leads to " ++ frame_name to))
 
 abbrev pub event_text : PageEvent → List ℕ
@@ -222,23 +235,29 @@ passage_text (passage.Gone step asked ended) = none_text step asked ended
 passage_text (passage.Page p more) = page_text p (string_bytes more)
 passage_text (passage.Question step ctx) = question_text step ctx
 
--- The last sentence, by the number of steps, of programs that ended, and of resumes that were refused.
+-- The last sentence, by what is noted of the run, and the numbers of programs that ended and of resumes that were refused.
 
-abbrev pub no_violation : ℕ → List ℕ
-no_violation steps =
-    (codes "There was no violation: the run has " ++ decimal steps ++ codes " steps, ")
-    ++ codes "and ended by a halt, by its number of steps, or for want of randomness.\n"
+-- how a run ended in which a draw was missing or not, and which halted with this value
+abbrev pub end_reason : Bool → Option ℕ → List ℕ
+end_reason true halted = codes "for want of randomness"
+end_reason false (Some value) = codes "by a halt with " ++ decimal value
+end_reason false None = codes "by its number of steps"
+
+abbrev pub no_violation : ℕ → Bool → Option ℕ → List ℕ
+no_violation steps missed halted =
+    (codes "There was no violation: the run has " ++ decimal steps ++ codes " steps, and ended ")
+    ++ (end_reason missed halted ++ codes ".\n")
 
 abbrev pub violations_counted : ℕ → ℕ → ℕ → List ℕ
 violations_counted steps ended refused =
     (codes "The run has " ++ decimal steps ++ codes " steps; programs that ended: " ++ decimal ended ++ codes "; ")
     ++ (codes "resumes that were refused: " ++ decimal refused ++ codes ".\n")
 
-abbrev pub summary : ℕ → ℕ → ℕ → List ℕ
-summary steps ended refused =
+abbrev pub summary : Notes → ℕ → ℕ → List ℕ
+summary n ended refused =
     if ended == 0
-    then (if refused == 0 then no_violation steps else violations_counted steps ended refused)
-    else violations_counted steps ended refused
+    then (if refused == 0 then no_violation n.step (lacks_draw n) n.halted else violations_counted n.step ended refused)
+    else violations_counted n.step ended refused
 
 -- Violations as they are told.
 

@@ -2,7 +2,7 @@
 use Rattle.std.specs.Prelude.{ℕ, Bool, false, List, Option, Some, None, bytes_eq, slice_get, if◌then◌else◌}
 use Rattle.sha2.specs.Sha256.{sha256}
 use Rattle.cloak_model.specs.declared.image.Bundle.{Bundle}
-use Rattle.cloak_model.specs.declared.item.Item.{Item}
+use Rattle.cloak_model.specs.Items.{Item}
 use Rattle.cloak_model.specs.KernelAlone.{kernel_alone}
 use Rattle.replayed_run.specs.Leading.{presented_by, tables_in}
 use Rattle.replayed_run.specs.Noted.{noted_in}

@@ -1,7 +1,7 @@
 -- What a story stands for, as far as the items of a record were taken.
 use Rattle.std.specs.Prelude.{ℕ, ◌≡◌, ◌<◌, ◌++◌, length, List, [], ◌∷◌, Option, Some, None, Result, Ok, Err, string_bytes}
 use Rattle.cloak_model.specs.declared.image.Bundle.{Bundle}
-use Rattle.cloak_model.specs.declared.item.Item.{Item}
+use Rattle.cloak_model.specs.Items.{Item}
 use Rattle.read_back.specs.declared.ending.Ending.TheVariants as ending
 use Rattle.replayed_run.specs.Watching.{Watches, notes_of}
 use Rattle.run_story.specs.Passages.{AreToldBy, IsToldAtOnce, summary}
@@ -113,4 +113,4 @@ pub record NotesItem (b : Bundle) (asked : Due) (i : Item) (step : ℕ) (old new
 
 -- what was told so far, and the last sentence
 abbrev pub story_text : Story → List ℕ
-story_text s = string_bytes s.text ++ summary (notes_of s.watch).step (ended_count s.ended) s.refused
+story_text s = string_bytes s.text ++ summary (notes_of s.watch) (ended_count s.ended) s.refused

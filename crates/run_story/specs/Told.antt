@@ -3,8 +3,8 @@ use Rattle.std.specs.Prelude.{ℕ, ◌≡◌, ◌⊎◌, ◌+◌, ◌-◌, ◌^�
 use Rattle.std.specs.List.{count_by, fold}
 use Rattle.cloak_base.specs.declared.names.HartId.{HartId}
 use Rattle.cloak_model.specs.declared.image.Bundle.{Bundle}
-use Rattle.cloak_model.specs.declared.item.Item.{Item}
-use Rattle.cloak_model.specs.declared.item.Item.TheVariants as item
+use Rattle.cloak_model.specs.Items.{Item}
+use Rattle.cloak_model.specs.Items as item
 use Rattle.cloak_model.specs.Contexts.{domain_of}
 use Rattle.cloak_model.specs.KernelAlone as model
 use Rattle.cloak_model.specs.KernelAlone.{kernel_alone, kernel_hart}

@@ -1,11 +1,12 @@
 //! The command `explain`.
+ghost use Rattle.cloak_model.specs.Items.{item_of};
 ghost use Rattle.std.specs.Prelude.{◌≡◌, ◌≢◌, ◌<◌, ◌++◌, [], ◌∷◌, ℕ, List, Option, Some, IfOk, length};
 ghost use Rattle.io_traits.specs.Told.{SameFiles};
 ghost use Rattle.command_parts.specs.Outside.{outside, output};
 ghost use Rattle.cloak_model.specs.Bundle.{IsInGrammar};
 ghost use Rattle.cloak_model.specs.Record.{IsItem};
 ghost use Rattle.cloak_model.specs.declared.image.Bundle.{Bundle};
-ghost use Rattle.cloak_model.specs.declared.item.Item.{Item};
+ghost use Rattle.cloak_model.specs.Items.{Item as AnyItem};
 ghost use Rattle.read_back.specs.Reading.{ReadsAs};
 ghost use Rattle.run_story.specs.Answering.{BeginsSo, EndsAfter, ExplainAnswers, ShowsStory, ShowsUntold, TellsDeeds, TellsItem, TellsPage, TellsStory};
 ghost use Rattle.replayed_run.specs.Alone.{FitsAlone};
@@ -22,7 +23,7 @@ use cloak_model::{Bundle, Item};
 use command_parts::{Refusal, Status, read_bundle, refuse};
 use io_traits::{Shelf, Sink, put_all};
 use read_back::{Ending, next_item, show_fault, status};
-use record_reader::{KeptItems, Reader};
+use record_reader::Reader;
 use replayed_run::Watch;
 use std::alloc::Global;
 
@@ -42,6 +43,7 @@ fn gathered(deeds: Deeds, ended: Ending) -> Result<Deeds, Untold>
 /// Reads a record once more up to the question of a violation, and gathers what was done to the page of it.
 fn deeds_of<S: Shelf>(
     alloc: Global,
+    bundle: &Bundle,
     watch: &mut Watch,
     presented: &Presented,
     name: &str,
@@ -49,22 +51,24 @@ fn deeds_of<S: Shelf>(
 ) -> Result<Deeds, Untold>
     requires { S.is_settled shelf.old }
     ensures counts { TellsDeeds (S.reading_faults shelf.old) (S.reading_faults shelf.new) result }
-    ensures gathers { (b : Bundle) (items : List Item) → Watches b [] watch.old → FitsAlone b items →
+    ensures gathers { (items : List AnyItem) → Watches bundle.now [] watch.old → FitsAlone bundle.now items →
         BeginsSo (S.held shelf.old name.now) items → presented.now.before < length items →
-        IfOk result (GathersAgain b (S.held shelf.old name.now) presented.now) }
+        IfOk result (GathersAgain bundle.now (S.held shelf.old name.now) presented.now) }
     ensures files { SameFiles (S.held shelf.old) (S.held shelf.new) }
     ensures writing { S.writing_faults shelf.new ≡ S.writing_faults shelf.old }
     ensures settled { S.is_settled shelf.new }
 {
-    let mut deeds = Deeds::new(alloc, *presented);
+    let Ok(mut deeds) = Deeds::new(alloc, bundle, *presented) else {
+        return Err(Untold::NoMemory);
+    };
     let mut reader = Reader::open(name);
-    let mut kept = KeptItems::new();
+    let mut room = [0; 4096];
     for _ in 0..presented.before {
-        let item = match next_item(&mut reader, shelf, &mut kept) {
-            Ok(tag) => kept.item(tag),
+        let item = match next_item(&mut reader, shelf, &mut room) {
+            Ok(item) => item,
             Err(ended) => return gathered(deeds, ended),
         };
-        match deeds.take(watch, item) {
+        match deeds.take(watch, &item) {
             Ok(true) => {}
             Ok(false) => return Ok(deeds),
             Err(_) => return Err(Untold::NoMemory),
@@ -84,7 +88,7 @@ fn tell_page<S: Shelf>(
 ) -> Result<(), Untold>
     requires settled { S.is_settled shelf.old }
     requires bundle { IsInGrammar bundle.now }
-    ensures tells { (items : List Item) → BeginsSo (S.held shelf.old name.now) items →
+    ensures tells { (items : List AnyItem) → BeginsSo (S.held shelf.old name.now) items →
         TellsBut bundle.now (S.held shelf.old name.now) items presented.now story.old →
         TellsPage bundle.now (S.held shelf.old name.now) items (S.reading_faults shelf.old) (S.reading_faults shelf.new)
         story.new result }
@@ -95,7 +99,7 @@ fn tell_page<S: Shelf>(
     let Ok(mut watch) = Watch::open(alloc, bundle) else {
         return Err(Untold::NoMemory);
     };
-    let deeds = match deeds_of(alloc, &mut watch, presented, name, shelf) {
+    let deeds = match deeds_of(alloc, bundle, &mut watch, presented, name, shelf) {
         Ok(deeds) => deeds,
         Err(untold) => return Err(untold),
     };
@@ -114,17 +118,17 @@ fn tell_item<S: Shelf>(
     alloc: Global,
     bundle: &Bundle,
     story: &mut Story,
-    item: &Item,
+    item: &Item<'_>,
     before: u64,
     name: &str,
     shelf: &mut S,
 ) -> Result<(), Untold>
     requires settled { S.is_settled shelf.old }
     requires bundle { IsInGrammar bundle.now }
-    ensures tells { (items : List Item) → IsItem item.now → length items ≡ before →
-        BeginsSo (S.held shelf.old name.now) (items ++ item.now ∷ []) →
+    ensures tells { (items : List AnyItem) → IsItem (item_of item.now) → length items ≡ before →
+        BeginsSo (S.held shelf.old name.now) (items ++ (item_of item.now) ∷ []) →
         Tells bundle.now (S.held shelf.old name.now) items story.old →
-        TellsItem bundle.now (S.held shelf.old name.now) items item.now (S.reading_faults shelf.old)
+        TellsItem bundle.now (S.held shelf.old name.now) items (item_of item.now) (S.reading_faults shelf.old)
         (S.reading_faults shelf.new) story.new result }
     ensures files { SameFiles (S.held shelf.old) (S.held shelf.new) }
     ensures writing { S.writing_faults shelf.new ≡ S.writing_faults shelf.old }
@@ -139,7 +143,7 @@ fn tell_item<S: Shelf>(
 
 /// The story of a record of which reading ended so.
 fn told_whole(story: Story, ended: Ending) -> Result<Story, Untold>
-    ensures { (b : Bundle) (told : Option (List ℕ)) (items : List Item) (before now : ℕ) → Tells b told items story →
+    ensures { (b : Bundle) (told : Option (List ℕ)) (items : List AnyItem) (before now : ℕ) → Tells b told items story →
         EndsAfter told items before now ended → TellsStory b told before now result }
 {
     match ended {
@@ -168,14 +172,14 @@ fn tell<S: Shelf>(
         return Err(Untold::NoMemory);
     };
     let mut reader = Reader::open(name);
-    let mut kept = KeptItems::new();
+    let mut room = [0; 4096];
     let mut taken: u64 = 0;
     loop {
-        let item = match next_item(&mut reader, shelf, &mut kept) {
-            Ok(tag) => kept.item(tag),
+        let item = match next_item(&mut reader, shelf, &mut room) {
+            Ok(item) => item,
             Err(ended) => return told_whole(story, ended),
         };
-        match tell_item(alloc, bundle, &mut story, item, taken, name, shelf) {
+        match tell_item(alloc, bundle, &mut story, &item, taken, name, shelf) {
             Ok(()) => {}
             Err(untold) => return Err(untold),
         }

@@ -12,6 +12,7 @@
 //! before its question, and of no others.
 #![tactic(auto)]
 
+mod carriers;
 mod command;
 mod deeds;
 mod presented;

@@ -2,7 +2,7 @@
 ghost use Rattle.std.specs.Prelude.{◌≡◌, List, ℕ};
 ghost use Rattle.cloak_model.specs.KernelAlone.{kernel_alone, kernel_hart};
 ghost use Rattle.cloak_model.specs.declared.image.Bundle.{Bundle};
-ghost use Rattle.cloak_model.specs.declared.item.Item.{Item};
+ghost use Rattle.cloak_model.specs.Items.{Item};
 ghost use Rattle.replayed_run.specs.Alone.{standing_told, words_of};
 ghost use Rattle.replayed_run.specs.Watching.{Watches, notes_of};
 ghost use Rattle.run_story.specs.Presenting as model;

@@ -1,13 +1,14 @@
 //! The story of a run, as far as its items were taken.
+ghost use Rattle.cloak_model.specs.Items.{item_of};
 ghost use Rattle.std.specs.Prelude.{◌≡◌, ◌++◌, [], ◌∷◌, List, ℕ, Option, Some, None, IfOk, length, is_some, slice_index_or, slice_set, string_bytes};
 ghost use Rattle.std.specs.List.{count_by};
 ghost use Rattle.std.specs.Fmt.{DisplaysOnOk};
 ghost use Rattle.cloak_model.specs.Bundle.{IsInGrammar};
 ghost use Rattle.cloak_model.specs.Record.{IsItem};
 ghost use Rattle.cloak_model.specs.declared.image.Bundle.{Bundle};
-ghost use Rattle.cloak_model.specs.declared.item.Item.{Item};
+ghost use Rattle.cloak_model.specs.Items.{Item as AnyItem};
 ghost use Rattle.replayed_run.specs.Watching.{Watches, notes_of};
-ghost use Rattle.run_story.specs.Passages.{no_violation, passage_text, summary, violations_counted};
+ghost use Rattle.run_story.specs.Passages.{end_reason, no_violation, passage_text, summary, violations_counted};
 ghost use Rattle.run_story.specs.Telling.{AddsOutcome, IsEndTold, KeepsRest, KeepsStory, NotesItem, StoryTakes, Tells, TellsOn, due_of, story_text};
 ghost use Rattle.run_story.specs.Told as spec;
 
@@ -111,7 +112,7 @@ impl Story {
 
     /// A context was asked for. This was refused, if there is no such program or it ended before.
     fn tell_none(&mut self, step: u32, asked: Asking) -> Result<Option<Presented>, Untold>
-        ensures adds { (b : Bundle) (items : List Item) → Watches b items self.old.watch →
+        ensures adds { (b : Bundle) (items : List AnyItem) → Watches b items self.old.watch →
             AddsOutcome (spec.asked_outcome b step self.old.ended (Some asked)) step self.old self.new result }
         ensures same { KeepsRest self.old self.new }
     {
@@ -128,7 +129,7 @@ impl Story {
 
     /// A step ended in which no program ended by a resume.
     fn tell_asked(&mut self, step: u32, asked: Option<Asking>) -> Result<Option<Presented>, Untold>
-        ensures adds { (b : Bundle) (items : List Item) → Watches b items self.old.watch →
+        ensures adds { (b : Bundle) (items : List AnyItem) → Watches b items self.old.watch →
             AddsOutcome (spec.asked_outcome b step self.old.ended asked) step self.old self.new result }
         ensures same { KeepsRest self.old self.new }
     {
@@ -163,7 +164,7 @@ impl Story {
 
     /// A step ended, in which a hart may have asked for a context that it did not get.
     fn note_made(&mut self, step: u32) -> Result<Option<Presented>, Untold>
-        ensures adds { (b : Bundle) (items : List Item) → Watches b items self.old.watch →
+        ensures adds { (b : Bundle) (items : List AnyItem) → Watches b items self.old.watch →
             AddsOutcome (spec.step_outcome b step self.old.ended (due_of self.old.target) (notes_of self.old.watch).asked)
             step self.old self.new result }
         ensures target { self.new.target ≡ Target.Nothing }
@@ -198,9 +199,9 @@ impl Story {
     }
 
     /// Notes what is presented as a program is about to end.
-    fn note_ending(&mut self, item: &Item)
-        ensures due { (b : Bundle) (items : List Item) → Watches b items self.old.watch →
-            due_of self.new.target ≡ spec.due_met b items (notes_of self.old.watch) (due_of self.old.target) item.now }
+    fn note_ending(&mut self, item: &Item<'_>)
+        ensures due { (b : Bundle) (items : List AnyItem) → Watches b items self.old.watch →
+            due_of self.new.target ≡ spec.due_met b items (notes_of self.old.watch) (due_of self.old.target) (item_of item.now) }
         ensures same { self.new ≡ record self.old { target = self.new.target } }
     {
         match item {
@@ -224,9 +225,9 @@ impl Story {
     }
 
     /// Notes an item that the watch took in this step, after so many others.
-    fn note(&mut self, item: &Item, step: u32, before: u64) -> Result<Option<Presented>, Untold>
-        ensures { (b : Bundle) (items : List Item) → Watches b items self.old.watch →
-            NotesItem b (spec.question_in b items before) item.now step self.old self.new result }
+    fn note(&mut self, item: &Item<'_>, step: u32, before: u64) -> Result<Option<Presented>, Untold>
+        ensures { (b : Bundle) (items : List AnyItem) → Watches b items self.old.watch →
+            NotesItem b (spec.question_in b items before) (item_of item.now) step self.old self.new result }
     {
         match item {
             Item::Stopped { .. } => {
@@ -250,9 +251,9 @@ impl Story {
 
     /// Takes the next item, before which there were so many, and tells the violation that it ends with. A page that was
     /// presented is returned: it is told with what was done to it before.
-    pub fn take(&mut self, item: &Item, before: u64) -> Result<Option<Presented>, Untold>
-        ensures { (b : Bundle) (told : Option (List ℕ)) (items : List Item) → IsItem item.now → length items ≡ before →
-            Tells b told items self.old → StoryTakes b told items item.now self.new result }
+    pub fn take(&mut self, item: &Item<'_>, before: u64) -> Result<Option<Presented>, Untold>
+        ensures { (b : Bundle) (told : Option (List ℕ)) (items : List AnyItem) → IsItem (item_of item.now) → length items ≡ before →
+            Tells b told items self.old → StoryTakes b told items (item_of item.now) self.new result }
     {
         let step = self.watch.step();
         self.note_ending(item);
@@ -263,12 +264,38 @@ impl Story {
     }
 }
 
-/// The last sentence of a story without a violation.
-fn write_none<W: fmt::Write>(steps: u32, f: &mut fmt::Formatter<W>) -> fmt::Result
-    ensures { DisplaysOnOk W.write_str_gives f.old result (Some (no_violation steps)) f.new }
+/// How a run ended.
+fn write_end_reason<W: fmt::Write>(
+    missed: bool,
+    halted: Option<u32>,
+    f: &mut fmt::Formatter<W>,
+) -> fmt::Result
+    ensures { DisplaysOnOk W.write_str_gives f.old result (Some (end_reason missed halted)) f.new }
 {
-    write!(f, "There was no violation: the run has {steps} steps, ")?;
-    f.write_str("and ended by a halt, by its number of steps, or for want of randomness.\n")
+    if missed {
+        return f.write_str("for want of randomness");
+    }
+    match halted {
+        Some(value) => write!(f, "by a halt with {value}"),
+        None => f.write_str("by its number of steps"),
+    }
+}
+
+/// The last sentence of a story without a violation.
+fn write_none<W: fmt::Write>(
+    steps: u32,
+    missed: bool,
+    halted: Option<u32>,
+    f: &mut fmt::Formatter<W>,
+) -> fmt::Result
+    ensures { DisplaysOnOk W.write_str_gives f.old result (Some (no_violation steps missed halted)) f.new }
+{
+    write!(
+        f,
+        "There was no violation: the run has {steps} steps, and ended "
+    )?;
+    write_end_reason(missed, halted, f)?;
+    f.write_str(".\n")
 }
 
 /// The last sentence of a story with violations.
@@ -287,22 +314,22 @@ fn write_some<W: fmt::Write>(
     write!(f, "resumes that were refused: {refused}.\n")
 }
 
-/// The last sentence of a story.
+/// The last sentence of a story, by what is noted of its run.
 fn write_summary<W: fmt::Write>(
-    steps: u32,
+    watch: &Watch,
     ended: usize,
     refused: u64,
     f: &mut fmt::Formatter<W>,
 ) -> fmt::Result
-    ensures { DisplaysOnOk W.write_str_gives f.old result (Some (summary steps ended refused)) f.new }
+    ensures { DisplaysOnOk W.write_str_gives f.old result (Some (summary (notes_of watch.now) ended refused)) f.new }
 {
     if ended != 0 {
-        return write_some(steps, ended, refused, f);
+        return write_some(watch.step(), ended, refused, f);
     }
     if refused != 0 {
-        return write_some(steps, ended, refused, f);
+        return write_some(watch.step(), ended, refused, f);
     }
-    write_none(steps, f)
+    write_none(watch.step(), watch.lacks_draw(), watch.halted(), f)
 }
 
 impl fmt::Display for Story {
@@ -310,11 +337,6 @@ impl fmt::Display for Story {
 
     fn fmt<W: fmt::Write>(&self, f: &mut fmt::Formatter<W>) -> fmt::Result {
         f.write_str(&self.text)?;
-        write_summary(
-            self.watch.step(),
-            programs_ended(&self.ended),
-            self.refused,
-            f,
-        )
+        write_summary(&self.watch, programs_ended(&self.ended), self.refused, f)
     }
 }

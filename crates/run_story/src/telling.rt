@@ -197,15 +197,14 @@ fn write_moved<W: fmt::Write>(hart: usize, call: DiskCall, f: &mut fmt::Formatte
     write!(f, "the kernel, on hart {hart}, {call}")
 }
 
-/// A store to a frame.
-fn write_stored<W: fmt::Write>(
+/// A store of the kernel to a frame.
+fn write_stored_by_kernel<W: fmt::Write>(
     hart: usize,
     frame: usize,
     change: FrameChange,
     f: &mut fmt::Formatter<W>,
 ) -> fmt::Result
-    ensures { DisplaysOnOk W.write_str_gives f.old result
-        (Some (spec.deed_text (deed.Stored hart frame change))) f.new }
+    ensures { DisplaysOnOk W.write_str_gives f.old result (Some (spec.stored_text hart None frame change)) f.new }
 {
     write!(
         f,
@@ -213,18 +212,61 @@ fn write_stored<W: fmt::Write>(
     )
 }
 
+/// A store of a context to a frame, where the kernel sees it.
+fn write_stored_by_context<W: fmt::Write>(
+    hart: usize,
+    ctx: u32,
+    frame: usize,
+    change: FrameChange,
+    f: &mut fmt::Formatter<W>,
+) -> fmt::Result
+    ensures { DisplaysOnOk W.write_str_gives f.old result (Some (spec.stored_text hart (Some ctx) frame change)) f.new }
+{
+    write!(
+        f,
+        "context {ctx}, on hart {hart}, stored in the open to frame {frame}: {change}"
+    )
+}
+
+/// A store to a frame.
+fn write_stored<W: fmt::Write>(
+    hart: usize,
+    ctx: Option<u32>,
+    frame: usize,
+    change: FrameChange,
+    f: &mut fmt::Formatter<W>,
+) -> fmt::Result
+    ensures { DisplaysOnOk W.write_str_gives f.old result (Some (spec.stored_text hart ctx frame change)) f.new }
+{
+    match ctx {
+        None => write_stored_by_kernel(hart, frame, change, f),
+        Some(ctx) => write_stored_by_context(hart, ctx, frame, change, f),
+    }
+}
+
+/// The kernel, or the context, that changed a page table.
+fn write_table_changed<W: fmt::Write>(ctx: Option<u32>, f: &mut fmt::Formatter<W>) -> fmt::Result
+    ensures { DisplaysOnOk W.write_str_gives f.old result (Some (spec.table_changed ctx)) f.new }
+{
+    match ctx {
+        None => f.write_str("the kernel changed its page table: "),
+        Some(ctx) => write!(f, "context {ctx} changed the kernel's page table: "),
+    }
+}
+
 /// An address that leads elsewhere.
 fn write_leads<W: fmt::Write>(
+    ctx: Option<u32>,
     address: u32,
     from: Option<usize>,
     to: Option<usize>,
     f: &mut fmt::Formatter<W>,
 ) -> fmt::Result
     ensures { DisplaysOnOk W.write_str_gives f.old result
-        (Some (spec.deed_text (deed.Leads address from to))) f.new }
+        (Some (spec.deed_text (deed.Leads ctx address from to))) f.new }
 {
     let (from, to) = (FrameName(from), FrameName(to));
-    f.write_str("the kernel changed its page table: ")?;
+    write_table_changed(ctx, f)?;
     write_word(address, f)?;
     write!(f, " led to {from}, and now leads to {to}")
 }
@@ -239,10 +281,16 @@ impl fmt::Display for PageDeed {
             PageDeed::Moved { hart, call } => write_moved(hart, call, f),
             PageDeed::Stored {
                 hart,
+                ctx,
                 frame,
                 change,
-            } => write_stored(hart, frame, change, f),
-            PageDeed::Leads { address, from, to } => write_leads(address, from, to, f),
+            } => write_stored(hart, ctx, frame, change, f),
+            PageDeed::Leads {
+                ctx,
+                address,
+                from,
+                to,
+            } => write_leads(ctx, address, from, to, f),
         }
     }
 }

@@ -1,7 +1,7 @@
 -- What a record that was traced is answered.
 use Rattle.std.proofs.Common.{◌≡◌, ◌∙◌, ℕ, List, Option, Some, None, Result, Ok, Err, inl, inr, refl, subst}
 use Rattle.cloak_base.specs.declared.causes.Failed.{Failed}
-use Rattle.cloak_model.specs.declared.item.Item.{Item}
+use Rattle.cloak_model.specs.Items.{Item}
 use Rattle.io_traits.specs.Told.{GrowsByFront, Puts, Rose, SameFiles}
 use Rattle.cloak_model.specs.declared.image.Bundle.{Bundle}
 use Rattle.command_parts.specs.Outside.{Outside, Output}

@@ -1,6 +1,6 @@
 -- What single items add to the trace of the kernel's side.
 use Rattle.std.proofs.Common.{◌≡◌, ◌∙◌, ◌&&◌, ℕ, Bool, true, false, List, [], Option, Some, None, IfSome, Result, if◌then◌else◌, is_none, is_ok, refl, sym, ap, subst}
-use Rattle.cloak_model.specs.declared.item.Item.{Item}
+use Rattle.cloak_model.specs.Items.{Item}
 use Rattle.cloak_model.specs.declared.outcome.Kernel.{Kernel}
 use Rattle.cloak_model.specs.Exchange.{Piece}
 use Rattle.cloak_model.specs.KernelAlone as model

@@ -1,7 +1,7 @@
 -- A front of what the items add is a front of the whole text.
 use Rattle.std.proofs.Common.{ℕ, List, Option, Some, None}
 use Rattle.cloak_model.specs.declared.image.KernelImage.{KernelImage}
-use Rattle.cloak_model.specs.declared.item.Item.{Item}
+use Rattle.cloak_model.specs.Items.{Item}
 use Rattle.cloak_model.specs.KernelAlone.{kernel_alone}
 use Rattle.io_traits.specs.Told.{GrowsByFront}
 use Rattle.io_traits.proofs.ToldFacts.{GrowsByFront-first}

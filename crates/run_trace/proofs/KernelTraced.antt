@@ -2,7 +2,7 @@
 use Rattle.std.proofs.Common.{◌≡◌, ℕ, List, [], ◌∷◌, ◌++◌, Option, None, Result, sym, ap, ◌∙◌}
 use Rattle.std.proofs.Common.{append-nil, append_assoc}
 use Rattle.cloak_model.specs.declared.image.KernelImage.{KernelImage}
-use Rattle.cloak_model.specs.declared.item.Item.{Item}
+use Rattle.cloak_model.specs.Items.{Item}
 use Rattle.cloak_model.specs.KernelAlone as model
 use Rattle.cloak_model.specs.KernelAlone.{kernel_alone, kernel_taken, take_kernel_item, opened_kernel}
 use Rattle.alone_views.specs.declared.kernel.KernelAlone.{KernelAlone}

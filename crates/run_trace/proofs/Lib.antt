@@ -7,3 +7,4 @@ pub mod Answered
 pub mod ProgramAdds
 pub mod ProgramText
 pub mod ProgramTraced
+pub mod AnsweredOver

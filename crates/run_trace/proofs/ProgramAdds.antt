@@ -1,6 +1,6 @@
 -- What single items add to the trace of a program's side.
 use Rattle.std.proofs.Common.{◌≡◌, ◌∙◌, ◌&&◌, ◌||◌, ℕ, Bool, true, false, List, [], Option, Some, None, option_map, Result, if◌then◌else◌, is_none, is_ok, refl, sym, ap}
-use Rattle.cloak_model.specs.declared.item.Item.{Item}
+use Rattle.cloak_model.specs.Items.{Item}
 use Rattle.cloak_model.specs.Contexts.{Context, context_at, context_number}
 use Rattle.cloak_model.specs.declared.context.Phase.{Phase}
 use Rattle.cloak_model.specs.DomainAlone as model

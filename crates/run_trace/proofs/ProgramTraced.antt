@@ -2,10 +2,10 @@
 use Rattle.std.proofs.Common.{◌≡◌, ℕ, List, [], ◌∷◌, ◌++◌, Option, None, Result, sym, ap, ◌∙◌}
 use Rattle.std.proofs.Common.{append-nil, append_assoc}
 use Rattle.cloak_model.specs.declared.image.KernelImage.{KernelImage}
-use Rattle.cloak_model.specs.declared.item.Item.{Item}
-use Rattle.cloak_model.specs.declared.image.Program.{Program}
+use Rattle.cloak_model.specs.Items.{Item}
+use Rattle.cloak_model.specs.Parts.{DomainPart}
 use Rattle.cloak_model.specs.DomainAlone as model
-use Rattle.cloak_model.specs.DomainAlone.{domain_alone, domain_taken, take_domain_item, opened_domain}
+use Rattle.cloak_model.specs.DomainAlone.{domain_alone_from, domain_taken, take_domain_item, opened_with_part}
 use Rattle.alone_views.specs.declared.domain.DomainAlone.{DomainAlone}
 use Rattle.alone_views.specs.declared.unfit.Unfit.{Unfit}
 use Rattle.alone_views.specs.DomainStanding.{StandsForDomain}
@@ -22,8 +22,8 @@ use Rattle.run_trace.specs.ProgramTracing.{AddsOwn, TracesProgram}
 use Rattle.run_trace.specs.declared.choice.TraceChoice.{TraceChoice}
 
 -- before the first item
-pub own_none : {c : TraceChoice} {d : ℕ} {k : KernelImage} {p : Program} {machine : DomainAlone} (at : Putting) →
-    StandsForDomain d k.schedule machine (opened_domain d p) → OwnItems c d k p machine [] at at None
+pub own_none : {c : TraceChoice} {d : ℕ} {k : KernelImage} {p : DomainPart} {machine : DomainAlone} (at : Putting) →
+    StandsForDomain d k.schedule machine (opened_with_part p) → OwnItems c d k p machine [] at at None
 unfolding program_traced
 own_none {c} {d} {k} {p} {machine} at stands = record { given = program_none stands; text = PutsMore-none at }
 
@@ -41,18 +41,18 @@ traced_more c d turns s (x ∷ items) i =
     (traced_more c d turns (take_domain_item d turns s x) items i)
 
 -- one item more
-pub own_more : {c : TraceChoice} {d : ℕ} {k : KernelImage} {p : Program} {was now : DomainAlone} {items : List Item}
+pub own_more : {c : TraceChoice} {d : ℕ} {k : KernelImage} {p : DomainPart} {was now : DomainAlone} {items : List Item}
     {old mid new : Putting} (given : Result Unit Unfit) (i : Item) → OwnItems c d k p was items old mid None →
     ((turns : List ℕ) (s : model.DomainAlone) → StandsForDomain d turns was s → s.unfit ≡ None →
     AddsOwn mid new now given c d turns s i) → OwnItems c d k p now (items ++ i ∷ []) old new (unfit_ends given)
 own_more {c} {d} {k} {p} {was} {now} {items} {old} {mid} {new} given i before adds =
-    let added = adds k.schedule (domain_alone d k.schedule p items) before.given.stands before.given.fits in
+    let added = adds k.schedule (domain_alone_from d k.schedule p items) before.given.stands before.given.fits in
     record {
       given = program_more given i before.given (record { stands = added.stands; answer = added.answer });
-      text = text_is (then before.text added.text) (traced_more c d k.schedule (opened_domain d p) items i);
+      text = text_is (then before.text added.text) (traced_more c d k.schedule (opened_with_part p) items i);
     }
 
-pub own_to : {c : TraceChoice} {d : ℕ} {k : KernelImage} {p : Program} {machine : DomainAlone} {items : List Item}
+pub own_to : {c : TraceChoice} {d : ℕ} {k : KernelImage} {p : DomainPart} {machine : DomainAlone} {items : List Item}
     {old new : Putting} {told : Option (List ℕ)} {m n : ℕ} {last ended : Option Ending} →
     OwnItems c d k p machine items old new last → IsReadTo (program_unfit d k p) told m n items ended →
     TracesProgram c d k p machine told m n old new ended

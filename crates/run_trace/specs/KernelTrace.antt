@@ -1,8 +1,8 @@
 -- The trace of the kernel's side: what each item adds, by the states of the kernel alone before and after it.
 use Rattle.std.specs.Prelude.{ℕ, true, false, ◌&&◌, Bool, List, [], ◌∷◌, ◌++◌, codes, decimal, Option, Some, None, is_none, if◌then◌else◌}
 use Rattle.cloak_model.specs.declared.image.KernelImage.{KernelImage}
-use Rattle.cloak_model.specs.declared.item.Item.{Item}
-use Rattle.cloak_model.specs.declared.item.Item.TheVariants as item
+use Rattle.cloak_model.specs.Items.{Item}
+use Rattle.cloak_model.specs.Items as item
 use Rattle.cloak_model.specs.KernelAlone as model
 use Rattle.cloak_model.specs.KernelAlone.{kernel_hart, opened_kernel, take_kernel_item}
 use Rattle.alone_views.specs.KernelEnding.{is_end, plain_ending}

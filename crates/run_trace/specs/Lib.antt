@@ -7,4 +7,6 @@ pub mod KernelTaking
 pub mod ProgramTrace
 pub mod ProgramTracing
 pub mod ProgramTaking
+pub mod Refusing
 pub mod Answering
+pub mod AnsweringOver

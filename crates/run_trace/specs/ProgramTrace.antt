@@ -5,11 +5,11 @@ use Rattle.cloak_model.specs.Contexts.{Context, context_at, context_number}
 use Rattle.cloak_model.specs.declared.context.Phase.{Phase}
 use Rattle.cloak_model.specs.declared.context.Phase.TheVariants.{Plain, CopyIn, Waiting, CopyOut}
 use Rattle.cloak_model.specs.declared.image.KernelImage.{KernelImage}
-use Rattle.cloak_model.specs.declared.image.Program.{Program}
-use Rattle.cloak_model.specs.declared.item.Item.{Item}
-use Rattle.cloak_model.specs.declared.item.Item.TheVariants as item
+use Rattle.cloak_model.specs.Parts.{DomainPart}
+use Rattle.cloak_model.specs.Items.{Item}
+use Rattle.cloak_model.specs.Items as item
 use Rattle.cloak_model.specs.DomainAlone as model
-use Rattle.cloak_model.specs.DomainAlone.{opened_domain, take_domain_item}
+use Rattle.cloak_model.specs.DomainAlone.{opened_with_part, take_domain_item}
 use Rattle.cloak_model.specs.Memory.{value_in}
 use Rattle.cloak_model.specs.Parts.{DomainPart}
 use Rattle.cloak_model.specs.Resources.{page_at}
@@ -181,8 +181,8 @@ program_traced c d turns s (i ∷ items) =
     program_added c d turns s (take_domain_item d turns s i) i
     ++ program_traced c d turns (take_domain_item d turns s i) items
 
-abbrev pub program_trace : TraceChoice → ℕ → KernelImage → Program → List Item → List ℕ
-program_trace c d k p items = program_traced c d k.schedule (opened_domain d p) items
+abbrev pub program_trace : TraceChoice → ℕ → KernelImage → DomainPart → List Item → List ℕ
+program_trace c d k p items = program_traced c d k.schedule (opened_with_part p) items
 
 -- the last line, once a record was read to its end
 abbrev pub program_end : model.DomainAlone → List ℕ

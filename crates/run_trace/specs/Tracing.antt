@@ -2,7 +2,7 @@
 use Rattle.std.specs.Prelude.{ℕ, ◌≡◌, List, Option, Some, None, IfSome, Result, Ok, Err, ◌++◌}
 use Rattle.cloak_base.specs.declared.causes.Failed.{Failed}
 use Rattle.cloak_model.specs.declared.image.KernelImage.{KernelImage}
-use Rattle.cloak_model.specs.declared.item.Item.{Item}
+use Rattle.cloak_model.specs.Items.{Item}
 use Rattle.cloak_model.specs.KernelAlone as model
 use Rattle.cloak_model.specs.KernelAlone.{kernel_alone, take_kernel_item}
 use Rattle.alone_views.specs.KernelEnding.{ending_in, plain_ending}

@@ -2,7 +2,7 @@
 ghost use Rattle.std.specs.Prelude.{◌≡◌, ◌<◌, ℕ, List, None, Some, Ok};
 ghost use Rattle.cloak_model.specs.declared.image.KernelImage.{KernelImage};
 ghost use Rattle.cloak_model.specs.Bundle.{IsInGrammar};
-ghost use Rattle.cloak_model.specs.declared.image.Program.{Program};
+ghost use Rattle.cloak_model.specs.Parts.{DomainPart};
 ghost use Rattle.cloak_model.specs.DomainAlone as program_model;
 ghost use Rattle.cloak_model.specs.KernelAlone as model;
 ghost use Rattle.alone_views.specs.DomainStanding.{StandsForDomain};
@@ -22,6 +22,7 @@ use crate::kernel_items::trace_kernel_items;
 use crate::kernel_side::put_end;
 use crate::program_items::trace_program_items;
 use crate::program_side::put_program_end;
+use crate::refusing::{is_there, refuse_hart};
 use alone_views::{DomainAlone, KernelAlone};
 use cloak_model::Bundle;
 use command_parts::{Refusal, Status, read_bundle, refuse};
@@ -115,7 +116,7 @@ fn put_last_of_program<O: Sink>(out: &mut O, program: &DomainAlone, ending: &End
 }
 
 /// Shows the trace of a program's side, with a program that runs alone.
-fn trace_program<S: Shelf, O: Sink>(
+pub(crate) fn trace_program<S: Shelf, O: Sink>(
     program: DomainAlone,
     number: u32,
     choice: &TraceChoice,
@@ -125,8 +126,8 @@ fn trace_program<S: Shelf, O: Sink>(
 ) -> Status
     requires settled { S.is_settled shelf.old }
     requires number { number < 4 }
-    ensures shows { (k : KernelImage) (p : Program) →
-        StandsForDomain number k.schedule program (program_model.opened_domain number p) →
+    ensures shows { (k : KernelImage) (p : DomainPart) →
+        StandsForDomain number k.schedule program (program_model.opened_with_part p) →
         ShowsRecord (program_unfit number k p) (program_text choice.now number k p) name.now result
         (outside S.Shelf O.Sink shelf.old out.old) (outside S.Shelf O.Sink shelf.new out.new) }
     ensures files { SameFiles (S.held shelf.old) (S.held shelf.new) }
@@ -194,7 +195,7 @@ fn trace_bundle<S: Shelf, O: Sink>(
 }
 
 /// Shows a line for each step of the run of a bundle that is chosen, from its record: of the kernel's side, or of that of
-/// one program.
+/// one program. A hart that the bundle does not have is refused.
 pub fn trace_command<S: Shelf, O: Sink>(
     alloc: Global,
     bundle_name: &str,
@@ -214,5 +215,9 @@ pub fn trace_command<S: Shelf, O: Sink>(
         Ok(bundle) => bundle,
         Err(refusal) => return refuse(out, &refusal),
     };
-    trace_bundle(alloc, &bundle, program, choice, record_name, shelf, out)
+    if is_there(choice.hart, bundle.kernel.harts) {
+        trace_bundle(alloc, &bundle, program, choice, record_name, shelf, out)
+    } else {
+        refuse_hart(out)
+    }
 }

@@ -31,7 +31,7 @@ impl<'a, O: Sink> TakeItems for KernelTrace<'a, O> {
 
     ghost took = { TookInTrace O.Sink };
 
-    fn take_item(&mut self, item: &Item) -> Result<(), TraceStop> {
+    fn take_item(&mut self, item: &Item<'_>) -> Result<(), TraceStop> {
         let (shown, taken) = trace_item(self.kernel, self.choice, item, self.out, Ok(()));
         go_on(shown, taken)
     }

@@ -1,4 +1,5 @@
 //! What an item adds to the trace of the kernel's side.
+ghost use Rattle.cloak_model.specs.Items.{item_of};
 ghost use Rattle.std.specs.Prelude.{◌≡◌, ◌&&◌, [], true, false, is_ok, List, ℕ, Some, None, if◌then◌else◌};
 ghost use Rattle.cloak_model.specs.KernelAlone as model;
 ghost use Rattle.cloak_model.specs.KernelAlone.{kernel_hart};
@@ -121,14 +122,14 @@ fn put_made<O: Sink>(
 fn trace_marker<O: Sink>(
     kernel: &mut KernelAlone,
     choice: &TraceChoice,
-    item: &Item,
+    item: &Item<'_>,
     out: &mut O,
     so_far: SoFar,
 ) -> (SoFar, Result<(), Unfit>)
-    requires { is_end item.now ≡ true }
-    ensures { (turns : List ℕ) (s : model.KernelAlone) → IsItem item.now → StandsForKernel kernel.old turns s →
+    requires { is_end (item_of item.now) ≡ true }
+    ensures { (turns : List ℕ) (s : model.KernelAlone) → IsItem (item_of item.now) → StandsForKernel kernel.old turns s →
         s.unfit ≡ None → AddsItem (putting O.Sink out.old so_far) (putting O.Sink out.new result.0) kernel.new
-        result.1 choice.now turns s item.now }
+        result.1 choice.now turns s (item_of item.now) }
 {
     let open = open_step(kernel, choice);
     let taken = kernel.take(item, &mut Silence {});
@@ -156,10 +157,10 @@ fn put_fitting<O: Sink>(
     chosen: bool,
     step: u32,
     hart: Option<usize>,
-    item: &Item,
+    item: &Item<'_>,
 ) -> SoFar
     ensures { PutsMore (putting O.Sink out.old so_far) (putting O.Sink out.new result)
-        (if is_ok taken.now && chosen then item_line step hart item.now else []) }
+        (if is_ok taken.now && chosen then item_line step hart (item_of item.now) else []) }
 {
     match taken {
         Err(_) => text(out, so_far, b""),
@@ -177,15 +178,15 @@ fn put_fitting<O: Sink>(
 fn trace_outward<O: Sink>(
     kernel: &mut KernelAlone,
     choice: &TraceChoice,
-    item: &Item,
+    item: &Item<'_>,
     out: &mut O,
     so_far: SoFar,
 ) -> (SoFar, Result<(), Unfit>)
-    requires outward { spec.is_outward item.now ≡ true }
-    requires no_end { is_end item.now ≡ false }
-    ensures { (turns : List ℕ) (s : model.KernelAlone) → IsItem item.now → StandsForKernel kernel.old turns s →
+    requires outward { spec.is_outward (item_of item.now) ≡ true }
+    requires no_end { is_end (item_of item.now) ≡ false }
+    ensures { (turns : List ℕ) (s : model.KernelAlone) → IsItem (item_of item.now) → StandsForKernel kernel.old turns s →
         s.unfit ≡ None → AddsItem (putting O.Sink out.old so_far) (putting O.Sink out.new result.0) kernel.new
-        result.1 choice.now turns s item.now }
+        result.1 choice.now turns s (item_of item.now) }
 {
     let step = kernel.step();
     let hart = hart_there(kernel.stage());
@@ -199,15 +200,15 @@ fn trace_outward<O: Sink>(
 fn take_inward<O: Sink>(
     kernel: &mut KernelAlone,
     choice: &TraceChoice,
-    item: &Item,
+    item: &Item<'_>,
     out: &mut O,
     so_far: SoFar,
 ) -> (SoFar, Result<(), Unfit>)
-    requires inward { spec.is_outward item.now ≡ false }
-    requires no_end { is_end item.now ≡ false }
-    ensures { (turns : List ℕ) (s : model.KernelAlone) → IsItem item.now → StandsForKernel kernel.old turns s →
+    requires inward { spec.is_outward (item_of item.now) ≡ false }
+    requires no_end { is_end (item_of item.now) ≡ false }
+    ensures { (turns : List ℕ) (s : model.KernelAlone) → IsItem (item_of item.now) → StandsForKernel kernel.old turns s →
         s.unfit ≡ None → AddsItem (putting O.Sink out.old so_far) (putting O.Sink out.new result.0) kernel.new
-        result.1 choice.now turns s item.now }
+        result.1 choice.now turns s (item_of item.now) }
 {
     let _ = choice;
     let taken = kernel.take(item, &mut Silence {});
@@ -216,15 +217,15 @@ fn take_inward<O: Sink>(
 }
 
 /// The item ends a step.
-pub fn is_end(item: &Item) -> bool
-    ensures { result ≡ endings.is_end item.now }
+pub fn is_end(item: &Item<'_>) -> bool
+    ensures { result ≡ endings.is_end (item_of item.now) }
 {
     matches!(item, Item::Step { .. } | Item::Close { .. })
 }
 
 /// The kernel could see the item.
-fn is_outward(item: &Item) -> bool
-    ensures { result ≡ spec.is_outward item.now }
+fn is_outward(item: &Item<'_>) -> bool
+    ensures { result ≡ spec.is_outward (item_of item.now) }
 {
     matches!(
         item,
@@ -236,13 +237,13 @@ fn is_outward(item: &Item) -> bool
 pub fn trace_item<O: Sink>(
     kernel: &mut KernelAlone,
     choice: &TraceChoice,
-    item: &Item,
+    item: &Item<'_>,
     out: &mut O,
     so_far: SoFar,
 ) -> (SoFar, Result<(), Unfit>)
-    ensures { (turns : List ℕ) (s : model.KernelAlone) → IsItem item.now → StandsForKernel kernel.old turns s →
+    ensures { (turns : List ℕ) (s : model.KernelAlone) → IsItem (item_of item.now) → StandsForKernel kernel.old turns s →
         s.unfit ≡ None → AddsItem (putting O.Sink out.old so_far) (putting O.Sink out.new result.0) kernel.new
-        result.1 choice.now turns s item.now }
+        result.1 choice.now turns s (item_of item.now) }
 {
     if is_end(item) {
         trace_marker(kernel, choice, item, out, so_far)

@@ -1,7 +1,7 @@
 //! A record, from its first item to its end or its first fault, with a program that runs alone.
 ghost use Rattle.std.specs.Prelude.{◌≡◌, ◌<◌, Ok};
 ghost use Rattle.cloak_model.specs.declared.image.KernelImage.{KernelImage};
-ghost use Rattle.cloak_model.specs.declared.image.Program.{Program};
+ghost use Rattle.cloak_model.specs.Parts.{DomainPart};
 ghost use Rattle.cloak_model.specs.DomainAlone as model;
 ghost use Rattle.alone_views.specs.DomainStanding.{StandsForDomain};
 ghost use Rattle.io_traits.specs.Told.{SameFiles};
@@ -40,7 +40,7 @@ impl<'a, O: Sink> TakeItems for ProgramTrace<'a, O> {
 
     ghost took = { TookInOwn O.Sink };
 
-    fn take_item(&mut self, item: &Item) -> Result<(), TraceStop> {
+    fn take_item(&mut self, item: &Item<'_>) -> Result<(), TraceStop> {
         let (shown, taken) = trace_program_item(
             self.program,
             self.number.value,
@@ -65,8 +65,8 @@ pub fn trace_program_items<S: Shelf, O: Sink>(
 ) -> Result<Ending, Failed>
     requires settled { S.is_settled shelf.old }
     requires number { number < 4 }
-    ensures traces { (k : KernelImage) (p : Program) →
-        StandsForDomain number k.schedule program.old (model.opened_domain number p) →
+    ensures traces { (k : KernelImage) (p : DomainPart) →
+        StandsForDomain number k.schedule program.old (model.opened_with_part p) →
         TracesOwn choice.now number k p program.new (S.held shelf.old name.now)
         (S.reading_faults shelf.old) (S.reading_faults shelf.new)
         (putting O.Sink out.old (Ok tt)) (putting O.Sink out.new) result }

@@ -1,4 +1,5 @@
 //! What an item adds to the trace of a program's side.
+ghost use Rattle.cloak_model.specs.Items.{item_of};
 ghost use Rattle.std.specs.Prelude.{◌≡◌, ◌<◌, ◌&&◌, ◌||◌, [], true, false, is_ok, is_none, ℕ, List, Some, None, option_map, if◌then◌else◌};
 ghost use Rattle.cloak_model.specs.DomainAlone as model;
 ghost use Rattle.cloak_model.specs.Contexts.{context_at};
@@ -100,8 +101,8 @@ fn open_context(program: &DomainAlone, number: u32, choice: &TraceChoice) -> Opt
 }
 
 /// The last answer that a step got, by the item after which it was made.
-fn last_answer(item: &Item) -> LastAnswer
-    ensures { result ≡ spec.last_answer item.now }
+fn last_answer(item: &Item<'_>) -> LastAnswer
+    ensures { result ≡ spec.last_answer (item_of item.now) }
 {
     match *item {
         Item::Ok { .. } => LastAnswer::Granted,
@@ -143,12 +144,12 @@ fn put_made<O: Sink>(
     so_far: SoFar,
     open: &Option<OpenContext>,
     program: &DomainAlone,
-    item: &Item,
+    item: &Item<'_>,
 ) -> SoFar
     ensures { (number : ℕ) (turns : List ℕ) (next : model.DomainAlone) →
         StandsForDomain number turns program.now next → next.unfit ≡ None →
         PutsMore (putting O.Sink out.old so_far) (putting O.Sink out.new result)
-        (spec.made_context open.now next item.now) }
+        (spec.made_context open.now next (item_of item.now)) }
 {
     match open {
         None => text(out, so_far, b""),
@@ -178,19 +179,19 @@ fn is_last(ends: bool, running: Option<u32>) -> bool
 }
 
 /// The step that was open was made with this item, which fitted.
-fn made_with(program: &DomainAlone, item: &Item) -> bool
+fn made_with(program: &DomainAlone, item: &Item<'_>) -> bool
     ensures { (number : ℕ) (turns : List ℕ) (next : model.DomainAlone) →
         StandsForDomain number turns program.now next → next.unfit ≡ None →
-        result ≡ endings.is_end item.now || is_none (running_in next.stage) }
+        result ≡ endings.is_end (item_of item.now) || is_none (running_in next.stage) }
 {
     is_last(is_end(item), program.running())
 }
 
 /// The step that was open was made with this item, which was answered so.
-fn is_made(taken: &Result<(), Unfit>, program: &DomainAlone, item: &Item) -> bool
+fn is_made(taken: &Result<(), Unfit>, program: &DomainAlone, item: &Item<'_>) -> bool
     ensures { (number : ℕ) (turns : List ℕ) (next : model.DomainAlone) →
         StandsForDomain number turns program.now next → is_ok taken.now ≡ is_none next.unfit →
-        result ≡ spec.is_made next.unfit next.stage item.now }
+        result ≡ spec.is_made next.unfit next.stage (item_of item.now) }
 {
     match taken {
         Err(_) => false,
@@ -205,12 +206,12 @@ fn put_made_if<O: Sink>(
     made: bool,
     open: &Option<OpenContext>,
     program: &DomainAlone,
-    item: &Item,
+    item: &Item<'_>,
 ) -> SoFar
     ensures { (number : ℕ) (turns : List ℕ) (next : model.DomainAlone) →
-        StandsForDomain number turns program.now next → made ≡ spec.is_made next.unfit next.stage item.now →
+        StandsForDomain number turns program.now next → made ≡ spec.is_made next.unfit next.stage (item_of item.now) →
         PutsMore (putting O.Sink out.old so_far) (putting O.Sink out.new result)
-        (spec.made_if made open.now next item.now) }
+        (spec.made_if made open.now next (item_of item.now)) }
 {
     if made {
         put_made(out, so_far, open, program, item)
@@ -220,8 +221,8 @@ fn put_made_if<O: Sink>(
 }
 
 /// The item tells what was done to the program.
-fn is_own(number: u32, item: &Item) -> bool
-    ensures { result ≡ spec.is_own number item.now }
+fn is_own(number: u32, item: &Item<'_>) -> bool
+    ensures { result ≡ spec.is_own number (item_of item.now) }
 {
     match *item {
         Item::Resume { domain, .. } => domain as u32 == number,
@@ -238,10 +239,10 @@ fn put_fitting<O: Sink>(
     chosen: bool,
     step: u32,
     hart: usize,
-    item: &Item,
+    item: &Item<'_>,
 ) -> SoFar
     ensures { PutsMore (putting O.Sink out.old so_far) (putting O.Sink out.new result)
-        (if is_ok taken.now && chosen then item_line step (Some hart) item.now else []) }
+        (if is_ok taken.now && chosen then item_line step (Some hart) (item_of item.now) else []) }
 {
     match taken {
         Err(_) => text(out, so_far, b""),
@@ -260,14 +261,14 @@ fn trace_own<O: Sink>(
     program: &mut DomainAlone,
     number: u32,
     choice: &TraceChoice,
-    item: &Item,
+    item: &Item<'_>,
     out: &mut O,
     so_far: SoFar,
 ) -> (SoFar, Result<(), Unfit>)
-    requires { spec.is_own number item.now ≡ true }
+    requires { spec.is_own number (item_of item.now) ≡ true }
     ensures { (turns : List ℕ) (s : model.DomainAlone) → StandsForDomain number turns program.old s →
         s.unfit ≡ None → AddsOwn (putting O.Sink out.old so_far) (putting O.Sink out.new result.0) program.new
-        result.1 choice.now number turns s item.now }
+        result.1 choice.now number turns s (item_of item.now) }
 {
     let step = program.step();
     let hart = program.turn() as usize;
@@ -282,15 +283,15 @@ fn trace_step<O: Sink>(
     program: &mut DomainAlone,
     number: u32,
     choice: &TraceChoice,
-    item: &Item,
+    item: &Item<'_>,
     out: &mut O,
     so_far: SoFar,
 ) -> (SoFar, Result<(), Unfit>)
     requires number { number < 4 }
-    requires other { spec.is_own number item.now ≡ false }
+    requires other { spec.is_own number (item_of item.now) ≡ false }
     ensures { (turns : List ℕ) (s : model.DomainAlone) → StandsForDomain number turns program.old s →
         s.unfit ≡ None → AddsOwn (putting O.Sink out.old so_far) (putting O.Sink out.new result.0) program.new
-        result.1 choice.now number turns s item.now }
+        result.1 choice.now number turns s (item_of item.now) }
 {
     let open = open_context(program, number, choice);
     let taken = program.take(item);
@@ -304,14 +305,14 @@ pub fn trace_program_item<O: Sink>(
     program: &mut DomainAlone,
     number: u32,
     choice: &TraceChoice,
-    item: &Item,
+    item: &Item<'_>,
     out: &mut O,
     so_far: SoFar,
 ) -> (SoFar, Result<(), Unfit>)
     requires { number < 4 }
     ensures { (turns : List ℕ) (s : model.DomainAlone) → StandsForDomain number turns program.old s →
         s.unfit ≡ None → AddsOwn (putting O.Sink out.old so_far) (putting O.Sink out.new result.0) program.new
-        result.1 choice.now number turns s item.now }
+        result.1 choice.now number turns s (item_of item.now) }
 {
     if is_own(number, item) {
         trace_own(program, number, choice, item, out, so_far)

@@ -13,7 +13,7 @@ use Rattle.cloak_model.specs.Ask.{ask_word, ask_walk, ask_in_ram, ask_translate,
 use Rattle.cloak_model.proofs.WalkParts.{ask_second, ask_after, ask_first}
 use Rattle.cloak_base.specs.declared.names.Kind.{Kind}
 use Rattle.cloak_model.specs.declared.answer.Answer.{Answer}
-use Rattle.cloak_model.specs.declared.item.Item.{Item}
+use Rattle.cloak_model.specs.Items.{Item}
 use Rattle.cloak_model.specs.AskPages.{is_store, inside_access, replies, if_drawn, ask_led_inside, offered_by, offer_events, ask_offer, reached, reach_by_table, get_at, got, get_by_table, put_at, stored_inside, put_by_table, settled_if_marked, clear_from, next_answer, ask_reach, ask_write, ask_get, ask_put, ask_clear}
 use Rattle.cloak_model.specs.Cloaking.{offer}
 

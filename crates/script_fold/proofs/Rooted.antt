@@ -3,7 +3,7 @@ use Rattle.std.proofs.Common.{◌≡◌, ◌∙◌, ℕ, Bool, List, refl, Optio
 use Rattle.cloak_base.specs.declared.names.PageId.{PageId}
 use Rattle.cloak_model.specs.Events.{Event}
 use Rattle.cloak_model.specs.World.{World, Flat, Cloaked, Alone, noted, stored_at, settled, written, with_plain}
-use Rattle.cloak_model.specs.declared.item.Item.{Item}
+use Rattle.cloak_model.specs.Items.{Item}
 use Rattle.cloak_model.specs.AskPages.{ask_copy, ask_forget}
 use Rattle.cloak_model.specs.DomainState.{Domain}
 use Rattle.cloak_model.specs.DomainStep.{domain_step}
@@ -13,7 +13,7 @@ use Rattle.script_fold.proofs.Questions.{Kept, settles_of}
 use Rattle.script_fold.proofs.ByQuestions.{kept_by}
 use Rattle.script_fold.proofs.Endings.{keeps_end}
 use Rattle.cloak_base.specs.Random.{Random}
-use Rattle.cloak_model.specs.Ledger.{vector_of}
+use Rattle.cloak_model.specs.Ledger.{next_vector}
 use Rattle.cloak_model.specs.Cloaking.{CloakedMemory, settle, settle_owed, offer}
 use Rattle.script_fold.specs.Tables.{recorded_tables}
 use Rattle.cloak_model.specs.PageMoves.{copy_pages, drop_pages}
@@ -38,11 +38,11 @@ settle_owed_root f q (Some draw) m = refl
 pub settle_root : (f : ℕ) (m : CloakedMemory) → (settle f m).memory.ledger.root ≡ m.ledger.root
 settle_root f m =
     settle_keeps (λ x. x.ledger.root ≡ m.ledger.root)
-    (λ g q x is same. settle_owed_root g q (vector_of x.ledger q) x ∙ same) f m refl
+    (λ g q x is same. settle_owed_root g q (next_vector x.ledger) x ∙ same) f m refl
 
 pub offer_root : (q : PageId) (g : ℕ) (write : Bool) (m : CloakedMemory) → (offer q g write m).memory.ledger.root ≡ m.ledger.root
 offer_root q g write m = offer_keeps {Q = λ x. x.ledger.root ≡ m.ledger.root} (record {
-  settles = λ f p x is same. settle_owed_root f p (vector_of x.ledger p) x ∙ same;
+  settles = λ f p x is same. settle_owed_root f p (next_vector x.ledger) x ∙ same;
   compares = λ a b x same. same;
   takes = λ g' x clean same. same;
   stays = λ x same. same;

@@ -3,7 +3,7 @@
 use Rattle.std.specs.Prelude.{ℕ, zero, suc, ◌≡◌, ◌+◌, ◌*◌, ◌≤◌, Bool, true, false, List, ◌++◌, map, Option}
 use Rattle.std.specs.List.{count_by}
 use Rattle.cloak_base.specs.declared.names.SpaceId.{SpaceId}
-use Rattle.cloak_model.specs.declared.item.Item.{Item}
+use Rattle.cloak_model.specs.Items.{Item}
 use Rattle.cloak_model.specs.Events.{Event, Look, Read, Space}
 use Rattle.cloak_model.specs.Record.{is_cipher}
 use Rattle.shadow_fold.specs.Table.{one_more}

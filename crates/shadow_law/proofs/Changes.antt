@@ -12,7 +12,7 @@ use Rattle.cloak_base.specs.declared.names.Frame.{Frame}
 use Rattle.cloak_base.specs.declared.names.PageId.{PageId}
 use Rattle.cloak_base.specs.declared.names.SpaceId.{SpaceId}
 use Rattle.cloak_model.specs.Contexts.{same_space}
-use Rattle.cloak_model.specs.Ledger.{vector_of}
+use Rattle.cloak_model.specs.Ledger.{next_vector}
 use Rattle.cloak_model.specs.Cloaking.{CloakedMemory, AfterSettling, AfterOffer, owed_in, with_shown_frame, with_owed, settle_owed, settle_if, settle, owes, owing_frame, settle_frame_if, with_comparison, taken, compared, unless_missed, offer}
 use Rattle.shadow_fold.specs.declared.entry.Entry.{Entry}
 use Rattle.shadow_fold.specs.declared.entry.Regime.{Regime}
@@ -159,7 +159,7 @@ spares_owed f x q (Some draw) m other = record { ram = get_or-set_other m.ram f 
 spares_if : (f x : ℕ) (o : Option PageId) (m : CloakedMemory) → (x ≡ f → ⊥) → Spared x m (settle_if f o m).memory
 unfolding settle_if
 spares_if f x None m other = spared_refl x m
-spares_if f x (Some q) m other = spares_owed f x q (vector_of m.ledger q) m other
+spares_if f x (Some q) m other = spares_owed f x q (next_vector m.ledger) m other
 
 pub settle_spares : (f x : ℕ) (m : CloakedMemory) → (x ≡ f → ⊥) → Spared x m (settle f m).memory
 unfolding settle
@@ -233,7 +233,7 @@ abbrev HasFrames : ℕ → CloakedMemory → Type 0
 HasFrames n m = length m.ram ≡ n
 
 -- a frame that is owed a page is settled so
-settled_as : (f : ℕ) (q : PageId) (m : CloakedMemory) → owed_in m f ≡ Some q → settle f m ≡ settle_owed f q (vector_of m.ledger q) m
+settled_as : (f : ℕ) (q : PageId) (m : CloakedMemory) → owed_in m f ≡ Some q → settle f m ≡ settle_owed f q (next_vector m.ledger) m
 unfolding settle settle_if
 settled_as f q m is = ap (λ o. settle_if f o m) is
 

@@ -22,6 +22,7 @@ abbrev pub bundle_of : Option spec.Asked → List ℕ
 bundle_of (Some (spec.Run bundle record_name steps randomness)) = bundle_named bundle
 bundle_of (Some (spec.View bundle record_name)) = bundle_named bundle
 bundle_of (Some (spec.Solo domain bundle record_name)) = bundle_named bundle
+bundle_of (Some (spec.SoloOver domain bundle record_name old)) = bundle_named bundle
 bundle_of (Some (spec.Stats bundle steps randomness)) = bundle_named bundle
 bundle_of (Some (spec.Upgrade old_name new_name)) = bundle_named old_name
 bundle_of (Some (spec.Store names counter steps randomness)) = bundle_named names.bundle
@@ -33,6 +34,7 @@ bundle_of _ = codes "the bundle"
 abbrev pub record_of : Option spec.Asked → List ℕ
 record_of (Some (spec.View bundle record_name)) = record_named record_name
 record_of (Some (spec.Solo domain bundle record_name)) = record_named record_name
+record_of (Some (spec.SoloOver domain bundle record_name old)) = record_named record_name
 record_of _ = codes "the record"
 
 -- the random bytes of a run
@@ -89,12 +91,19 @@ state_and_stream state (spec.Numbered number) = codes " or the state `" ++ state
 state_and_stream state (spec.FromFile name) =
     codes ", the state `" ++ state ++ codes "` or the stream `" ++ name ++ codes "`"
 
+-- the store file and the record that are read back
+abbrev pub old_and_record : (old record_name : List ℕ) → List ℕ
+old_and_record old record_name =
+    codes ", the store file `" ++ old ++ codes "` or the record `" ++ record_name ++ codes "`"
+
 -- the files that are read
 abbrev pub read_of : Option spec.Asked → List ℕ
 read_of (Some (spec.Run bundle record_name steps randomness)) = sources_named bundle randomness
 read_of (Some (spec.Stats bundle steps randomness)) = sources_named bundle randomness
 read_of (Some (spec.View bundle record_name)) = files_named bundle record_name
 read_of (Some (spec.Solo domain bundle record_name)) = files_named bundle record_name
+read_of (Some (spec.SoloOver domain bundle record_name old)) =
+    bundle_and_secret bundle old.secret_name ++ old_and_record old.old_name record_name
 read_of (Some (spec.Upgrade old_name new_name)) = bundle_named old_name
 read_of (Some (spec.Store names counter steps randomness)) = store_sources_named names randomness
 read_of (Some (spec.Freeze names steps randomness)) =
@@ -138,18 +147,21 @@ written_of None = codes "a file or the output"
 -- what is wrong with the words
 abbrev pub usage_of : UsageFault → List ℕ
 usage_of usage.NoCommand =
-    codes "there is no command: it is one of run, view, solo, gen, demo, stats, upgrade, store, freeze and thaw"
+    codes "there is no command: the commands are run, view, solo, gen, demo, stats, upgrade, store, freeze and thaw"
 usage_of usage.UnknownCommand =
-    codes "the first word is no command: it is one of run, view, solo, gen, demo, stats, upgrade, store, "
+    codes "the first word is not a command: the commands are run, view, solo, gen, demo, stats, upgrade, store, "
     ++ codes "freeze and thaw"
 usage_of usage.WrongWords = codes "these are not the words that the command takes"
 usage_of usage.NoRandomness = codes "a run takes its random bytes from exactly one of --number and --stream"
 usage_of usage.WrongNumber = codes "a number is not written in decimal digits, or is out of its range"
 usage_of usage.SameName = codes "two of the files that are written have one name"
+usage_of usage.SameSource = codes "--stream names the file of --secret or --ivs, and keys in it would be shown as vectors"
 
 abbrev pub words_fault_of : Option spec.Asked → List ℕ
 words_fault_of (Some (spec.Faulty fault)) = usage_of fault
 words_fault_of (Some (spec.Solo domain bundle record_name)) =
+    codes "program " ++ decimal domain ++ codes " is not in the bundle `" ++ bundle ++ codes "`"
+words_fault_of (Some (spec.SoloOver domain bundle record_name old)) =
     codes "program " ++ decimal domain ++ codes " is not in the bundle `" ++ bundle ++ codes "`"
 words_fault_of (Some (spec.Thaw names steps randomness)) =
     codes "with the steps before the state `" ++ names.state_name
@@ -158,8 +170,8 @@ words_fault_of _ = codes "the words are faulty"
 
 -- what is wrong with the bundle, which `upgrade` also refuses if it would be too large in version 2
 abbrev pub fault_of_bundle : Option spec.Asked → List ℕ
-fault_of_bundle (Some (spec.Upgrade old_name new_name)) = codes " is no guest image, or is too large in version 2"
-fault_of_bundle _ = codes " is no guest image"
+fault_of_bundle (Some (spec.Upgrade old_name new_name)) = codes " is not a guest image, or is too large in version 2"
+fault_of_bundle _ = codes " is not a guest image"
 
 -- why a run does not go on over cloaked files
 abbrev pub store_and_secret : (old secret : List ℕ) → List ℕ
@@ -172,7 +184,15 @@ and_counter counter = codes " and the counter " ++ decimal counter ++ codes ", a
 abbrev pub store_of : Option spec.Asked → List ℕ
 store_of (Some (spec.Store names counter steps randomness)) =
     store_and_secret names.old_name names.secret_name ++ and_counter counter
+store_of (Some (spec.SoloOver domain bundle record_name old)) =
+    store_and_secret old.old_name old.secret_name ++ and_counter old.counter
 store_of _ = codes "the run cannot go on over the store file"
+
+-- what a record may be that is none of a run without the cloaked files of an earlier one
+abbrev pub files_hint : Option spec.Asked → List ℕ
+files_hint (Some (spec.Solo domain bundle record_name)) =
+    codes ", or of a run over cloaked files, which --files, --secret and --counter name"
+files_hint _ = []
 
 -- that a run was frozen
 abbrev pub frozen_of : Option spec.Asked → List ℕ
@@ -190,7 +210,7 @@ state_of _ = codes "no run goes on from the state"
 abbrev pub cause_of : Option spec.Asked → Status → List ℕ
 cause_of asked status.Done = []
 cause_of asked status.Violation =
-    codes "the kernel broke a rule of cloaking: a program ended by that, or a resuming was refused"
+    codes "the kernel broke a rule of cloaking: a program was ended, or a resume was refused"
 cause_of asked status.Usage = words_fault_of asked
 cause_of asked status.BadBundle = bundle_of asked ++ fault_of_bundle asked
     ++ codes ", and the line `bundle` says why (a file that is not there is read as an empty one)"
@@ -198,8 +218,8 @@ cause_of asked status.ReadFault = read_of asked ++ codes " cannot be read"
 cause_of asked status.WriteFault = written_of asked ++ codes " cannot be written, and what was written before stands"
 cause_of asked status.NoMemory = codes "there is not enough memory"
 cause_of asked status.NoRandom = stream_of asked ++ too_few asked
-cause_of asked status.BadRecord = record_of asked ++ codes " is damaged, or is none of "
-    ++ bundle_of asked ++ codes ", and the line `record` says where"
+cause_of asked status.BadRecord = record_of asked ++ codes " is damaged, or is not of "
+    ++ bundle_of asked ++ files_hint asked ++ codes ", and the line `record` says where"
     ++ codes " (one without magic may be the rest of a frozen run, to be put after its first part)"
 cause_of asked status.BadStore = store_of asked
 cause_of asked status.Frozen = frozen_of asked

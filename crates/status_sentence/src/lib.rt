@@ -12,7 +12,7 @@ ghost use Rattle.status_sentence.specs.Sentence as spec;
 ghost use Rattle.status_sentence.specs.Showing.{sentence_text};
 
 use command_parts::Status;
-use command_words::{FreezeFiles, Randomness, Request, StoreFiles, UsageFault};
+use command_words::{FreezeFiles, OldFiles, Randomness, Request, StoreFiles, UsageFault};
 use std::fmt;
 
 /// Why a status came.
@@ -48,7 +48,7 @@ fn write_cause<W: fmt::Write>(
     match status {
         Status::Done => Ok(()),
         Status::Violation => f.write_str(
-            "the kernel broke a rule of cloaking: a program ended by that, or a resuming was refused",
+            "the kernel broke a rule of cloaking: a program was ended, or a resume was refused",
         ),
         Status::Usage => write_words_fault(request, f),
         Status::BadBundle => {
@@ -73,8 +73,9 @@ fn write_cause<W: fmt::Write>(
         }
         Status::BadRecord => {
             write_record(request, f)?;
-            f.write_str(" is damaged, or is none of ")?;
+            f.write_str(" is damaged, or is not of ")?;
             write_bundle(request, f)?;
+            write_files_hint(request, f)?;
             f.write_str(", and the line `record` says where")?;
             f.write_str(
                 " (one without magic may be the rest of a frozen run, to be put after its first part)",
@@ -98,6 +99,7 @@ fn write_bundle<W: fmt::Write>(
         Some(Request::Run(run)) => write!(f, "the bundle `{}`", run.bundle),
         Some(Request::View(files)) => write!(f, "the bundle `{}`", files.bundle),
         Some(Request::Solo(solo)) => write!(f, "the bundle `{}`", solo.files.bundle),
+        Some(Request::SoloOver(over)) => write!(f, "the bundle `{}`", over.solo.files.bundle),
         Some(Request::Stats(stats)) => write!(f, "the bundle `{}`", stats.bundle),
         Some(Request::Upgrade(upgrade)) => write!(f, "the bundle `{}`", upgrade.old_name),
         Some(Request::Store(store)) => write!(f, "the bundle `{}`", store.files.bundle),
@@ -117,9 +119,9 @@ fn write_bundle_fault<W: fmt::Write>(
 {
     match request {
         Some(Request::Upgrade(_)) => {
-            f.write_str(" is no guest image, or is too large in version 2")
+            f.write_str(" is not a guest image, or is too large in version 2")
         }
-        _ => f.write_str(" is no guest image"),
+        _ => f.write_str(" is not a guest image"),
     }
 }
 
@@ -134,8 +136,45 @@ fn write_record<W: fmt::Write>(
     match request {
         Some(Request::View(files)) => write!(f, "the record `{}`", files.record_name),
         Some(Request::Solo(solo)) => write!(f, "the record `{}`", solo.files.record_name),
+        Some(Request::SoloOver(over)) => write!(f, "the record `{}`", over.solo.files.record_name),
         _ => f.write_str("the record"),
     }
+}
+
+/// Writes what a record may be that is none of a run without the cloaked files of an earlier one.
+fn write_files_hint<W: fmt::Write>(
+    request: &Option<Request<'_>>,
+    f: &mut fmt::Formatter<W>,
+) -> fmt::Result
+    ensures { DisplaysOnOk W.write_str_gives f.old result
+        (Some (spec.files_hint (option_map asked_of request.now))) f.new }
+{
+    match request {
+        Some(Request::Solo(_)) => f.write_str(
+            ", or of a run over cloaked files, which --files, --secret and --counter name",
+        ),
+        _ => f.write_str(""),
+    }
+}
+
+/// Writes the names of a store file and its secret, and the counter.
+fn write_store_named<W: fmt::Write>(
+    old_name: &str,
+    secret_name: &str,
+    counter: u64,
+    f: &mut fmt::Formatter<W>,
+) -> fmt::Result
+    ensures { DisplaysOnOk W.write_str_gives f.old result
+        (Some (spec.store_and_secret old_name.now secret_name.now ++ spec.and_counter counter)) f.new }
+{
+    write!(
+        f,
+        "the run cannot go on over the store file `{old_name}` with the secret `{secret_name}`"
+    )?;
+    write!(
+        f,
+        " and the counter {counter}, and the line before says why"
+    )
 }
 
 /// Writes why a run does not go on over cloaked files.
@@ -147,18 +186,18 @@ fn write_store<W: fmt::Write>(
         (Some (spec.store_of (option_map asked_of request.now))) f.new }
 {
     match request {
-        Some(Request::Store(store)) => {
-            write!(
-                f,
-                "the run cannot go on over the store file `{}` with the secret `{}`",
-                store.files.old_name, store.files.secret_name
-            )?;
-            write!(
-                f,
-                " and the counter {}, and the line before says why",
-                store.counter
-            )
-        }
+        Some(Request::Store(store)) => write_store_named(
+            store.files.old_name,
+            store.files.secret_name,
+            store.counter,
+            f,
+        ),
+        Some(Request::SoloOver(over)) => write_store_named(
+            over.old.old_name,
+            over.old.secret_name,
+            over.old.counter,
+            f,
+        ),
         _ => f.write_str("the run cannot go on over the store file"),
     }
 }
@@ -268,6 +307,14 @@ fn write_read<W: fmt::Write>(
         Some(Request::View(files)) => write_files(files.bundle, files.record_name, f),
         Some(Request::Solo(solo)) => write_files(solo.files.bundle, solo.files.record_name, f),
         Some(Request::Stats(stats)) => write_sources(stats.bundle, &stats.randomness, f),
+        Some(Request::SoloOver(over)) => {
+            write_back_sources(
+                over.solo.files.bundle,
+                over.solo.files.record_name,
+                &over.old,
+                f,
+            )
+        }
         Some(Request::Upgrade(upgrade)) => write!(f, "the bundle `{}`", upgrade.old_name),
         Some(Request::Store(store)) => write_store_sources(&store.files, &store.randomness, f),
         Some(Request::Freeze(freeze)) => {
@@ -306,7 +353,7 @@ fn write_store_sources<W: fmt::Write>(
     ensures { DisplaysOnOk W.write_str_gives f.old result
         (Some (spec.store_sources_named (names_of files.now) (randomness_of randomness.now))) f.new }
 {
-    write_bundle_and_secret(files, f)?;
+    write_bundle_and_secret(files.bundle, files.secret_name, f)?;
     match *randomness {
         Randomness::FromFile(name) => write_last_sources(files.old_name, name, f),
         Randomness::Numbered(_) => write!(f, " or the store file `{}`", files.old_name),
@@ -369,16 +416,43 @@ fn write_state_with<W: fmt::Write>(
 
 /// Writes the names of bundle and secret.
 fn write_bundle_and_secret<W: fmt::Write>(
-    files: &StoreFiles<'_>,
+    bundle: &str,
+    secret_name: &str,
     f: &mut fmt::Formatter<W>,
 ) -> fmt::Result
     ensures { DisplaysOnOk W.write_str_gives f.old result
-        (Some (spec.bundle_and_secret files.now.bundle.now files.now.secret_name.now)) f.new }
+        (Some (spec.bundle_and_secret bundle.now secret_name.now)) f.new }
+{
+    write!(f, "the bundle `{bundle}`, the secret `{secret_name}`")
+}
+
+/// Writes the names of the files that are read of a run over cloaked files whose record is read back.
+fn write_back_sources<W: fmt::Write>(
+    bundle: &str,
+    record_name: &str,
+    old: &OldFiles<'_>,
+    f: &mut fmt::Formatter<W>,
+) -> fmt::Result
+    ensures { DisplaysOnOk W.write_str_gives f.old result
+        (Some (spec.bundle_and_secret bundle.now old.now.secret_name.now
+        ++ spec.old_and_record old.now.old_name.now record_name.now)) f.new }
+{
+    write_bundle_and_secret(bundle, old.secret_name, f)?;
+    write_old_and_record(old.old_name, record_name, f)
+}
+
+/// Writes the names of store file and record.
+fn write_old_and_record<W: fmt::Write>(
+    old_name: &str,
+    record_name: &str,
+    f: &mut fmt::Formatter<W>,
+) -> fmt::Result
+    ensures { DisplaysOnOk W.write_str_gives f.old result
+        (Some (spec.old_and_record old_name.now record_name.now)) f.new }
 {
     write!(
         f,
-        "the bundle `{}`, the secret `{}`",
-        files.bundle, files.secret_name
+        ", the store file `{old_name}` or the record `{record_name}`"
     )
 }
 
@@ -472,6 +546,10 @@ fn write_words_fault<W: fmt::Write>(
             let (bundle, domain) = (solo.files.bundle, solo.domain);
             write!(f, "program {domain} is not in the bundle `{bundle}`")
         }
+        Some(Request::SoloOver(over)) => {
+            let (bundle, domain) = (over.solo.files.bundle, over.solo.domain);
+            write!(f, "program {domain} is not in the bundle `{bundle}`")
+        }
         Some(Request::Thaw(thaw)) => write!(
             f,
             "with the steps before the state `{}` the run would have more than 1000000000 steps",
@@ -486,9 +564,9 @@ fn write_usage<W: fmt::Write>(fault: UsageFault, f: &mut fmt::Formatter<W>) -> f
 {
     f.write_str(match fault {
         UsageFault::NoCommand =>
-            "there is no command: it is one of run, view, solo, gen, demo, stats, upgrade, store, freeze and thaw",
+            "there is no command: the commands are run, view, solo, gen, demo, stats, upgrade, store, freeze and thaw",
         UsageFault::UnknownCommand => {
-            "the first word is no command: it is one of run, view, solo, gen, demo, stats, upgrade, \
+            "the first word is not a command: the commands are run, view, solo, gen, demo, stats, upgrade, \
              store, freeze and thaw"
         }
         UsageFault::WrongWords => "these are not the words that the command takes",
@@ -498,5 +576,7 @@ fn write_usage<W: fmt::Write>(fault: UsageFault, f: &mut fmt::Formatter<W>) -> f
         UsageFault::WrongNumber =>
             "a number is not written in decimal digits, or is out of its range",
         UsageFault::SameName => "two of the files that are written have one name",
+        UsageFault::SameSource =>
+            "--stream names the file of --secret or --ivs, and keys in it would be shown as vectors",
     })
 }

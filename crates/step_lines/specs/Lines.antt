@@ -1,6 +1,6 @@
 -- A line of the trace.
 use Rattle.std.specs.Prelude.{ℕ, List, ◌++◌, codes, Option, Some}
-use Rattle.cloak_model.specs.declared.item.Item.{Item}
+use Rattle.cloak_model.specs.Items.{Item}
 use Rattle.cloak_model.specs.declared.outcome.Kernel.{Kernel}
 use Rattle.cloak_model.specs.Report.{hexadecimal}
 use Rattle.record_text.specs.Items.{item_text}

@@ -1,4 +1,5 @@
 //! The lines of a trace.
+ghost use Rattle.cloak_model.specs.Items.{item_of};
 ghost use Rattle.std.specs.Prelude.{◌≡◌, ◌≤◌, ◌++◌, length, codes, Some};
 ghost use Rattle.kernel_report.specs.Putting.{PutsMore, putting};
 ghost use Rattle.step_lines.specs.Lines as spec;
@@ -41,10 +42,10 @@ pub fn put_item_line<O: Sink>(
     so_far: SoFar,
     step: u32,
     hart: Option<usize>,
-    item: &Item,
+    item: &Item<'_>,
 ) -> SoFar
     ensures { PutsMore (putting O.Sink out.old so_far) (putting O.Sink out.new result)
-        (spec.item_line step hart item.now) }
+        (spec.item_line step hart (item_of item.now)) }
 {
     let so_far = put_front(out, so_far, step, hart);
     let so_far = put_item(out, so_far, item);

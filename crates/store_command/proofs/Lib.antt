@@ -1,6 +1,7 @@
 pub mod AnswerFacts
 pub mod Lengths
-pub mod OldFacts
 pub mod Refused
 pub mod RunFacts
 pub mod StoredFacts
+pub mod TwoRuns
+pub mod NextRun

@@ -20,8 +20,9 @@ use Rattle.command_parts.specs.Bundles.{IsInFileAs}
 use Rattle.command_parts.specs.Streams.{IsStream}
 use Rattle.command_parts.proofs.Refused.{is_some_bundle, no_file, no_memory}
 use Rattle.run_command.proofs.PrepareFacts.{stream_before}
-use Rattle.store_command.specs.declared.secret.Secret.{Secret}
-use Rattle.store_command.specs.Preparing.{ReadsOld, ReadsSecret, refused_by}
+use Rattle.old_files.specs.declared.secret.Secret.{Secret}
+use Rattle.old_files.specs.Reading.{ReadsOld, ReadsSecret}
+use Rattle.store_command.specs.Preparing.{refused_by}
 use Rattle.std.specs.Prelude.{length, Some}
 
 -- the secret was not read

@@ -5,7 +5,7 @@ use Rattle.std.specs.Result.{result_map_both}
 use Rattle.cloak_base.specs.declared.causes.Stop.{Stop}
 use Rattle.cloak_base.specs.declared.causes.Stop.TheVariants as stop
 use Rattle.cloak_model.specs.declared.image.Bundle.{Bundle}
-use Rattle.cloak_model.specs.declared.item.Item.TheVariants as item
+use Rattle.cloak_model.specs.Items as item
 use Rattle.chain_law.proofs.Chains.{chains_give_latest}
 use Rattle.cloak_model.specs.Beginning.{AreContents, Beginning, IsBeginning, Stored, opening_from}
 use Rattle.cloak_model.specs.Exchange.{Piece, recorded, record_magic, item_pieces, Emits}
@@ -30,6 +30,7 @@ use Rattle.store_command.specs.declared.prepare.PreparedStore.{PreparedStore}
 use Rattle.store_command.specs.Leaving.{first_due}
 use Rattle.store_command.specs.Preparing.{OpensRun, IsPrepared}
 use Rattle.store_command.specs.Recording.{RunsOver, run_over}
+use Rattle.vector_law.proofs.StoreFiles.{stores_tell_no_key}
 use Rattle.cloak_machine.proofs.Keys.{closing_keys}
 use Rattle.store_command.specs.Writing.{EndsAs, EndsUnless, Finishes, WritesFirst}
 use Rattle.record_law.specs.Steps.{moment_after}
@@ -155,6 +156,7 @@ runs_over {names} {counter} {randomness} {held} {prepared} p steps Leaves few ea
           few runs;
       over_chain = λ last earlier goes_on chain. chains_give_latest (run_over s steps files r) (last ∷ earlier)
           (record { in_grammar = p.asks.bundle.is.in_grammar; beginning = contents; runs = runs }, (goes_on, chain));
+      no_key = stores_tell_no_key s.bundle from steps r runs;
       left = each from over.opened (record {
         opens = over.opens;
         placings = p.placings;

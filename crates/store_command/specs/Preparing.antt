@@ -6,8 +6,7 @@ use Rattle.cloak_model.specs.Beginning.{Beginning, opening_from}
 use Rattle.cloak_model.specs.Bundle.{segment_bytes}
 use Rattle.cloak_model.specs.Opening.{RunEdge}
 use Rattle.cloak_model.specs.Run.{first_moment}
-use Rattle.cloak_model.specs.StoredFiles.{StoredFile}
-use Rattle.cloak_model.specs.StoreFault.{largest_store, store_fault}
+use Rattle.cloak_model.specs.StoreFault.{largest_store}
 use Rattle.cloak_machine.specs.Standing.{OpensStored, StandsForMoment, placings_of}
 use Rattle.cloak_machine.specs.declared.machine.Machine.{Machine}
 use Rattle.command_words.specs.Command as spec
@@ -17,33 +16,11 @@ use Rattle.joint_machine.specs.declared.opened.StoredFault.TheVariants as fault
 use Rattle.joint_machine.specs.Placings.{placing}
 use Rattle.command_parts.specs.declared.refusal.Refusal.{Refusal}
 use Rattle.command_parts.specs.declared.refusal.Refusal.TheVariants as refusal
-use Rattle.command_parts.specs.Files.{ReadsFile}
 use Rattle.command_parts.specs.NoRun.{NoRun}
 use Rattle.command_parts.specs.Outside.{FilesOutside, OnlyRead}
-use Rattle.command_parts.specs.Storing as given
-use Rattle.command_parts.specs.Storing.{AsksStored, IsOld, IsSecret, StoreSources, secret_length}
+use Rattle.command_parts.specs.Storing.{AsksStored, StoreSources}
 use Rattle.store_command.specs.declared.prepare.ForStoring.{ForStoring}
 use Rattle.store_command.specs.declared.prepare.PreparedStore.{PreparedStore}
-use Rattle.store_command.specs.declared.secret.Secret.{Secret}
-
--- Reading.
-
-abbrev pub keys_of : Secret → given.Secret
-keys_of secret = record { mac = secret.mac; keys = secret.keys }
-
--- the secret that a file has, or why it was not read
-abbrev pub ReadsSecret : Option (List ℕ) → ℕ → ℕ → Result Secret Refusal → Type 0
-ReadsSecret told before now (Ok secret) = (now ≡ before) × IsSecret told (keys_of secret)
-ReadsSecret told before now (Err refusal.ShortSecret) =
-    (now ≡ before) × IfSome told (λ bytes. length bytes < secret_length)
-ReadsSecret told before now (Err other) = ReadsFile {A = Secret} before now (Err other)
-
--- the table of what an earlier run left, or why it was not read
-abbrev pub ReadsOld : Option (List ℕ) → List ℕ → ℕ → ℕ → ℕ → List StoredFile → Result Unit Refusal → Type 0
-ReadsOld told mac counter before now table (Ok done) = (now ≡ before) × IsOld told mac counter table
-ReadsOld told mac counter before now table (Err (refusal.BadStore fault)) =
-    (now ≡ before) × ((counter ≢ 0) × IfSome told (λ bytes. store_fault mac counter bytes ≡ Some fault))
-ReadsOld told mac counter before now table (Err other) = ReadsFile {A = Unit} before now (Err other)
 
 -- The machine.
 

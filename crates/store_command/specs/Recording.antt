@@ -3,7 +3,8 @@ use Rattle.std.specs.Prelude.{ℕ, ◌≡◌, ◌⊎◌, List, ◌∷◌, Ok}
 use Rattle.chain_law.specs.Chain.{GivesLatestOver, GoesOnFrom, IsChain, MadeRun}
 use Rattle.cloak_model.specs.Beginning.{Stored}
 use Rattle.cloak_model.specs.Run.{Run, run_from}
-use Rattle.cloak_model.specs.StoredFiles.{FileContents}
+use Rattle.cloak_model.specs.StoredFiles.{FileContents, table_of}
+use Rattle.cloak_model.specs.StoredRun.{contents_of}
 use Rattle.command_words.specs.Command as spec
 use Rattle.command_parts.specs.declared.status.Status.{Status}
 use Rattle.command_parts.specs.declared.status.Status.TheVariants as status
@@ -16,6 +17,7 @@ use Rattle.cloak_model.specs.Run.{NoClash}
 use Rattle.store_command.specs.declared.prepare.PreparedStore.{PreparedStore}
 use Rattle.store_command.specs.Leaving.{BeginsNoRecord, BreaksOff, LeavesAll, OtherThanStored}
 use Rattle.store_command.specs.Preparing.{PreparesStored}
+use Rattle.vector_law.specs.Vectors.{TellsNoKey}
 
 -- a run over files of these contents, with what it came from
 abbrev pub run_over : StoreSources → ℕ → List FileContents → Run → MadeRun
@@ -23,13 +25,15 @@ run_over s steps files r =
     record { bundle = s.bundle; from = Stored s.secret.keys s.stream files; budget = steps; run = r }
 
 -- The run over files of these contents: it is lawful; if it goes on over the files of a chain of runs, it gives what
--- was stored last in all of them; and if no pages clashed in it, this became of what is due from it.
+-- was stored last in all of them; what it leaves of its files tells no vector that is a key by its place; and if no pages
+-- clashed in it, this became of what is due from it.
 pub record RunsOver (s : StoreSources) (steps : ℕ) (Leaves : Run → Type 0) (files : List FileContents) : Type 0 where
   pub made : Run
   pub runs : run_from s.bundle (Stored s.secret.keys s.stream files) steps ≡ Ok made
   pub lawful : IsLawful s.bundle (Stored s.secret.keys s.stream files) made
   pub over_chain : (last : MadeRun) (earlier : List MadeRun) → GoesOnFrom (run_over s steps files made) last →
       IsChain last earlier → GivesLatestOver (run_over s steps files made) (last ∷ earlier)
+  pub no_key : TellsNoKey s.bundle.programs (Stored s.secret.keys s.stream files) (table_of (contents_of made.closed.joint))
   pub left : NoClash made → Leaves made
 
 -- No call failed. For all contents that the table of the store file stands for, all that is due of the run over them was

@@ -1,22 +1,20 @@
 //! A run over cloaked files that can begin, from the files that the words name.
-ghost use Rattle.std.specs.Prelude.{◌≡◌, ◌≢◌, ◌<◌, ◌-◌, ◌^◌, [], IfErr, IfOk};
-ghost use Rattle.io_traits.specs.Told.{SameFiles};
+ghost use Rattle.std.specs.Prelude.{◌≡◌, ◌<◌, ◌-◌, ◌^◌, IfOk};
 ghost use Rattle.cloak_machine.specs.Standing.{steps_made};
 ghost use Rattle.command_words.specs.Request.{names_of, randomness_of};
-ghost use Rattle.command_parts.specs.Files.{TellsUnread};
 ghost use Rattle.command_parts.specs.Outside.{files};
-ghost use Rattle.store_command.specs.Preparing.{CanEnd, PreparesStored, ReadsOld, ReadsSecret, refused_by};
+ghost use Rattle.store_command.specs.Preparing.{CanEnd, PreparesStored, refused_by};
 
 use crate::place::disk_place;
-use crate::secret::{SECRET_LENGTH, Secret};
 use cloak_machine::{Machine, StoredFault};
 use cloak_model::Bundle;
-use command_parts::{Refusal, read_bundle_with_bytes, read_front};
+use command_parts::{Refusal, read_bundle_with_bytes};
 use command_words::StoreRequest;
 use io_traits::Shelf;
+use old_files::{read_old, read_secret};
 use protect_meta::FileTable;
 use run_command::{image_is_of_bytes, open_stream};
-use sealed_store::{LONGEST_STORE, read_store};
+use sealed_store::LONGEST_STORE;
 use std::alloc::Global;
 
 /// A machine before its first step, with all memory that the command needs until its end.
@@ -40,58 +38,6 @@ pub(crate) struct ForStoring {
     /// Where the disk begins there, and where it ends.
     pub disk_from: usize,
     pub disk_end: usize,
-}
-
-/// The secret that a file has.
-fn read_secret<S: Shelf>(alloc: Global, shelf: &mut S, name: &str) -> Result<Secret, Refusal>
-    requires { S.is_settled shelf.old }
-    ensures secret { ReadsSecret (S.held shelf.old name.now)
-        (S.reading_faults shelf.old) (S.reading_faults shelf.new) result }
-    ensures unread { IfErr result (TellsUnread (S.unread shelf.new) name.now) }
-    ensures files { SameFiles (S.held shelf.old) (S.held shelf.new) }
-    ensures writing { S.writing_faults shelf.new ≡ S.writing_faults shelf.old }
-    ensures settled { S.is_settled shelf.new }
-{
-    let bytes = match read_front(alloc, shelf, name, SECRET_LENGTH as u64) {
-        Ok(bytes) => bytes,
-        Err(refusal) => return Err(refusal),
-    };
-    if bytes.len() < SECRET_LENGTH {
-        return Err(Refusal::ShortSecret);
-    }
-    Ok(Secret::of(bytes.as_slice()))
-}
-
-/// Reads what an earlier run left into an empty table. With counter 0 there is nothing, and the file is not asked for.
-fn read_old<S: Shelf>(
-    alloc: Global,
-    shelf: &mut S,
-    name: &str,
-    mac: &[u8; 16],
-    counter: u64,
-    table: &mut FileTable,
-) -> Result<(), Refusal>
-    requires settled { S.is_settled shelf.old }
-    requires empty { table.old ≡ [] }
-    ensures old { ReadsOld (S.held shelf.old name.now) mac.now counter
-        (S.reading_faults shelf.old) (S.reading_faults shelf.new) table.new result }
-    ensures not_first { IfErr result (λ _. counter ≢ 0) }
-    ensures unread { IfErr result (TellsUnread (S.unread shelf.new) name.now) }
-    ensures files { SameFiles (S.held shelf.old) (S.held shelf.new) }
-    ensures writing { S.writing_faults shelf.new ≡ S.writing_faults shelf.old }
-    ensures settled { S.is_settled shelf.new }
-{
-    if counter == 0 {
-        return Ok(());
-    }
-    let bytes = match read_front(alloc, shelf, name, LONGEST_STORE as u64 + 1) {
-        Ok(bytes) => bytes,
-        Err(refusal) => return Err(refusal),
-    };
-    match read_store(bytes.as_slice(), mac, counter, table) {
-        Ok(()) => Ok(()),
-        Err(fault) => Err(Refusal::BadStore(fault)),
-    }
 }
 
 /// Why a run over cloaked files does not open.

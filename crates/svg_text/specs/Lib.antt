@@ -1,3 +1,4 @@
+pub mod Labels
 pub mod Characters
 pub mod Tree
 pub mod Writing

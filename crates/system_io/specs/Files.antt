@@ -1,5 +1,5 @@
 -- What the shelf over a disk, and the sink over an output, stand for.
-use Rattle.std.specs.Prelude.{◌≡◌, ◌≤◌, ◌+◌, ℕ, Bool, cond, List, [], ◌++◌, length, take, drop, Option, IfSome, IsSome}
+use Rattle.std.specs.Prelude.{◌≡◌, ◌≤◌, ◌+◌, ℕ, Bool, cond, List, [], ◌++◌, length, take, drop, Option, None, IfSome, IsSome, false}
 use Rattle.std.specs.Prelude.{IsNone, IsTrue}
 use Rattle.std.specs.Str.{bytes_eq}
 use Rattle.std.specs.Io.KnownBytes.{append_known}
@@ -9,6 +9,10 @@ pub record OutputState : Type 0 where
   pub faults : ℕ
   pub taken : Option (List ℕ)
   pub gathered : List ℕ
+
+-- the sink over an output to which nothing was put yet
+abbrev pub fresh_sink : Option (List ℕ) → OutputState
+fresh_sink shown = record { faults = 0; taken = shown; gathered = [] }
 
 -- a file that is read ahead: the open file and its name, where the next read of it begins, and the bytes that were read
 -- ahead, which stand in the file from a place on
@@ -48,6 +52,19 @@ pub record ShelfState (D : Type 0) : Type 0 where
   pub name : List ℕ
   pub gathered : List ℕ
   pub is_reading : Bool
+
+-- the shelf over a disk on which nothing was done yet
+abbrev pub fresh_shelf : {D : Type 0} → D → ShelfState D
+fresh_shelf {D} disk = record {
+  reading = 0;
+  unread = None;
+  writing = 0;
+  disk = disk;
+  is_open = false;
+  name = [];
+  gathered = [];
+  is_reading = false;
+}
 
 -- The open file is the one of its name. Something is gathered only if a file is being written and none is read.
 pub record IsSound {F : Type 0} (told : List ℕ → Option (List ℕ)) (is_of : F → List ℕ → Type 0) (is_at : F → ℕ → Type 0)

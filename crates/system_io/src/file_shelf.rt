@@ -1,8 +1,8 @@
-ghost use Rattle.std.specs.Prelude.{◌≡◌, ◌≤◌, ◌⊎◌, ◌↔◌, ℕ, [], None, Some, length, take, IfOk, IsErr, IsTrue, false};
+ghost use Rattle.std.specs.Prelude.{◌≡◌, ◌≤◌, ◌⊎◌, ◌↔◌, ℕ, [], None, Some, length, take, IfOk, IfErr, IsErr, IsNone, IsTrue, false};
 ghost use Rattle.std.specs.Io.KnownBytes.{append_known};
 ghost use Rattle.io_traits.specs.Told.{Counts, NamesFault, SameFiles, Tells, OtherFiles};
 ghost use Rattle.system_io.specs.Disks.{Extends};
-ghost use Rattle.system_io.specs.Files.{IsOpen, SameCounts, SameFile, held_in};
+ghost use Rattle.system_io.specs.Files.{IsOpen, SameCounts, SameFile, fresh_shelf, held_in};
 
 use crate::file_system::{FileSystem, write_front};
 use crate::gathered::Gathered;
@@ -13,6 +13,36 @@ use cloak_base::{Failed, NoMemory};
 use io_traits::Shelf;
 use std::alloc::Global;
 use std::marker::Model;
+
+/// All memory of a shelf.
+#[derive(Drop)]
+struct Rooms<F: Drop> {
+    writing: NamedFile<F>,
+    gathered: Gathered,
+    reader: FileReader<F>,
+    unread: Unread,
+}
+
+impl<F: Drop> Rooms<F> {
+    fn take(alloc: Global) -> Result<Rooms<F>, NoMemory>
+        ensures file { IfOk result (λ rooms. IsNone rooms.writing.file) }
+        ensures name { IfOk result (λ rooms. rooms.writing.name ≡ []) }
+        ensures gathered { IfOk result (λ rooms. rooms.gathered ≡ []) }
+        ensures reader { IfOk result (λ rooms. IsNone rooms.reader.source) }
+        ensures unread { IfOk result (λ rooms. rooms.unread ≡ None) }
+    {
+        let writing = NamedFile::none(alloc)?;
+        let gathered = Gathered::open(alloc)?;
+        let reader = FileReader::none(alloc)?;
+        let unread = Unread::none(alloc)?;
+        Ok(Rooms {
+            writing,
+            gathered,
+            reader,
+            unread,
+        })
+    }
+}
 
 /// The files of a disk, whose names are paths of at most 4095 bytes. All memory is taken at `open`.
 ///
@@ -34,10 +64,12 @@ pub struct FileShelf<D: FileSystem + Drop> {
     reading_faults: u64,
     unread: Unread,
     writing_faults: u64,
+    /// A file that is left, or flushed, is waited for until it is on its medium.
+    is_lasting: bool,
 }
 
 impl<D: FileSystem + Drop> Model for FileShelf<D> {
-    ghost use Rattle.std.specs.Prelude.{is_some, string_bytes};
+    ghost use Rattle.std.specs.Prelude.{is_some};
     ghost use Rattle.system_io.specs.Files.{ShelfState, IsSound};
 
     ghost Value = { ShelfState D };
@@ -48,28 +80,37 @@ impl<D: FileSystem + Drop> Model for FileShelf<D> {
       writing = s.writing_faults;
       disk = s.disk;
       is_open = is_some s.writing.file;
-      name = string_bytes s.writing.name;
+      name = s.writing.name;
       gathered = s.gathered;
       is_reading = is_some s.reader.source;
     } };
 
-    ghost invariant = { λ s. IsSound (D.told s.disk) D.is_of D.is_at s.writing.file (string_bytes s.writing.name)
+    ghost invariant = { λ s. IsSound (D.told s.disk) D.is_of D.is_at s.writing.file (s.writing.name)
         s.gathered s.reader };
 }
 
 impl<D: FileSystem + Drop> FileShelf<D> {
     /// A shelf with no fault yet.
     pub fn open(alloc: Global, disk: D) -> Result<FileShelf<D>, NoMemory>
-        ensures reading { IfOk result (λ shelf. shelf.reading ≡ 0) }
-        ensures unread { IfOk result (λ shelf. shelf.unread ≡ None) }
-        ensures writing { IfOk result (λ shelf. shelf.writing ≡ 0) }
-        ensures gathered { IfOk result (λ shelf. shelf.gathered ≡ []) }
-        ensures disk { IfOk result (λ shelf. shelf.disk ≡ disk) }
+        ensures { IfOk result (λ shelf. shelf ≡ fresh_shelf disk) }
     {
-        let writing = NamedFile::none(alloc)?;
-        let gathered = Gathered::open(alloc)?;
-        let reader = FileReader::none(alloc)?;
-        let unread = Unread::none(alloc)?;
+        FileShelf::open_or_return(alloc, disk).map_err(|_| NoMemory)
+    }
+
+    /// The same. If there is no memory, the disk comes back.
+    pub fn open_or_return(alloc: Global, disk: D) -> Result<FileShelf<D>, D>
+        ensures ok { IfOk result (λ shelf. shelf ≡ fresh_shelf disk) }
+        ensures err { IfErr result (λ back. back ≡ disk) }
+    {
+        let Ok(rooms) = Rooms::take(alloc) else {
+            return Err(disk);
+        };
+        let Rooms {
+            writing,
+            gathered,
+            reader,
+            unread,
+        } = rooms;
         Ok(FileShelf {
             disk,
             writing,
@@ -78,7 +119,31 @@ impl<D: FileSystem + Drop> FileShelf<D> {
             reading_faults: 0,
             unread,
             writing_faults: 0,
+            is_lasting: false,
         })
+    }
+
+    /// From now on a file is left, and `flush` ends, only once what was written is on its medium.
+    pub fn wait_for_medium(&mut self)
+        ensures { self.new ≡ self.old }
+    {
+        self.is_lasting = true;
+    }
+
+    /// Gives the disk back. What is still gathered is lost.
+    pub fn close(self) -> D
+        ensures { result ≡ self.disk }
+    {
+        let FileShelf { disk, .. } = self;
+        disk
+    }
+
+    /// Says whether the file that is being written is on its medium, if that is asked for.
+    fn is_kept(&self) -> bool {
+        match &self.writing.file {
+            Some(file) if self.is_lasting => self.disk.sync(file, self.writing.name()).is_ok(),
+            _ => true,
+        }
     }
 
     /// Says whether all that is gathered was written out.
@@ -97,8 +162,19 @@ impl<D: FileSystem + Drop> FileShelf<D> {
         self.gathered.is_empty()
     }
 
-    /// Writes out what is gathered for another file than that of this name, and says whether that was done.
-    fn write_out_other(&mut self, name: &str) -> bool
+    /// Writes out what is gathered, and says whether all was, and is on its medium, if that is asked for.
+    fn finish(&mut self) -> bool
+        ensures all { IsTrue result → self.new.gathered ≡ [] }
+        ensures files { SameFiles (held_in D.told self.old) (held_in D.told self.new) }
+        ensures file { SameFile self.old self.new }
+        ensures reading { self.new.is_reading ≡ self.old.is_reading }
+        ensures counts { SameCounts self.old self.new }
+    {
+        self.write_out() && self.is_kept()
+    }
+
+    /// Finishes another file than that of this name, and says whether that was done.
+    fn finish_other(&mut self, name: &str) -> bool
         ensures other { IsTrue result → self.new.name ≡ name.now ⊎ (self.new.gathered ≡ []) }
         ensures files { SameFiles (held_in D.told self.old) (held_in D.told self.new) }
         ensures reading { self.new.is_reading ≡ self.old.is_reading }
@@ -107,7 +183,7 @@ impl<D: FileSystem + Drop> FileShelf<D> {
         if self.writing.is_open(name) {
             return true;
         }
-        self.write_out()
+        self.finish()
     }
 
     /// Takes a piece for the file that is being written, and says whether it was taken whole.
@@ -178,7 +254,7 @@ impl<D: FileSystem + Drop> FileShelf<D> {
         ensures reading { self.new.is_reading ≡ self.old.is_reading }
         ensures counts { SameCounts self.old self.new }
     {
-        if !self.write_out() {
+        if !self.finish() {
             return false;
         }
         match self.disk.open_end(name) {
@@ -276,7 +352,7 @@ impl<D: FileSystem + Drop> Shelf for FileShelf<D> {
     fn begin(&mut self, name: &str) -> Result<(), Failed> {
         self.stop_reading();
         // If the same file is emptied, what is gathered for it is not written any more.
-        if !self.write_out_other(name) {
+        if !self.finish_other(name) {
             return self.fail_writing();
         }
         if self.start(name) {
@@ -308,7 +384,7 @@ impl<D: FileSystem + Drop> Shelf for FileShelf<D> {
     }
 
     fn flush(&mut self) -> Result<(), Failed> {
-        if self.write_out() {
+        if self.finish() {
             Ok(())
         } else {
             self.fail_writing()

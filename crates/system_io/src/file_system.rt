@@ -69,6 +69,10 @@ pub trait FileSystem {
         ensures ok { IfOk result (λ n. (name : List ℕ) → is_of file.old name →
             Extends (told self.old) (told self.new) name (take n piece.now)) }
         ensures err { OnErr result (SameFiles (told self.old) (told self.new)) };
+
+    /// Waits until what was written to an open file, and the file of this name itself, is on its medium. What has no
+    /// medium, as a pipe, needs no waiting.
+    fn sync(&self, file: &Self::File, name: &str) -> Result<(), Failed>;
 }
 
 /// Writes until the whole piece stands at the end of an open file, a write fails, or one takes no bytes. Returns how

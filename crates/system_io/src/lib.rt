@@ -8,6 +8,7 @@
 mod file_shelf;
 mod file_system;
 mod gathered;
+mod kept_name;
 mod named_file;
 mod output;
 mod reader;
@@ -17,6 +18,6 @@ mod unread;
 
 pub use file_shelf::FileShelf;
 pub use file_system::FileSystem;
-pub use output::{Output, SystemConsole};
+pub use output::{Output, SystemConsole, write_front};
 pub use std_sink::StdSink;
 pub use system_files::SystemFiles;

@@ -31,14 +31,14 @@ pub struct FileReader<F: Drop> {
 }
 
 impl<F: Drop> Model for FileReader<F> {
-    ghost use Rattle.std.specs.Prelude.{◌≤◌, ◌≡◌, take, vec_len, string_bytes};
+    ghost use Rattle.std.specs.Prelude.{◌≤◌, ◌≡◌, take, vec_len};
     ghost use Rattle.system_io.specs.Files.{ReaderState};
 
     ghost Value = { ReaderState F };
 
     ghost view = { λ s. record {
       source = s.source.file;
-      name = string_bytes s.source.name;
+      name = s.source.name;
       position = s.position;
       window = take s.filled s.window.items;
       start = s.start;
@@ -75,6 +75,7 @@ impl<F: Drop> FileReader<F> {
         ensures file { IsTrue result → self.new.source ≡ Some file }
         ensures name { IsTrue result → self.new.name ≡ name.now }
         ensures no_room { result ≡ false → IsNone self.new.source }
+        ensures room { length name.now ≤ 4096 → IsTrue result }
         ensures fresh { (self.new.position ≡ 0) × (self.new.window ≡ []) }
     {
         self.position = 0;

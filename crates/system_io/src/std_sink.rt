@@ -1,6 +1,7 @@
-ghost use Rattle.std.specs.Prelude.{◌≡◌, ◌≤◌, [], length, take, IfOk, IsErr, IsTrue};
+ghost use Rattle.std.specs.Prelude.{◌≡◌, ◌≤◌, [], length, take, IfOk, IfErr, IsErr, IsTrue};
 ghost use Rattle.std.specs.Io.KnownBytes.{append_known};
 ghost use Rattle.io_traits.specs.Told.{Counts};
+ghost use Rattle.system_io.specs.Files.{fresh_sink};
 
 use crate::gathered::Gathered;
 use crate::output::{Output, write_front};
@@ -38,15 +39,33 @@ impl<O: Output + Drop> Model for StdSink<O> {
 impl<O: Output + Drop> StdSink<O> {
     /// A sink with no fault yet. All memory that it needs is taken here.
     pub fn open(alloc: Global, out: O) -> Result<StdSink<O>, NoMemory>
-        ensures { IfOk result (λ sink. sink ≡ record { faults = 0; taken = O.shown out; gathered = [] }) }
+        ensures { IfOk result (λ sink. sink ≡ fresh_sink (O.shown out)) }
     {
-        let gathered = Gathered::open(alloc)?;
-        Ok(StdSink {
-            out,
-            gathered,
-            is_fault_owed: false,
-            faults: 0,
-        })
+        StdSink::open_or_return(alloc, out).map_err(|_| NoMemory)
+    }
+
+    /// The same. If there is no memory, the output comes back.
+    pub fn open_or_return(alloc: Global, out: O) -> Result<StdSink<O>, O>
+        ensures ok { IfOk result (λ sink. sink ≡ fresh_sink (O.shown out)) }
+        ensures err { IfErr result (λ back. back ≡ out) }
+    {
+        match Gathered::open(alloc) {
+            Ok(gathered) => Ok(StdSink {
+                out,
+                gathered,
+                is_fault_owed: false,
+                faults: 0,
+            }),
+            Err(_) => Err(out),
+        }
+    }
+
+    /// Gives the output back. What is still gathered is lost.
+    pub fn close(self) -> O
+        ensures { self.taken ≡ append_known (O.shown result) self.gathered }
+    {
+        let StdSink { out, .. } = self;
+        out
     }
 
     /// Says whether all that is gathered was written out.

@@ -1,10 +1,10 @@
 //! The files of the system.
-ghost use Rattle.std.specs.Prelude.{None};
+ghost use Rattle.std.specs.Prelude.{◌≤◌, ◌^◌, ◌↔◌, IsTrue, None};
 
 use crate::file_system::FileSystem;
 use cloak_base::Failed;
 use std::fs;
-use std::fs::{File, OpenOptions};
+use std::fs::{File, OpenFile, OpenOptions};
 use std::io::{ErrorKind, Read, Seek, SeekFrom, Write};
 use std::rt::Files;
 
@@ -40,7 +40,9 @@ impl<R: Files + Drop> FileSystem for SystemFiles<R> {
         }
     }
 
-    fn is_past_all(&self, at: u64) -> bool {
+    fn is_past_all(&self, at: u64) -> bool
+        ensures exactly { IsTrue result ↔ (2 ^ 63 ≤ at) }
+    {
         at > i64::MAX as u64
     }
 
@@ -75,5 +77,36 @@ impl<R: Files + Drop> FileSystem for SystemFiles<R> {
 
     fn write(&mut self, file: &mut R::File, piece: &[u8]) -> Result<usize, Failed> {
         file.write(piece).map_err(|_| Failed)
+    }
+
+    /// The folder is asked too, since a file that is new is on its medium only if its name is. A folder that may not be
+    /// read cannot be asked.
+    fn sync(&self, file: &R::File, name: &str) -> Result<(), Failed> {
+        wait_for_medium(file)?;
+        match File::open(&self.files, folder_of(name)) {
+            Ok(folder) => wait_for_medium(&folder),
+            Err(_) => Ok(()),
+        }
+    }
+}
+
+/// The folder in which a file of this name is.
+fn folder_of(name: &str) -> &str {
+    match name.rsplit_once('/') {
+        Some(("", _)) => "/",
+        Some((folder, _)) => folder,
+        None => ".",
+    }
+}
+
+/// Waits until what was written to a file is on its medium. The system has kinds of files that it does not ask for that:
+/// a pipe, and what has no medium at all.
+fn wait_for_medium<F: OpenFile>(file: &F) -> Result<(), Failed> {
+    match file.sync_all() {
+        Ok(()) => Ok(()),
+        Err(error) => match error.kind() {
+            ErrorKind::InvalidInput | ErrorKind::Unsupported => Ok(()),
+            _ => Err(Failed),
+        },
     }
 }

@@ -2,28 +2,24 @@
 ghost use Rattle.std.specs.Prelude.{◌≡◌, ◌≤◌, None, Some, IfOk, length};
 ghost use Rattle.io_traits.specs.Told.{Tells};
 
+use crate::kept_name::KeptName;
 use cloak_base::NoMemory;
 use std::alloc::Global;
 use std::marker::Model;
-
-/// How long a name may be that is kept, in bytes. The system opens none that is longer.
-const NAME_CAPACITY: usize = 4096;
 
 /// The name of the file of which reading failed last, if reading failed and its name was not too long to be kept.
 #[derive(Drop)]
 pub struct Unread {
     is_kept: bool,
-    name: String,
+    name: KeptName,
 }
 
 impl Model for Unread {
-    ghost use Rattle.std.specs.Prelude.{List, ℕ, Option, Some, None, ◌≤◌, cond, string_bytes, string_capacity};
+    ghost use Rattle.std.specs.Prelude.{List, ℕ, Option, Some, None, cond};
 
     ghost Value = { Option (List ℕ) };
 
-    ghost view = { λ s. cond s.is_kept (Some (string_bytes s.name)) None };
-
-    ghost invariant = { λ s. 4096 ≤ string_capacity s.name };
+    ghost view = { λ s. cond s.is_kept (Some s.name) None };
 }
 
 impl Unread {
@@ -31,7 +27,7 @@ impl Unread {
     pub fn none(alloc: Global) -> Result<Unread, NoMemory>
         ensures { IfOk result (λ unread. unread ≡ None) }
     {
-        let name = String::with_capacity(alloc, NAME_CAPACITY)?;
+        let name = KeptName::none(alloc)?;
         Ok(Unread {
             is_kept: false,
             name,
@@ -44,11 +40,6 @@ impl Unread {
         ensures tells { Tells self.new name.now }
         ensures kept { length name.now ≤ 4096 → self.new ≡ Some name.now }
     {
-        self.name.clear();
-        self.is_kept = false;
-        if name.len() > NAME_CAPACITY {
-            return;
-        }
-        self.is_kept = self.name.push_str(name).is_ok();
+        self.is_kept = self.name.keep(name);
     }
 }

@@ -9,7 +9,7 @@ use Rattle.tool_words.specs.declared.request.ToolWords.{ToolWords}
 use Rattle.tool_words.specs.declared.request.ToolWords.TheVariants.{Asks, Help, Faulty}
 use Rattle.run_trace.specs.declared.choice.TraceChoice.{TraceChoice}
 use Rattle.tool_commands.specs.declared.choosing.WordsMeant.{WordsMeant}
-use Rattle.tool_commands.specs.ToolAnswering.{DisasmMeans, DrawFrom, ReadAnswers, ShowAnswers, ShowsSelection, ShowsTrace, WordsAnswers}
+use Rattle.tool_commands.specs.ToolAnswering.{DisasmMeans, DrawFrom, OldAsked, ReadAnswers, ShowAnswers, ShowsSelection, TraceFrom, WordsAnswers}
 
 pub shows_meant : {S O : Type 0} (json : Bool) (meant same : Option Selection) (record_name : List ℕ)
     (before after : Outside S O) (answer : Status) → meant ≡ same →
@@ -30,12 +30,13 @@ pub disasm_meant : {S O : Type 0} (meant same : WordsMeant) (words_name : List �
 disasm_meant meant same words_name before after answer is answers =
     subst (λ (words : WordsMeant). DisasmMeans words words_name before after answer) is answers
 
-pub traces_meant : {S O : Type 0} (bundle_name record_name : List ℕ) (program : Option ℕ) (meant same : TraceChoice)
-    (before after : Outside S O) (answer : Status) → meant ≡ same →
-    ShowsTrace bundle_name record_name program meant before after answer →
-    ShowsTrace bundle_name record_name program same before after answer
-traces_meant bundle_name record_name program meant same before after answer is traces =
-    subst (λ (choice : TraceChoice). ShowsTrace bundle_name record_name program choice before after answer) is traces
+pub traces_meant : {S O : Type 0} (bundle_name record_name : List ℕ) (program : Option ℕ) (old was : OldAsked)
+    (meant same : TraceChoice) (before after : Outside S O) (answer : Status) → old ≡ was → meant ≡ same →
+    TraceFrom old bundle_name record_name program meant before after answer →
+    TraceFrom was bundle_name record_name program same before after answer
+traces_meant bundle_name record_name program old was meant same before after answer is_old is traces =
+    subst (λ (asked : OldAsked). TraceFrom asked bundle_name record_name program same before after answer) is_old
+    (subst (λ (choice : TraceChoice). TraceFrom old bundle_name record_name program choice before after answer) is traces)
 
 pub draw_meant : {S O : Type 0} (meant same : Bool) (bundle_name record_name out_name : List ℕ) (before after : Outside S O)
     (answer : Status) → meant ≡ same → DrawFrom meant bundle_name record_name out_name before after answer →

@@ -5,7 +5,7 @@ use Rattle.io_traits.specs.Told.{SameFiles}
 use Rattle.clap.specs.Walk.{Text}
 use Rattle.asm_text.specs.Commanded.{AsmAnswers}
 use Rattle.manifest.specs.Packing.{PackAnswers}
-use Rattle.cloak_model.specs.declared.item.Item.{Item}
+use Rattle.cloak_model.specs.Items.{Item}
 use Rattle.record_json.specs.JsonText.{json_text}
 use Rattle.record_text.specs.Reading.{record_text}
 use Rattle.record_text.specs.declared.selection.Selection.{Selection}
@@ -19,7 +19,9 @@ use Rattle.disassembly.specs.ImageParts.{DisasmsPart}
 use Rattle.disassembly.specs.declared.part.ImagePart.{ImagePart}
 use Rattle.disassembly.specs.declared.part.ImagePart.TheVariants as part
 use Rattle.std.specs.Option.{option_map_or}
+use Rattle.command_words.specs.Command.{OldFiles}
 use Rattle.run_trace.specs.Answering.{TraceAnswers}
+use Rattle.run_trace.specs.AnsweringOver.{TraceOverAnswers}
 use Rattle.run_trace.specs.declared.choice.TraceChoice.{TraceChoice}
 use Rattle.command_parts.specs.Outside.{Outside}
 use Rattle.command_parts.specs.declared.status.Status.{Status}
@@ -36,7 +38,7 @@ use Rattle.command_parts.specs.Refusing.{LacksMemory}
 
 -- a name is that of no kind
 abbrev pub kinds_line : List ℕ
-kinds_line = codes "error: --only has a name that is of no kind\n"
+kinds_line = codes "error: --only has an unknown kind\n"
 
 -- as objects of JSON, or in lines
 abbrev pub shown_text : (json : Bool) → Selection → List Item → Option Ending → List ℕ
@@ -62,7 +64,7 @@ base_asked (Some text) = magnitude text
 
 -- the text is no address
 abbrev pub base_line : List ℕ
-base_line = codes "error: --base is no address\n"
+base_line = codes "error: --base is not an address\n"
 
 -- more than one is asked for of an address, a segment and a program
 abbrev pub several_line : List ℕ
@@ -92,6 +94,41 @@ pub record ShowsTrace {S O : Type 0} (bundle_name record_name : List ℕ) (progr
   pub answers : TraceAnswers bundle_name record_name program choice before after answer
   pub kept : SameFiles before.files.held after.files.held
   pub writing : after.files.writing ≡ before.files.writing
+
+-- the cloaked files that a run went on from: all three are named, or none
+abbrev pub OldAsked : Type 0
+OldAsked = Option (Option OldFiles)
+
+unfoldable pub old_asked : (old secret : Option (List ℕ)) → (counter : Option ℕ) → OldAsked
+old_asked None None None = Some None
+old_asked None None (Some counter) = None
+old_asked None (Some secret) counter = None
+old_asked (Some old) None counter = None
+old_asked (Some old) (Some secret) None = None
+old_asked (Some old) (Some secret) (Some counter) =
+    Some (Some (record { old_name = old; secret_name = secret; counter = counter }))
+
+abbrev pub old_line : List ℕ
+old_line = codes "error: --files, --secret and --counter are given together, and with --program\n"
+
+-- the side of a program that began with files
+pub record ShowsOver {S O : Type 0} (bundle_name record_name : List ℕ) (number : ℕ) (old : OldFiles) (choice : TraceChoice)
+    (before after : Outside S O) (answer : Status) : Type 0 where
+  pub answers : TraceOverAnswers bundle_name record_name number old choice before after answer
+  pub kept : SameFiles before.files.held after.files.held
+  pub writing : after.files.writing ≡ before.files.writing
+
+-- the side of a program without files, or of the kernel; or of a program that began with files
+abbrev pub TraceFrom : {S O : Type 0} → OldAsked → (bundle_name record_name : List ℕ) → (program : Option ℕ) → TraceChoice →
+    Outside S O → Outside S O → Status → Type 0
+TraceFrom None bundle_name record_name program choice before after answer =
+    Says old_line status.Usage before after answer
+TraceFrom (Some None) bundle_name record_name program choice before after answer =
+    ShowsTrace bundle_name record_name program choice before after answer
+TraceFrom (Some (Some old)) bundle_name record_name None choice before after answer =
+    Says old_line status.Usage before after answer
+TraceFrom (Some (Some old)) bundle_name record_name (Some number) choice before after answer =
+    ShowsOver bundle_name record_name number old choice before after answer
 
 abbrev pub choice_asked : (from to : ℕ) → (hart : Option ℕ) → TraceChoice
 choice_asked from to hart = record { from = from; to = to; hart = hart }
@@ -123,8 +160,9 @@ ToolAnswers (Disasm words_name base segment program) before after answer =
 ToolAnswers (Pack manifest bundle_name) before after answer = PackAnswers manifest bundle_name before after answer
 ToolAnswers (Show record_name from to only counts json) before after answer =
     ShowAnswers json (selection_asked from to only counts) record_name before after answer
-ToolAnswers (Trace bundle_name record_name program from to hart) before after answer =
-    ShowsTrace bundle_name record_name program (choice_asked from to hart) before after answer
+ToolAnswers (Trace bundle_name record_name program from to hart named) before after answer =
+    TraceFrom (old_asked named.old named.secret named.counter) bundle_name record_name program (choice_asked from to hart)
+    before after answer
 ToolAnswers (Draw bundle_name record_name out_name) before after answer =
     DrawFrom (is_taken out_name bundle_name record_name) bundle_name record_name out_name before after answer
 ToolAnswers (Explain bundle_name record_name) before after answer = ExplainsRun bundle_name record_name before after answer

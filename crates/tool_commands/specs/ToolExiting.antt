@@ -10,7 +10,7 @@ use Rattle.tool_commands.specs.declared.line.CommandLine.TheVariants.{Taken, Not
 use Rattle.command_parts.specs.Refusing.{LacksMemory}
 
 abbrev pub not_text_line : List ℕ
-not_text_line = codes "error: a word is no text\n"
+not_text_line = codes "error: a word is not valid text\n"
 
 -- what is answered to a command line
 abbrev pub LineAnswers : {S O : Type 0} → CommandLine → Outside S O → Outside S O → Status → Type 0

@@ -1,14 +1,17 @@
 //! What is done by the words.
-ghost use Rattle.std.specs.Prelude.{◌≡◌, map, string_bytes};
-ghost use Rattle.command_parts.specs.Outside.{outside};
+ghost use Rattle.std.specs.Prelude.{◌≡◌, Some, map, option_map, string_bytes};
+ghost use Rattle.command_parts.specs.Outside.{outside, output};
+ghost use Rattle.command_words.specs.Request.{old_of};
+ghost use Rattle.disassembly.specs.Disassembling.{ShowsText};
 ghost use Rattle.tool_words.specs.ToolRequest.{asked_of_disasm, asked_of_show, asked_of_trace, tool_asked_of};
-ghost use Rattle.tool_commands.specs.ToolAnswering.{DrawFrom, ReadAnswers, ShowsSelection, ToolAnswers, WordsAnswers};
+ghost use Rattle.tool_commands.specs.ToolAnswering.{DrawFrom, ReadAnswers, ShowsSelection, ToolAnswers, TraceFrom, WordsAnswers};
 ghost use Rattle.tool_commands.specs.ToolAnswering as answers;
 
-use crate::choosing::{WordsMeant, choice_asked, selection_asked, words_asked};
+use crate::choosing::{WordsMeant, choice_asked, old_asked, selection_asked, words_asked};
 use crate::saying::say;
 use asm_text::asm_command;
 use command_parts::{Refusal, Status, refuse};
+use command_words::OldFiles;
 use disassembly::{disasm_command, disasm_part_command};
 use draw_command::draw_command;
 use io_traits::{Shelf, Sink};
@@ -16,7 +19,7 @@ use manifest::pack_command;
 use record_json::show_json_command;
 use record_text::{Selection, show_command};
 use run_story::explain_command;
-use run_trace::trace_command;
+use run_trace::{TraceChoice, trace_command, trace_over_command};
 use std::alloc::Global;
 use tool_words::{
     DisasmRequest, ShowRequest, ToolRequest, ToolWords, TraceRequest, read_tool_words,
@@ -49,11 +52,7 @@ fn show<S: Shelf, O: Sink>(show: &ShowRequest<'_>, shelf: &mut S, out: &mut O) -
 {
     match selection_asked(show) {
         Some(selection) => show_as(show.json, show.record_name, &selection, shelf, out),
-        None => say(
-            out,
-            b"error: --only has a name that is of no kind\n",
-            Status::Usage,
-        ),
+        None => say(out, b"error: --only has an unknown kind\n", Status::Usage),
     }
 }
 
@@ -71,12 +70,83 @@ fn disasm<S: Shelf, O: Sink>(
     match words_asked(request) {
         WordsMeant::FileFrom(base) => disasm_command(alloc, base, request.words, shelf, out),
         WordsMeant::PartOf(part) => disasm_part_command(alloc, part, request.words, shelf, out),
-        WordsMeant::NoAddress => say(out, b"error: --base is no address\n", Status::Usage),
+        WordsMeant::NoAddress => say(out, b"error: --base is not an address\n", Status::Usage),
         WordsMeant::Several => say(
             out,
             b"error: of --base, --segment and --program only one may be given\n",
             Status::Usage,
         ),
+    }
+}
+
+/// Says that what is named of cloaked files does not go together.
+fn say_apart<O: Sink>(out: &mut O) -> Status
+    ensures { ShowsText answers.old_line Status.Usage (output O.Sink out.old) (output O.Sink out.new) result }
+{
+    say(
+        out,
+        b"error: --files, --secret and --counter are given together, and with --program\n",
+        Status::Usage,
+    )
+}
+
+/// Shows the steps that are meant of a program of a run over cloaked files.
+fn trace_over<S: Shelf, O: Sink>(
+    alloc: Global,
+    request: &TraceRequest<'_>,
+    old: &OldFiles<'_>,
+    choice: &TraceChoice,
+    shelf: &mut S,
+    out: &mut O,
+) -> Status
+    requires { S.is_settled shelf.old }
+    ensures { TraceFrom (Some (Some (old_of old.now))) request.now.bundle.now request.now.record_name.now
+        request.now.program choice.now
+        (outside S.Shelf O.Sink shelf.old out.old) (outside S.Shelf O.Sink shelf.new out.new) result }
+{
+    match request.program {
+        None => say_apart(out),
+        Some(number) => trace_over_command(
+            alloc,
+            request.bundle,
+            request.record_name,
+            number,
+            old,
+            choice,
+            shelf,
+            out,
+        ),
+    }
+}
+
+/// Shows the steps of a run that are meant, which went on from these cloaked files or from none.
+fn trace_from<S: Shelf, O: Sink>(
+    alloc: Global,
+    request: &TraceRequest<'_>,
+    old: Option<Option<OldFiles<'_>>>,
+    choice: &TraceChoice,
+    shelf: &mut S,
+    out: &mut O,
+) -> Status
+    requires { S.is_settled shelf.old }
+    ensures { TraceFrom (option_map (λ given. option_map old_of given) old.entry) request.now.bundle.now
+        request.now.record_name.now request.now.program choice.now
+        (outside S.Shelf O.Sink shelf.old out.old) (outside S.Shelf O.Sink shelf.new out.new) result }
+{
+    match old {
+        None => say_apart(out),
+        Some(given) => match given {
+            None => trace_command(
+                alloc,
+                request.bundle,
+                request.record_name,
+                request.program,
+                choice,
+                shelf,
+                out,
+            ),
+            Some(old) => trace_over(alloc, request, &old, choice, shelf, out),
+        },
     }
 }
 
@@ -92,15 +162,7 @@ fn trace<S: Shelf, O: Sink>(
         (outside S.Shelf O.Sink shelf.old out.old) (outside S.Shelf O.Sink shelf.new out.new) result }
 {
     let choice = choice_asked(request);
-    trace_command(
-        alloc,
-        request.bundle,
-        request.record_name,
-        request.program,
-        &choice,
-        shelf,
-        out,
-    )
+    trace_from(alloc, request, old_asked(&request.old), &choice, shelf, out)
 }
 
 /// A picture would take the place of the image or of the record.

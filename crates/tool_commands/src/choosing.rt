@@ -1,14 +1,16 @@
 //! What is meant by words.
 ghost use Rattle.std.specs.Prelude.{◌≡◌, option_map, None};
+ghost use Rattle.command_words.specs.Request.{old_of};
 ghost use Rattle.tool_words.specs.ToolRequest.{names_of};
 ghost use Rattle.tool_commands.specs.KindNames as spec;
 ghost use Rattle.tool_commands.specs.ToolAnswering as answering;
 
 use crate::kinds::kinds_of_names;
+use command_words::OldFiles;
 use disassembly::{ImagePart, address_of};
 use record_text::Selection;
 use run_trace::TraceChoice;
-use tool_words::{DisasmRequest, ShowRequest, TraceRequest};
+use tool_words::{DisasmRequest, OldNamed, ShowRequest, TraceRequest};
 
 /// What of a record is meant, unless a name is that of no kind.
 pub fn selection_asked(show: &ShowRequest<'_>) -> Option<Selection>
@@ -82,6 +84,23 @@ pub fn words_asked(request: &DisasmRequest<'_>) -> WordsMeant
         (Some(number), None) => part_of(request.base, ImagePart::Segment(number)),
         (None, Some(number)) => part_of(request.base, ImagePart::Program(number)),
         (Some(_), Some(_)) => WordsMeant::Several,
+    }
+}
+
+/// The cloaked files that a run went on from, if what is named of them goes together.
+#[tactic(auto, unfolding(crate::specs::ToolAnswering::old_asked))]
+pub fn old_asked<'a>(named: &OldNamed<'a>) -> Option<Option<OldFiles<'a>>>
+    ensures { option_map (λ given. option_map old_of given) result ≡ answering.old_asked
+        (option_map (λ text. text.now) named.now.old) (option_map (λ text. text.now) named.now.secret) named.now.counter }
+{
+    match (named.old, named.secret, named.counter) {
+        (None, None, None) => Some(None),
+        (Some(old_name), Some(secret_name), Some(counter)) => Some(Some(OldFiles {
+            old_name,
+            secret_name,
+            counter: counter as u64,
+        })),
+        _ => None,
     }
 }
 

@@ -24,7 +24,7 @@ fn answer<S: Shelf, O: Sink>(
 {
     match line {
         CommandLine::Taken(words) => obey(alloc, words, shelf, out),
-        CommandLine::NotText => say(out, b"error: a word is no text\n", Status::Usage),
+        CommandLine::NotText => say(out, b"error: a word is not valid text\n", Status::Usage),
         CommandLine::NoMemory => refuse(out, &Refusal::NoMemory),
     }
 }

@@ -12,6 +12,12 @@ use Rattle.clap.specs.declared.error.kind.ErrorKind.TheVariants.{DisplayHelp, Di
 use Rattle.command_words.specs.Command.{is, needed_text}
 use Rattle.tool_words.specs.ToolForms.{tools_form}
 
+-- what options name of the cloaked files that a run went on from: the store file, its secret and its counter
+pub record OldNamed : Type 0 where
+  pub old : Option (List ℕ)
+  pub secret : Option (List ℕ)
+  pub counter : Option ℕ
+
 pub data ToolAsked : Type 0 where
   -- the words of an assembler text, written to a file
   Asm : (text_name words_name : List ℕ) → ToolAsked
@@ -24,7 +30,7 @@ pub data ToolAsked : Type 0 where
   -- the same as objects of JSON
   Show : (record_name : List ℕ) → (from to : ℕ) → (only : Option (List (List ℕ))) → (counts json : Bool) → ToolAsked
   -- the steps of the run of a bundle that wrote a record, of the kernel's side or of that of a program, of one hart or all
-  Trace : (bundle record_name : List ℕ) → (program : Option ℕ) → (from to : ℕ) → (hart : Option ℕ) → ToolAsked
+  Trace : (bundle record_name : List ℕ) → (program : Option ℕ) → (from to : ℕ) → (hart : Option ℕ) → OldNamed → ToolAsked
   -- the run of a bundle that wrote a record as a picture, written to a file
   Draw : (bundle record_name out_name : List ℕ) → ToolAsked
   -- the violations of the run of a bundle that wrote a record
@@ -80,10 +86,18 @@ disasm_asked rows =
     Disasm (needed_text (codes "FILE") rows) (first_of (codes "base") rows) (number_named (codes "segment") rows)
     (number_named (codes "program") rows)
 
+abbrev pub old_named : List Row → OldNamed
+old_named rows = record {
+  old = first_of (codes "files") rows;
+  secret = first_of (codes "secret") rows;
+  counter = number_named (codes "counter") rows;
+}
+
 abbrev pub trace_asked : List Row → ToolAsked
 trace_asked rows =
     Trace (needed_text (codes "BUNDLE") rows) (needed_text (codes "RECORD") rows) (number_named (codes "program") rows)
     (step_named (codes "from") 0 rows) (step_named (codes "to") last_step rows) (number_named (codes "hart") rows)
+    (old_named rows)
 
 -- What a command asks with the texts that it found. There are no more than these seven.
 unfoldable pub tool_asked_with : Text → List Row → ToolAsked

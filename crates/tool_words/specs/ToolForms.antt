@@ -45,7 +45,8 @@ show_form = command_with (codes "show")
 abbrev pub trace_form : App
 trace_form = command_with (codes "trace")
     (position (codes "BUNDLE") ∷ position (codes "RECORD") ∷ program_option (codes "program") ∷ number_option (codes "from")
-    ∷ number_option (codes "to") ∷ number_option (codes "hart") ∷ [])
+    ∷ number_option (codes "to") ∷ number_option (codes "hart")
+    ∷ named_option (codes "files") ∷ named_option (codes "secret") ∷ number_option (codes "counter") ∷ [])
 
 abbrev pub draw_form : App
 draw_form = command_with (codes "draw")

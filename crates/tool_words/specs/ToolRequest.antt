@@ -8,6 +8,7 @@ use Rattle.clap.specs.declared.error.kind.ErrorKind.TheVariants.{OutOfMemory}
 use Rattle.tool_words.specs.ToolCommand as spec
 use Rattle.tool_words.specs.declared.request.DisasmRequest.{DisasmRequest}
 use Rattle.tool_words.specs.declared.request.ShowRequest.{ShowRequest}
+use Rattle.tool_words.specs.declared.request.OldNamed.{OldNamed}
 use Rattle.tool_words.specs.declared.request.TraceRequest.{TraceRequest}
 use Rattle.tool_words.specs.declared.request.ToolRequest.{ToolRequest}
 use Rattle.tool_words.specs.declared.request.ToolRequest.TheVariants.{Asm, Disasm, Pack, Show, Trace, Draw, Explain}
@@ -25,9 +26,16 @@ abbrev pub asked_of_disasm : DisasmRequest → spec.ToolAsked
 asked_of_disasm disasm =
     spec.Disasm disasm.words.now (option_map (λ text. text.now) disasm.base) disasm.segment disasm.program
 
+abbrev pub old_named_of : OldNamed → spec.OldNamed
+old_named_of named = record {
+  old = option_map (λ text. text.now) named.old;
+  secret = option_map (λ text. text.now) named.secret;
+  counter = named.counter;
+}
+
 abbrev pub asked_of_trace : TraceRequest → spec.ToolAsked
 asked_of_trace trace =
-    spec.Trace trace.bundle.now trace.record_name.now trace.program trace.from trace.to trace.hart
+    spec.Trace trace.bundle.now trace.record_name.now trace.program trace.from trace.to trace.hart (old_named_of trace.old)
 
 abbrev pub tool_asked_of : ToolRequest → spec.ToolAsked
 tool_asked_of (Asm text words) = spec.Asm text.now words.now

@@ -175,6 +175,14 @@ fn trace_form<'a>(alloc: Global) -> Result<Command<'a>, NoMemory>
         "The side of this program, 0 to 3, instead of the kernel's",
     );
     let hart = number_option(alloc, "hart", "H", "Only the steps of this hart");
+    let files = named_option(
+        alloc,
+        "files",
+        "OLD",
+        "The store file that the run read; with --program, --secret and --counter",
+    );
+    let secret = named_option(alloc, "secret", "FILE", "The secret of the store file");
+    let counter = number_option(alloc, "counter", "N", "The counter of the store file");
     let trace = Command::new(alloc, "trace")
         .about("Show a run as text, a line for each step of the kernel's side, or of a program's")
         .arg(bundle)?
@@ -182,7 +190,10 @@ fn trace_form<'a>(alloc: Global) -> Result<Command<'a>, NoMemory>
         .arg(program)?
         .arg(from)?
         .arg(to)?
-        .arg(hart)?;
+        .arg(hart)?
+        .arg(files)?
+        .arg(secret)?
+        .arg(counter)?;
     Ok(trace)
 }
 

@@ -11,4 +11,4 @@ mod reading;
 mod request;
 
 pub use reading::read_tool_words;
-pub use request::{DisasmRequest, ShowRequest, ToolRequest, ToolWords, TraceRequest};
+pub use request::{DisasmRequest, OldNamed, ShowRequest, ToolRequest, ToolWords, TraceRequest};

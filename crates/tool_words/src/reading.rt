@@ -2,11 +2,11 @@
 ghost use Rattle.std.specs.Prelude.{◌≡◌, IfOk, map, string_bytes};
 ghost use Rattle.clap.specs.Words.{found_of, kind_of, rows_of};
 ghost use Rattle.tool_words.specs.ToolCommand as spec;
-ghost use Rattle.tool_words.specs.ToolRequest.{ReadsTool, SaysFault, asked_of_disasm, asked_of_show, asked_of_trace, tool_asked_of};
+ghost use Rattle.tool_words.specs.ToolRequest.{ReadsTool, SaysFault, asked_of_disasm, asked_of_show, asked_of_trace, old_named_of, tool_asked_of};
 
 use crate::form::tools_form;
 use crate::found::{given_names, given_text, is_flagged, needed_text, number_named, step_named};
-use crate::request::{DisasmRequest, ShowRequest, ToolRequest, ToolWords, TraceRequest};
+use crate::request::{DisasmRequest, OldNamed, ShowRequest, ToolRequest, ToolWords, TraceRequest};
 use clap::error::ErrorKind;
 use clap::{ArgMatches, Error};
 use cloak_base::NoMemory;
@@ -39,6 +39,17 @@ fn disasm_request<'a>(matches: &ArgMatches<'a>) -> DisasmRequest<'a>
     }
 }
 
+/// What is named of cloaked files with the texts that were found.
+fn old_named<'a>(matches: &ArgMatches<'a>) -> OldNamed<'a>
+    ensures { old_named_of result ≡ spec.old_named (rows_of (found_of matches.now)) }
+{
+    OldNamed {
+        old: given_text(matches, "files"),
+        secret: given_text(matches, "secret"),
+        counter: number_named(matches, "counter"),
+    }
+}
+
 /// What is asked of a run with the texts that were found.
 fn trace_request<'a>(matches: &ArgMatches<'a>) -> TraceRequest<'a>
     ensures { asked_of_trace result ≡ spec.trace_asked (rows_of (found_of matches.now)) }
@@ -50,6 +61,7 @@ fn trace_request<'a>(matches: &ArgMatches<'a>) -> TraceRequest<'a>
         from: step_named(matches, "from", 0),
         to: step_named(matches, "to", u32::MAX),
         hart: number_named(matches, "hart"),
+        old: old_named(matches),
     }
 }
 

@@ -29,6 +29,15 @@ pub struct ShowRequest<'a> {
     pub json: bool,
 }
 
+/// What options name of the cloaked files that a run went on from.
+#[derive(Clone, Copy)]
+pub struct OldNamed<'a> {
+    /// The store file that the run read.
+    pub old: Option<&'a str>,
+    pub secret: Option<&'a str>,
+    pub counter: Option<u32>,
+}
+
 /// What must be shown of the steps of a run.
 #[derive(Clone, Copy)]
 pub struct TraceRequest<'a> {
@@ -42,6 +51,7 @@ pub struct TraceRequest<'a> {
     pub to: u32,
     /// The hart whose steps are shown; all, if none is named.
     pub hart: Option<u32>,
+    pub old: OldNamed<'a>,
 }
 
 /// What is asked for.

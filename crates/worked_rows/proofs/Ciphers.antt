@@ -17,7 +17,7 @@ use Rattle.std.specs.List.{flat_map, sum_by, list_all}
 use Rattle.std.proofs.lemmas.List.Sums.{AllPass-from_list_all}
 use Rattle.std.proofs.lemmas.Bool.{ltb-true, false_from_ne_true}
 use Rattle.std.proofs.lemmas.List.Concat.{length-flat_map}
-use Rattle.cloak_model.specs.declared.item.Item.{Item}
+use Rattle.cloak_model.specs.Items.{Item}
 use Rattle.cloak_model.specs.Exchange.{item_bytes, record_magic, record_of}
 use Rattle.cloak_model.specs.Chain.{cbc}
 use Rattle.range_law.proofs.Bounds.{by_place}

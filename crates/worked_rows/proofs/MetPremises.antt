@@ -12,7 +12,7 @@ use Rattle.cloak_base.specs.declared.causes.Stop.TheVariants as stop
 use Rattle.cloak_base.specs.declared.causes.Violation.{Violation}
 use Rattle.cloak_base.specs.declared.causes.Violation.TheVariants as violation
 use Rattle.cloak_model.specs.declared.image.Bundle.{Bundle}
-use Rattle.cloak_model.specs.declared.item.Item.TheVariants as item
+use Rattle.cloak_model.specs.Items as item
 use Rattle.cloak_model.specs.Beginning as begins
 use Rattle.cloak_model.specs.Beginning.{Fresh, AreContents, stored_keys}
 use Rattle.cloak_model.specs.Bits.{word}

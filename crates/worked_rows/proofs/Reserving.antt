@@ -5,7 +5,7 @@ use Rattle.cloak_base.specs.Pages.{zero_page, with_page}
 use Rattle.cloak_base.specs.declared.names.Kind.TheVariants.{Fetch, Store}
 use Rattle.cloak_model.specs.declared.answer.Answer.{Answer}
 use Rattle.cloak_model.specs.declared.answer.Answer.TheVariants as told
-use Rattle.cloak_model.specs.declared.item.Item.TheVariants as item
+use Rattle.cloak_model.specs.Items as item
 use Rattle.cloak_model.specs.Beginning.{Fresh}
 use Rattle.cloak_model.specs.Bundle.{IsInGrammar, bundle_bytes}
 use Rattle.cloak_model.specs.Cloaking.{CloakedMemory}
@@ -24,7 +24,7 @@ use Rattle.worked_rows.specs.Images.{boot, halt, page_with}
 use Rattle.worked_rows.specs.Runs.{running}
 use Rattle.worked_rows.specs.JointRuns.{counted}
 use Rattle.worked_rows.specs.JointRows.{program_with, started_context}
-use Rattle.worked_rows.specs.PremiseRows.{reserving_words, reserving_program, reserving_context, reserved_place, word_until, NoClash, ContextPremises}
+use Rattle.worked_rows.specs.PremiseRows.{reserving_words, reserving_program, reserving_context, reserved_place, context_at_step, told_in, word_until, NoClash, ContextPremises}
 use Rattle.worked_rows.proofs.Computing.{joint_steps, told_steps, joint_runs}
 use Rattle.worked_rows.proofs.JointRows.{behind_boot, behind_draw, opened, runs-opened}
 use Rattle.worked_rows.proofs.Meeting.{kernel_in, image_in, are_bytes, image_bytes}
@@ -145,6 +145,8 @@ record Left : Type 0 where
   no_clash : NoClash reserving_run
   reserved : (joint_until 9 reserving_run).domains ≡
       program_with (reserving_context 0x80008010 0 (Some reserved_place)) ((0x80008100, 0) ∷ []) ∷ []
+  program_step : context_at_step reserving_program reserving_run 9 ≡ Some 0
+  granted : told_in 9 reserving_run ≡ Some (item.Ok 0 ∷ item.Ok 0 ∷ [])
   conditional : (joint_until 10 reserving_run).domains ≡
       program_with (reserving_context 0x80008014 0 None) ((0x80008100, 0) ∷ []) ∷ []
   stored : word_until 10 reserving_run ≡ 9
@@ -157,6 +159,8 @@ unfolding joint_runs first_turns
 left = record {
   no_clash = refl;
   reserved = refl;
+  program_step = refl;
+  granted = refl;
   conditional = refl;
   stored = refl;
   combined = refl;
@@ -176,6 +180,8 @@ context_premises = record {
   };
   no_clash = left.no_clash;
   reserved = left.reserved;
+  program_step = left.program_step;
+  granted = left.granted;
   conditional = left.conditional;
   stored = left.stored;
   combined = left.combined;

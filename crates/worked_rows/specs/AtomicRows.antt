@@ -10,7 +10,7 @@ use Rattle.cloak_model.specs.declared.answer.Answer.TheVariants as told
 use Rattle.cloak_base.specs.declared.names.PageId.{PageId}
 use Rattle.cloak_model.specs.declared.context.PageWord.{PageWord}
 use Rattle.cloak_model.specs.declared.context.Phase.TheVariants as phase
-use Rattle.cloak_model.specs.declared.item.Item.TheVariants as item
+use Rattle.cloak_model.specs.Items as item
 use Rattle.cloak_model.specs.Chain.{cbc}
 use Rattle.cloak_model.specs.Memory.{value_at, value_in}
 use Rattle.cloak_model.specs.Hart.{Hart}

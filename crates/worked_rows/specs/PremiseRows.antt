@@ -1,5 +1,5 @@
 -- Rows of premises: what the laws on runs ask of a run, met at once by worked runs.
-use Rattle.std.specs.Prelude.{◌≡◌, ◌≤◌, ◌<◌, ◌%◌, ℕ, pos, Bool, true, false, List, [], ◌∷◌, ◌++◌, length, map, replicate, take, slice_get, slice_index, Option, Some, None, is_some, Ok}
+use Rattle.std.specs.Prelude.{◌≡◌, ◌≤◌, ◌<◌, ◌%◌, ℕ, pos, Bool, true, false, List, [], ◌∷◌, ◌++◌, length, map, replicate, take, slice_get, slice_index, Option, Some, None, is_some, option_map, Ok}
 use Rattle.rv_isa.specs.Table.{instruction}
 use Rattle.rv_isa.specs.declared.instr.Instr.TheVariants.{Auipc, Addi, Sw}
 use Rattle.cloak_base.specs.Random.{numbered}
@@ -9,7 +9,8 @@ use Rattle.cloak_base.specs.declared.causes.Violation.TheVariants as violation
 use Rattle.cloak_model.specs.declared.context.PageWord.{PageWord}
 use Rattle.cloak_model.specs.declared.fault.RecordFault.TheVariants.{Short}
 use Rattle.cloak_model.specs.declared.image.Bundle.{Bundle}
-use Rattle.cloak_model.specs.declared.item.Item.TheVariants as item
+use Rattle.cloak_model.specs.Items.{Item}
+use Rattle.cloak_model.specs.Items as item
 use Rattle.cloak_model.specs.Beginning.{Beginning, Fresh, Stored, IsBeginning}
 use Rattle.cloak_model.specs.Bundle.{IsInGrammar}
 use Rattle.cloak_model.specs.Chain.{cbc}
@@ -18,7 +19,7 @@ use Rattle.cloak_model.specs.Contexts.{Context}
 use Rattle.cloak_model.specs.DomainState.{Domain}
 use Rattle.cloak_model.specs.Exchange.{record_of}
 use Rattle.cloak_model.specs.Halves.{inward_half}
-use Rattle.cloak_model.specs.Joint.{joint_step, hart_in}
+use Rattle.cloak_model.specs.Joint.{Turn, joint_step, hart_in}
 use Rattle.cloak_model.specs.Memory.{value_at, value_in}
 use Rattle.cloak_model.specs.Record.{IsRecord}
 use Rattle.cloak_model.specs.RecordFault.{HasFault}
@@ -176,13 +177,20 @@ reserved_place = record { resource = 0; page = 0; at = 0x100 }
 abbrev pub word_until : ℕ → Run → ℕ
 word_until n r = value_in ((joint_until n r).memory.plain (page 0 0)) 0x100 4
 
--- Its LR is the ninth step, which completes a load; its SC is the tenth, and AMOADD the eleventh, which completes one.
+-- what program 0 was told in the step after n steps
+abbrev pub told_in : ℕ → Run → Option (List Item)
+told_in n r = option_map (λ (t : Turn). inward_half 0 t.items) (slice_get r.turns n)
+
+-- Its LR is the ninth step, which completes a load; its SC is the tenth, which its context makes and in which both
+-- questions are granted; and AMOADD the eleventh, which completes one.
 pub record ContextPremises : Type 0 where
   pub run : Run
   pub meets : MeetsPremises reserving_program (Fresh (counted 256)) 11 run
   pub no_clash : NoClash run
   pub reserved : (joint_until 9 run).domains ≡
       program_with (reserving_context 0x80008010 0 (Some reserved_place)) ((0x80008100, 0) ∷ []) ∷ []
+  pub program_step : context_at_step reserving_program run 9 ≡ Some 0
+  pub granted : told_in 9 run ≡ Some (item.Ok 0 ∷ item.Ok 0 ∷ [])
   pub conditional : (joint_until 10 run).domains ≡
       program_with (reserving_context 0x80008014 0 None) ((0x80008100, 0) ∷ []) ∷ []
   pub stored : word_until 10 run ≡ 9

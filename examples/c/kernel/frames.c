@@ -91,6 +91,7 @@ static void send_out(unsigned frame)
     *held_by[frame] = out_in(block);
     if (!write_block(block, frame_at(frame)))
         panic("a page could not be written");
+    watch_page(frame_at(frame), block);
     pages_out++;
 }
 
@@ -131,6 +132,7 @@ void bring_page(unsigned *entry)
             panic("a page could not be read");
         free_block(block_of(*entry));
         pages_in++;
+        attack_page(frame);
     }
     held_by[number_of(frame)] = entry;
     *entry = leaf_to(frame);

@@ -99,6 +99,15 @@ bool is_out(unsigned entry);
 unsigned out_in(unsigned block);
 unsigned block_of(unsigned entry);
 
+/* hostile.c: of an honest kernel nothing */
+#ifdef HOSTILE
+void watch_page(const void *frame, unsigned block);
+void attack_page(void *frame);
+#else
+#define watch_page(frame, block) ((void)0)
+#define attack_page(frame) ((void)0)
+#endif
+
 /* spaces.c */
 struct space *new_space(struct program *program);
 struct space *copy_space(struct space *parent);

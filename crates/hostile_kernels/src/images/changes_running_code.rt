@@ -1,7 +1,7 @@
 //! A second hart changes the code of a program while it runs.
 //!
 //! There is no instruction cache in which the old code could live on, and the new code is not the program's: the next
-//! fetch stops the run.
+//! fetch ends the program. Hart 0 then traps to address 0 again and again, as no handler is set.
 
 use crate::draft::{Draft, Guest, StandingWords};
 use cloak_base::Start;

@@ -1,7 +1,7 @@
 //! One bit of a cloaked page is flipped in RAM.
 //!
-//! The page is ciphertext there. Its bytes are no longer those that were last shown, so the next fetch from it stops
-//! the run.
+//! The page is ciphertext there. Its bytes are no longer those that were last shown, so the next fetch from it ends
+//! the program. The kernel resumes again, and each time it is refused.
 
 use crate::draft::{Draft, Guest, StandingWords};
 use crate::shared::CALLS;

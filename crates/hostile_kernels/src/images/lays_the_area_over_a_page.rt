@@ -2,7 +2,7 @@
 //!
 //! The program writes two bytes through an uncloaked page, which the kernel maps to the frame of the program's own
 //! cloaked page. The first byte gets there, as a change of the ciphertext. The page that the second one comes from is
-//! then not the one that was shown.
+//! then not the one that was shown, and the program ends.
 
 use crate::draft::{Draft, Guest, StandingWords};
 use crate::shared::{KERNEL_LEAF, POINTER};
@@ -19,7 +19,7 @@ boot:
     csrrw x0, 0x180, x6             # satp: paging on, the root table is frame 1
     lui   x17, 0x4F560
     ecall                           # resume context 0
-handler:                            # nothing: the run stops before
+handler:                            # no instruction: what traps here traps here again
 ";
 
 /// The words of the kernel.

@@ -2,7 +2,7 @@
 //!
 //! The page is new, and its first load takes the frame over that the table stands in. The next walk reads the table,
 //! so the frame is enciphered before: the kernel's table is gone, and its own deed made it so. Under a random stream
-//! of 32 bytes the draw for that is missing, and the run ends.
+//! of 32 bytes the draw for that is missing, and the run ends. Under a longer one the load faults to the kernel.
 
 use crate::draft::{Draft, Guest, StandingWords};
 use cloak_base::Start;
@@ -18,7 +18,7 @@ boot:
     csrrw x0, 0x180, x6             # satp: paging on, the root table is frame 1025
     lui   x17, 0x4F560
     ecall                           # resume context 0
-handler:                            # nothing: the run stops before
+handler:                            # no instruction: what traps here traps here again
 ";
 
 /// The words of the kernel.

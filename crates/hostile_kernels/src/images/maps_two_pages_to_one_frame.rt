@@ -1,7 +1,7 @@
 //! Two cloaked pages are mapped to one frame.
 //!
 //! The entry 514 of the root table gives 0x80808000 the frame 8, which holds the program's first page. The second
-//! page is new and takes the frame over. Then the first is not there.
+//! page is new and takes the frame over. Then the first is not there, and the program ends.
 
 use crate::draft::{Draft, Guest, StandingWords};
 use cloak_base::Start;
@@ -17,7 +17,7 @@ boot:
     csrrw x0, 0x180, x6             # satp: paging on, the root table is frame 1025
     lui   x17, 0x4F560
     ecall                           # resume context 0
-handler:                            # nothing: the run stops before
+handler:                            # no instruction: what traps here traps here again
 ";
 
 /// The words of the kernel.

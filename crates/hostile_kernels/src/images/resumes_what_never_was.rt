@@ -1,7 +1,7 @@
 //! A context is resumed that there never was.
 //!
-//! The program has one context, numbered 0. The handler would ask for one of a second program, if it were ever
-//! reached.
+//! The program has one context, numbered 0, and ends as another of its contexts is asked for. The handler asks for one
+//! of a second program, which there is not, and is refused each time.
 
 use crate::draft::{Draft, Guest, StandingWords};
 use crate::shared::CALLS;

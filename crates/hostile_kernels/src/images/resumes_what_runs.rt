@@ -1,7 +1,7 @@
 //! Two harts resume one context.
 //!
 //! Both harts boot alike. Hart 0 runs the context when hart 1 asks for it, and a context that runs is not there to be
-//! resumed.
+//! resumed: the program ends, and both harts leave.
 
 use crate::draft::{Draft, Guest, StandingWords};
 use crate::shared::CALLS;
@@ -15,7 +15,7 @@ boot:
     csrrw x0, 0x105, x6             # stvec: each trap goes to the handler
     lui   x17, 0x4F560
     ecall                           # resume context 0
-handler:                            # nothing: the run stops before
+handler:                            # no instruction: what traps here traps here again
 ";
 
 /// The words of the kernel.

@@ -7,6 +7,6 @@ use Rattle.status_sentence.proofs.write_bundle_and_secret.Goals as goal
 pub returns : goal.returns
 returns g c = λ plain ok.
     subst (λ (text : List ℕ). HasWritten {W = g.row.W.Denot} g.W.Write.write_str_gives c.args.f.now text c.write.new.self)
-    (sym (joined (codes "the bundle `") c.args.files.now.bundle.now (codes "`, the secret `")
-    c.args.files.now.secret_name.now (codes "`")))
+    (sym (joined (codes "the bundle `") c.args.bundle.now (codes "`, the secret `")
+    c.args.secret_name.now (codes "`")))
     (c.write.ensures.writes plain ok)

@@ -1,4 +1,4 @@
-use Rattle.std.proofs.Common.{◌∙◌, inl, inr, refl, sym}
+use Rattle.std.proofs.Common.{◌∙◌, inl, inr, refl}
 use Rattle.command_parts.specs.Outside.{outside}
 use Rattle.draw_command.proofs.Answered.{draws, makes_since}
 use Rattle.draw_command.proofs.command.draw_command.Goals as goal

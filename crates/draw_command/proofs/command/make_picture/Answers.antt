@@ -1,4 +1,3 @@
-use Rattle.std.proofs.Common.{◌∙◌, sym}
 use Rattle.draw_command.proofs.Answered.{makes_since, reading_same, reads_unread}
 use Rattle.draw_command.proofs.command.make_picture.Goals as goal
 

@@ -87,6 +87,8 @@ returns-in-Ok-thaw g c =
         few = omega (arith, some, few);
         thaws = c.in-Ok-thaw.ensures.thaws;
         steps_are = c.in-Ok-thaw.ensures.steps;
+        image_bytes = c.image_is_of_bytes.ensures;
+        stream_bytes = s.stream.2;
       },
     )
 

@@ -3,11 +3,12 @@ use Rattle.std.proofs.lemmas.List.{reverse-reverse}
 use Rattle.shadow_fold.specs.Table.{Table}
 use Rattle.cloak_model.specs.Bundle.{IsSegmentIn}
 use Rattle.cloak_model.specs.Ledger.{Keys}
+use Rattle.cloak_model.specs.Sealing.{Chained}
 use Rattle.joint_machine.proofs.Loaded.{loads_none, loads_next, back_fits, loads_outside, loads_ready, loaded, loaded_holds}
 use Rattle.joint_machine.proofs.loading.load.Goals as goal
 
 abbrev keys_given : List (List ℕ) → List ℕ → Keys
-keys_given numbered group = record { numbered = numbered; group = group }
+keys_given numbered group = record { numbered = numbered; group = group; seal = Chained }
 
 pub loop-segment-init : goal.loop-segment-init
 loop-segment-init c =

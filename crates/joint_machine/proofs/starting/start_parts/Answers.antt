@@ -2,6 +2,7 @@ use Rattle.std.proofs.Common.{refl}
 use Rattle.cloak_model.specs.Opening.{started_memory}
 use Rattle.cloaked_side.specs.Holding.{Holds}
 use Rattle.std.proofs.Common.{subst, List, ℕ}
+use Rattle.cloak_model.specs.Sealing.{Chained}
 use Rattle.joint_machine.proofs.Opens.{low_keys}
 use Rattle.joint_machine.proofs.starting.start_parts.Goals as goal
 
@@ -15,7 +16,7 @@ pub returns : goal.returns
 returns c = record {
   harts = c.in_ok-harts.ensures;
   memory = subst (λ (group : List ℕ). Holds c.in_ok-memory.memory
-      (started_memory c.args.kernel (record { numbered = c.args.keys; group = group }) c.args.s))
+      (started_memory c.args.kernel (record { numbered = c.args.keys; group = group; seal = Chained }) c.args.s))
       c.groups_of.ensures.value c.in_ok-memory.ensures.holds;
   frames = c.in_ok-memory.ensures.frames;
   served = c.in_ok-memory.ensures.domains;

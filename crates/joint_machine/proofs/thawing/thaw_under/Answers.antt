@@ -36,6 +36,7 @@ returns-clause-thaws c =
     let frozen = c.in-Ok.ensures.thaws in
     made_under _ (stored_keys c.args.b.now c.args.keys) c.args.stream c.args.f (record {
       pager = subst (λ (k : Keys). IsThawedPager c.in-Ok.pager k (length c.args.f.domains) c.args.f.frames c.args.f.recorded) same frozen;
+      chained = refl;
       whole = c.whole.ensures;
       stream = refl;
       draws = refl;

@@ -5,8 +5,8 @@ use Rattle.read_back.proofs.ItemsRead.{TookSoFar}
 use Rattle.read_back.proofs.items.for_each_item.Given as goal
 
 -- the items so far were taken
-abbrev pub invariant-loop-tag : goal.invariant-loop-tag
-invariant-loop-tag g l = record {
+abbrev pub invariant-loop-item : goal.invariant-loop-item
+invariant-loop-item g l = record {
   taken : TookSoFar (λ items. g.T.TakeItems.took l.fn.taker l.taker items (Ok tt)) (g.S.Shelf.held l.fn.shelf l.name) l.reader;
   named : l.reader.name.now ≡ l.name;
   files : SameFiles (g.S.Shelf.held l.fn.shelf) (g.S.Shelf.held l.shelf);
@@ -16,5 +16,5 @@ invariant-loop-tag g l = record {
   low : reader_offset l.reader < 2 ^ 64;
 }
 
-abbrev pub decreases-loop-tag : goal.decreases-loop-tag
-decreases-loop-tag g l = 2 ^ 64 - reader_offset l.reader
+abbrev pub decreases-loop-item : goal.decreases-loop-item
+decreases-loop-item g l = 2 ^ 64 - reader_offset l.reader

@@ -1,9 +1,11 @@
 use Rattle.std.proofs.Common.{List, length, refl, ◌∙◌, ap, sym, arith}
 use Rattle.std.proofs.lemmas.Option.{slice_get_read}
+use Rattle.cloak_model.specs.DomainAlone.{started_part}
 use Rattle.command_parts.specs.declared.refusal.Refusal.TheVariants as refusal
 use Rattle.command_parts.proofs.Refused.{no_bundle}
 use Rattle.command_parts.proofs.Refused.{unread}
 use Rattle.read_back.proofs.Answered.{unread_or_none, solo_refuses, solo_answers}
+use Rattle.read_back.proofs.ProgramReads.{no_loads}
 use Rattle.read_back.proofs.solo.solo_command.Goals as goal
 
 pub returns-in-Err-clause-answers : goal.returns-in-Err-clause-answers
@@ -45,7 +47,8 @@ returns-in-Ok-open-clause-answers g c =
       held = λ name. c.solo_record.ensures.files name ∙ e.files name;
       writing = c.solo_record.ensures.writing ∙ e.writing;
     }) c.requires.output (c.solo_record.ensures.shows c.args.solo.now.domain c.in-Ok.bundle.kernel
-    c.index-programs-number.result c.in-Ok-open.ensures)
+    (started_part c.args.solo.now.domain c.index-programs-number.result)
+    (record { stands = c.in-Ok-open.ensures; no_loads = no_loads c.args.solo.now.domain c.index-programs-number.result }))
 
 pub returns-clause-answers : goal.returns-clause-answers
 returns-clause-answers g c =

@@ -1,6 +1,6 @@
 use Rattle.std.proofs.Common.{ℕ, List, [], ◌∷◌, codes, ap, sym}
 use Rattle.std.specs.List.{count_by}
-use Rattle.cloak_model.specs.declared.item.Item.{Item}
+use Rattle.cloak_model.specs.Items.{Item}
 use Rattle.record_text.specs.declared.kinds.Kinds.{Kinds}
 use Rattle.record_text.specs.Kinds.{is_of_kind, only_cipher, only_put, only_leave, only_ok, only_absent}
 use Rattle.record_text.specs.Kinds.{only_word, only_timer, only_resume, only_stopped, only_ended}

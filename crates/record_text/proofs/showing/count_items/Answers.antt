@@ -1,13 +1,12 @@
 use Rattle.std.proofs.Common.{◌∙◌, Ok, Err, refl, ap, subst, arith}
-use Rattle.cloak_model.specs.declared.item.Item.{Item}
-use Rattle.record_reader.specs.Kept.{kept_item}
+use Rattle.cloak_model.specs.Items.{item_of}
 use Rattle.record_text.specs.Counting.{AreCounts, Chosen, chosen_more}
 use Rattle.read_back.proofs.ItemsRead.{finds, at_front, read_to, reads_since}
 use Rattle.record_text.proofs.SoFar.{counts_open, counts_on}
 use Rattle.record_text.proofs.showing.count_items.Goals as goal
 
-pub loop-tag-init : goal.loop-tag-init
-loop-tag-init g c = record {
+pub loop-item-init : goal.loop-item-init
+loop-item-init g c = record {
   counts = counts_open _ _ c.open-reader.result _ (at_front _ c.open-reader.result c.open-reader.ensures.front) c.new-counts.ensures;
   named = c.open-reader.ensures.name;
   files = λ name. refl;
@@ -17,20 +16,17 @@ loop-tag-init g c = record {
   low = let start = c.open-reader.ensures.start in omega (arith, start);
 }
 
-pub loop-tag-preserved : goal.loop-tag-preserved
-loop-tag-preserved g c =
-    let was = c.loop-tag.invariant in
-    let same = ap (λ n. g.S.Shelf.held c.loop-tag.shelf n) was.named ∙ was.files c.args.name.now in
+pub loop-item-preserved : goal.loop-item-preserved
+loop-item-preserved g c =
+    let was = c.loop-item.invariant in
+    let same = ap (λ n. g.S.Shelf.held c.loop-item.shelf n) was.named ∙ was.files c.args.name.now in
     let found = c.in-Ok.ensures in
     record {
-      counts = counts_on _ _ c.loop-tag.reader c.next_item.new.reader _ _ _ _ _ was.counts
-          (finds _ _ c.loop-tag.reader c.next_item.new.reader (Ok (kept_item c.in-Ok.tag c.next_item.new.kept)) was.counts.items
+      counts = counts_on _ _ c.loop-item.reader c.next_item.new.reader _ _ _ _ _ was.counts
+          (finds _ _ c.loop-item.reader c.next_item.new.reader (Ok (item_of c.in-Ok.item)) was.counts.items
           same found.next was.counts.stands) found.moves found.within
-          (λ (x : Chosen) at few old.
-          subst (λ (i : Item). AreCounts c.count_next-place.new.counts (chosen_more c.args.selection.now x i).items) c.item.ensures
-          (c.count_next-place.ensures.counts x at few old))
-          (λ (x : Chosen) at.
-          c.count_next-place.ensures.place x at ∙ ap (λ (i : Item). (chosen_more c.args.selection.now x i).place) c.item.ensures);
+          (λ (x : Chosen) at few old. c.count_next-place.ensures.counts x at few old)
+          (λ (x : Chosen) at. c.count_next-place.ensures.place x at);
       named = ap (λ n. n.now) found.same ∙ was.named;
       files = λ name. found.files name ∙ was.files name;
       reading = found.counts ∙ was.reading;
@@ -41,13 +37,13 @@ loop-tag-preserved g c =
 
 pub returns-in-Err-clause-counts : goal.returns-in-Err-clause-counts
 returns-in-Err-clause-counts g c =
-    let was = c.loop-tag.invariant in
-    let same = ap (λ n. g.S.Shelf.held c.loop-tag.shelf n) was.named ∙ was.files c.args.name.now in
+    let was = c.loop-item.invariant in
+    let same = ap (λ n. g.S.Shelf.held c.loop-item.shelf n) was.named ∙ was.files c.args.name.now in
     let found = c.in-Err.ensures in
     record {
       items = was.counts.items;
-      read = read_to _ c.loop-tag.reader c.next_item.new.reader was.counts.items c.in-Err.ending _ _ was.counts.stands
-          (finds _ _ c.loop-tag.reader c.next_item.new.reader (Err c.in-Err.ending) was.counts.items same found.next
+      read = read_to _ c.loop-item.reader c.next_item.new.reader was.counts.items c.in-Err.ending _ _ was.counts.stands
+          (finds _ _ c.loop-item.reader c.next_item.new.reader (Err c.in-Err.ending) was.counts.items same found.next
           was.counts.stands) (reads_since _ _ _ c.in-Err.ending was.reading found.counts);
       counted = was.counts.counted;
     }

@@ -5,8 +5,8 @@ use Rattle.record_text.proofs.SoFar.{CountedSoFar}
 use Rattle.record_text.proofs.showing.count_items.Given as goal
 
 -- the items so far were counted
-abbrev pub invariant-loop-tag : goal.invariant-loop-tag
-invariant-loop-tag g l = record {
+abbrev pub invariant-loop-item : goal.invariant-loop-item
+invariant-loop-item g l = record {
   counts : CountedSoFar l.selection (g.S.Shelf.held l.fn.shelf l.name) l.reader l.counts l.place;
   named : l.reader.name.now ≡ l.name;
   files : SameFiles (g.S.Shelf.held l.fn.shelf) (g.S.Shelf.held l.shelf);
@@ -16,5 +16,5 @@ invariant-loop-tag g l = record {
   low : reader_offset l.reader < 2 ^ 64;
 }
 
-abbrev pub decreases-loop-tag : goal.decreases-loop-tag
-decreases-loop-tag g l = 2 ^ 64 - reader_offset l.reader
+abbrev pub decreases-loop-item : goal.decreases-loop-item
+decreases-loop-item g l = 2 ^ 64 - reader_offset l.reader

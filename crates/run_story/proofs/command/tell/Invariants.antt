@@ -5,8 +5,8 @@ use Rattle.run_story.proofs.SoFar.{ToldSoFar}
 use Rattle.run_story.proofs.command.tell.Given as goal
 
 -- the items so far were read and told
-abbrev pub invariant-loop-tag : goal.invariant-loop-tag
-invariant-loop-tag g l = record {
+abbrev pub invariant-loop-item : goal.invariant-loop-item
+invariant-loop-item g l = record {
   so_far : ToldSoFar l.bundle (g.S.Shelf.held l.fn.shelf l.name) l.reader l.taken l.story;
   named : l.reader.name.now ≡ l.name;
   files : SameFiles (g.S.Shelf.held l.fn.shelf) (g.S.Shelf.held l.shelf);
@@ -17,5 +17,5 @@ invariant-loop-tag g l = record {
   few : l.taken ≤ reader_offset l.reader;
 }
 
-abbrev pub decreases-loop-tag : goal.decreases-loop-tag
-decreases-loop-tag g l = 2 ^ 64 - reader_offset l.reader
+abbrev pub decreases-loop-item : goal.decreases-loop-item
+decreases-loop-item g l = 2 ^ 64 - reader_offset l.reader

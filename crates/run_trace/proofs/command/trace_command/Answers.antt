@@ -1,4 +1,4 @@
-use Rattle.std.proofs.Common.{inl, inr, refl}
+use Rattle.std.proofs.Common.{◌∙◌, inl, inr, refl, sym}
 use Rattle.command_parts.specs.Outside.{outside}
 use Rattle.run_trace.proofs.Answered.{bundle_since}
 use Rattle.run_trace.proofs.command.trace_command.Goals as goal
@@ -7,13 +7,23 @@ pub returns-in-Err-clause-answers : goal.returns-in-Err-clause-answers
 returns-in-Err-clause-answers g c =
     inr (record { refused = c.in-Err.refusal; cause = c.in-Err.ensures.bundle; line = c.refuse.ensures })
 
+pub returns-then-is_there-clause-answers : goal.returns-then-is_there-clause-answers
+returns-then-is_there-clause-answers g c =
+    inl (record {
+      bundle = c.in-Ok.bundle;
+      file = c.in-Ok.ensures.bundle.1;
+      shows = rw (sym c.is_there.ensures ∙ c.if-is_there.true)
+          (bundle_since _ _ c.args.program c.in-Ok.bundle c.args.choice.now (outside g.S.Shelf g.O.Sink c.args.shelf.now c.args.out.now)
+          (outside g.S.Shelf g.O.Sink c.read_bundle.new.shelf c.args.out.now)
+          (outside g.S.Shelf g.O.Sink c.trace_bundle.new.shelf c.trace_bundle.new.out)
+          c.in-Ok.ensures.files c.in-Ok.ensures.bundle.0 refl c.trace_bundle.ensures.shows);
+    })
+
 pub returns-clause-answers : goal.returns-clause-answers
 returns-clause-answers g c =
     inl (record {
       bundle = c.in-Ok.bundle;
       file = c.in-Ok.ensures.bundle.1;
-      shows = bundle_since _ _ c.args.program c.in-Ok.bundle c.args.choice.now (outside g.S.Shelf g.O.Sink c.args.shelf.now c.args.out.now)
-          (outside g.S.Shelf g.O.Sink c.read_bundle.new.shelf c.args.out.now)
-          (outside g.S.Shelf g.O.Sink c.trace_bundle.new.shelf c.trace_bundle.new.out)
-          c.in-Ok.ensures.files c.in-Ok.ensures.bundle.0 refl c.trace_bundle.ensures.shows;
+      shows = rw (sym c.is_there.ensures ∙ c.if-is_there.false)
+          (record { reading = c.in-Ok.ensures.bundle.0; line = c.refuse_hart.ensures });
     })

@@ -1,5 +1,5 @@
 use Rattle.std.proofs.Common.{refl}
-use Rattle.cloak_model.specs.DomainAlone.{domain_alone}
+use Rattle.cloak_model.specs.DomainAlone.{domain_alone_from}
 use Rattle.kernel_report.proofs.PutFacts.{then, Puts-all}
 use Rattle.read_back.specs.Answering.{program_unfit}
 use Rattle.read_back.proofs.Lines.{fits_whole}
@@ -14,7 +14,7 @@ returns-in-Ok-clause-shows g c = λ k p stands.
     shows_end (program_text c.args.choice.now c.args.number k p) c.args.name.now _ _ traced.items c.in-Ok.ending
     c.put_last_of_program-so_far.result c.answer.result traced.read
     (Puts-all _ _ _ refl (then traced.text (c.put_last_of_program-so_far.ensures c.args.number k.schedule
-    (domain_alone c.args.number k.schedule p traced.items) traced.stands
+    (domain_alone_from c.args.number k.schedule p traced.items) traced.stands
     (fits_whole (program_unfit c.args.number k p) traced.items c.in-Ok.ending traced.read.fits)))) c.answer.ensures
 
 pub returns-clause-shows : goal.returns-clause-shows

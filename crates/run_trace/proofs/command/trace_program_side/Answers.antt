@@ -1,5 +1,6 @@
 use Rattle.std.proofs.Common.{List, length, inl, inr, refl, sym, ap, arith}
 use Rattle.std.proofs.lemmas.Option.{slice_get_read}
+use Rattle.cloak_model.specs.DomainAlone.{started_part}
 use Rattle.run_trace.proofs.command.trace_program_side.Goals as goal
 
 pub returns-then-number-programs-clause-shows : goal.returns-then-number-programs-clause-shows
@@ -20,7 +21,8 @@ returns-in-Ok-clause-shows g c =
       rw (sym c.as_slice-programs.ensures) (slice_get_read c.as_slice-programs.result.now _ c.args.number
           c.index-programs-number.result refl (let low = c.if-number-programs.false in omega (arith, low))
           c.index-programs-number.is),
-      c.trace_program.ensures.shows c.args.bundle.now.kernel c.index-programs-number.result c.in-Ok.ensures,
+      c.trace_program.ensures.shows c.args.bundle.now.kernel (started_part c.args.number c.index-programs-number.result)
+          c.in-Ok.ensures,
     )
 
 pub returns-in-Err-clause-shows : goal.returns-in-Err-clause-shows

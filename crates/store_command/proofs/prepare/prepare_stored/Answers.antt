@@ -6,7 +6,7 @@ use Rattle.command_parts.specs.NoRun.{NoRun}
 use Rattle.command_parts.specs.Outside.{files}
 use Rattle.command_parts.specs.Storing.{IsOld, IsSecret}
 use Rattle.command_parts.proofs.Refused.{is_some_bundle, no_bundle, no_stream}
-use Rattle.store_command.specs.Preparing.{keys_of}
+use Rattle.old_files.specs.Reading.{keys_of}
 use Rattle.store_command.proofs.Lengths.{place_small, place_within}
 use Rattle.store_command.proofs.Refused.{asks_stored, no_old, no_secret, not_opened}
 use Rattle.store_command.proofs.prepare.prepare_stored.Goals as goal

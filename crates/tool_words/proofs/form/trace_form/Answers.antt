@@ -11,15 +11,22 @@ returns c =
     let from = c.number_option-from.ensures in
     let to = c.number_option-to.ensures in
     let hart = c.number_option-hart.ensures in
-    let bare : app_of c.about.result ≡ new_app (codes "trace") = search rules in
+    let files = c.named_option-files.ensures in
+    let secret = c.named_option-secret.ensures in
+    let counter = c.number_option-counter.ensures in
+    let bare : app_of c.about.result ≡ new_app (codes "trace") = search (c.about.ensures, c.new.ensures) in
     let own : app_of c.in_ok-trace.trace ≡ trace_form =
-    c.in_ok-trace.ensures.shape hart.local
+    c.in_ok-trace.ensures.shape counter.local
+    ∙ ap₂ with_rule (c.in_ok-arg-8.ensures.shape secret.local
+    ∙ ap₂ with_rule (c.in_ok-arg-7.ensures.shape files.local
+    ∙ ap₂ with_rule (c.in_ok-arg-6.ensures.shape hart.local
     ∙ ap₂ with_rule (c.in_ok-arg-5.ensures.shape to.local
     ∙ ap₂ with_rule (c.in_ok-arg-4.ensures.shape from.local
     ∙ ap₂ with_rule (c.in_ok-arg-3.ensures.shape program.local
     ∙ ap₂ with_rule (c.in_ok-arg-2.ensures.shape name.local
     ∙ ap₂ with_rule (c.in_ok-arg.ensures.shape bundle.local
-    ∙ ap₂ with_rule bare bundle.rule) name.rule) program.rule) from.rule) to.rule) hart.rule in
+    ∙ ap₂ with_rule bare bundle.rule) name.rule) program.rule) from.rule) to.rule) hart.rule) files.rule)
+    secret.rule) counter.rule in
     record {
       own = own;
       added = λ above more adds. adds.shape (search rules)

@@ -1,6 +1,4 @@
 use Rattle.std.proofs.Common.{refl, sym, ap, subst, ◌≡◌, ◌∷◌, [], false}
-use Rattle.cloak_model.specs.declared.item.Item.{Item}
-use Rattle.cloak_model.specs.Exchange.{Emits, item_pieces}
 use Rattle.cloak_model.specs.Joint.{Turn}
 use Rattle.cloak_model.proofs.Emitting.{emits_then}
 use Rattle.cloak_machine.proofs.Stepping.{counts_behind, next_number, next_turn, reads_behind, step_made}
@@ -19,8 +17,7 @@ returns-clause-makes g c m stands unclashed =
     let takes = c.turn-turned.ensures.turns m.joint stands.joint
     (subst (λ (t : Turn). t.joint.memory.ledger.clashed ≡ false) (sym next) unclashed) in
     step_made old _ m number c.turn-turned.result stands next
-    (subst (λ (x : Item). Emits g.E.Emit.gave c.args.e.now c.item.new.self (item_pieces (x ∷ [])))
-    c.set_number.ensures c.item.ensures)
+    c.item.ensures
     takes c.show.ensures.emits (ap (λ (turns : _). turns.items) c.next-number.ensures.turns)
     (c.next-number.ensures.place m.steps stands.place) refl (c.show.ensures.shows m.joint.console stands.console)
     (c.turn-turned.ensures.maps m.joint stands.joint

@@ -23,4 +23,4 @@ invariant_of-result c =
 
 pub returns-clause-model : goal.returns-clause-model
 returns-clause-model c =
-    opened_stands c.args.frames c.args.domains _ _ (returns-clause-state c) c.requires.most
+    opened_stands c.args.frames c.args.domains _ _ (returns-clause-state c) c.requires.most refl

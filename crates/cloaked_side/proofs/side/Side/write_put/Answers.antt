@@ -1,6 +1,6 @@
 use Rattle.std.proofs.Common.{refl, rules, subst, [], ◌∷◌, ◌*◌, ◌%◌, ◌^◌}
-use Rattle.cloak_model.specs.declared.item.Item.{Item}
-use Rattle.cloak_model.specs.declared.item.Item.TheVariants as item
+use Rattle.cloak_model.specs.Items.{Item}
+use Rattle.cloak_model.specs.Items as item
 use Rattle.cloak_model.specs.Exchange.{Emits, item_pieces}
 use Rattle.cloaked_side.proofs.Sided.{sees_written, writes_only}
 use Rattle.cloaked_side.proofs.side.Side.write_put.Goals as goal

@@ -1,6 +1,6 @@
 use Rattle.std.proofs.Common.{◌≡◌, List}
 use Rattle.cloak_model.specs.declared.image.Bundle.{Bundle}
-use Rattle.cloak_model.specs.declared.item.Item.{Item}
+use Rattle.cloak_model.specs.Items.{Item}
 use Rattle.replayed_run.specs.Machines.{StandAlone}
 use Rattle.replayed_run.specs.Noted as noted
 use Rattle.replayed_run.proofs.watch.Watch.is_left.Given as goal

@@ -9,7 +9,7 @@ pub returns-in-Some-clause-notes : goal.returns-in-Some-clause-notes
 returns-in-Some-clause-notes c = λ b items stand.
     let n = c.args.self.now.notes in
     let with_contexts : ToldContexts → Notes =
-    λ t. record { step = n.step; has_resumed = true; contexts = t; asked = n.asked } in
+    λ t. record n { has_resumed = true; contexts = t } in
     ap with_contexts (c.resume.ensures
     ∙ resumed_told b items n c.args.ctx c.in-Outside.hart c.in-Some.context c.words_of-satp.result
     (sym (c.stage.ensures b items stand) ∙ ap stood_stage c.in-Outside.is)

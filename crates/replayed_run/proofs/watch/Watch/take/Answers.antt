@@ -1,4 +1,5 @@
 use Rattle.std.proofs.Common.{◌≡◌, [], ◌∷◌, ◌++◌, ◌∙◌, ap, sym, subst}
+use Rattle.cloak_model.specs.Items.{item_of}
 use Rattle.alone_views.specs.declared.asked.AskedAccess.{AskedAccess}
 use Rattle.replayed_run.specs.Machines.{StandAlone, TookItem}
 use Rattle.replayed_run.specs.Noted.{notes_after}
@@ -14,7 +15,7 @@ use Rattle.replayed_run.proofs.watch.Watch.take.Goals as goal
 
 pub returns-clause-takes : goal.returns-clause-takes
 returns-clause-takes c = λ b items is watched.
-    let i = c.args.item.now in
+    let i = item_of c.args.item.now in
     let now = items ++ i ∷ [] in
     let was = c.args.self.now.questions in
     let took : TookItem b items i c.take.new.self = c.in_ok-take.ensures b items is watched.machines in
@@ -39,7 +40,7 @@ returns-clause-takes c = λ b items is watched.
 
 pub returns-clause-shows : goal.returns-clause-shows
 returns-clause-shows c = λ b items is watched.
-    let i = c.args.item.now in
+    let i = item_of c.args.item.now in
     c.note_page-showing.ensures.shows
     ∙ (ap (λ (p : PagesTold). showing_in p (notes_of c.args.self.now).step i) watched.pages
     ∙ ap (λ (n : Notes). showing_in (paged_in b items).pages n.step i) watched.notes)

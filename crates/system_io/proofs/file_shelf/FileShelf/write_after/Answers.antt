@@ -1,5 +1,4 @@
 use Rattle.std.proofs.Common.{refl, take, ◌∙◌}
-use Rattle.std.specs.String.{string_bytes}
 use Rattle.system_io.proofs.Held.{held-gathers, held-writes}
 use Rattle.system_io.proofs.file_shelf.FileShelf.write_after.Goals as goal
 
@@ -15,4 +14,4 @@ returns-in-Some-clause-taken g c =
     held-writes g.D.FileSystem.told c.args.self.now _ _ (take c.write_front.result c.args.bytes.now)
     (rw (← c.self.view_is) at c.write_out.ensures.files) (rw (← c.self.view_is) at c.write_out.ensures.file.1)
     none (c.gather.ensures.no_room c.if-gather.false ∙ none)
-    (c.write_front.ensures.told (string_bytes c.self.inside.writing.name) sound.named)
+    (c.write_front.ensures.told c.self.inside.writing.name sound.named)

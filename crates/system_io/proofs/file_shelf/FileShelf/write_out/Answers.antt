@@ -1,5 +1,4 @@
 use Rattle.std.proofs.Common.{refl}
-use Rattle.std.specs.String.{string_bytes}
 use Rattle.system_io.proofs.Held.{sound-written, held-moved}
 use Rattle.system_io.proofs.file_shelf.FileShelf.write_out.Goals.{in-Some, in_default}
 use Rattle.system_io.proofs.file_shelf.FileShelf.write_out.Goals as goal
@@ -21,6 +20,6 @@ returns-clause-files g c = elim c.match-self.branch [
       let told = rw w.rest.ensures at w.write_front-n.ensures.told in
       rw (w.self-inside-is, ← c.self.view_is)
       (held-moved g.D.FileSystem.told _ _ w.write_front-n.result
-      (told (string_bytes c.self.inside.writing.name) sound.named) refl w.forget.ensures)
+      (told c.self.inside.writing.name sound.named) refl w.forget.ensures)
   | in_default w ↦ rw (w.self-inside-is, ← c.self.view_is) (λ _. refl)
 ]

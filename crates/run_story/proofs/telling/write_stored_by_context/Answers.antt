@@ -1,0 +1,12 @@
+use Rattle.std.proofs.Common.{[], ◌∷◌, codes, decimal}
+use Rattle.std.proofs.Output.{has_written_of_eq}
+use Rattle.run_story.specs.Passages.{change_text}
+use Rattle.run_story.proofs.Joined.{joined}
+use Rattle.run_story.proofs.telling.write_stored_by_context.Goals as goal
+
+pub returns : goal.returns
+returns g c = λ plain ok.
+    has_written_of_eq _ _ _ _ _
+    (joined (codes "context ") (decimal c.args.ctx ∷ codes ", on hart " ∷ decimal c.args.hart
+    ∷ codes ", stored in the open to frame " ∷ decimal c.args.frame ∷ codes ": " ∷ change_text c.args.change ∷ []))
+    (c.write.ensures.writes plain ok)
